@@ -164,12 +164,6 @@ def below(crate):
     return [*dict.fromkeys(name for it in libraries for name in below(it)), crate]
 
 
-def stamp(folder, top):
-    """What rt knows the library by that a crate's folder has, in a repository."""
-    words = f"import rtlib; print(rtlib.Crate({folder!r}, {top!r}, {{}}).stamp(), end='')"
-    return run_ok("python3", "-Bc", words, folder=os.path.dirname(os.path.realpath(shutil.which("rt"))))
-
-
 @functools.cache
 def program(crate, kind=""):
     """The program of a crate as LLVM builds it, or of another kind, that rt ci proved or that was built from the same sources. Otherwise rt

@@ -82,6 +82,11 @@ pub are_other-token : (byte : ℕ) → is_token_byte byte ≡ false → (bytes :
     → list_all (is_other byte) bytes ≡ true
 are_other-token = are_other is_token_byte
 
+-- a token isn't empty
+pub token-size : (token : List ℕ) → IsToken token → 0 < length token
+token-size [] is = absurd is
+token-size (b ∷ token) is = omega arith
+
 -- a token is token bytes
 pub AreTokenBytes-from_token : (bytes : List ℕ) → IsToken bytes → AreTokenBytes bytes
 AreTokenBytes-from_token [] token = absurd token

@@ -30,7 +30,7 @@ pub list_all-lowered : (class : ℕ → Bool) → ((b : ℕ) → class (to_ascii
     → list_all class (lowered bytes) ≡ list_all class bytes
 list_all-lowered class either bytes = list_all-map class to_ascii_lowercase bytes ∙ ap (λ c. list_all c bytes) (λ i b. either b i)
 
--- so are the same bytes in another case
+-- the same bytes in another case are of the same classes
 pub list_all-case : (class : ℕ → Bool) → ((b : ℕ) → class (to_ascii_lowercase b) ≡ class b) → (bytes other : List ℕ)
     → lowered other ≡ lowered bytes → list_all class bytes ≡ true → list_all class other ≡ true
 list_all-case class either bytes other is all =
@@ -123,7 +123,7 @@ pair_of-lowered : (p : Parameter) → pair_of (lowered_parameter p) ≡ lowered_
 pair_of-lowered (plain name value) = refl
 pair_of-lowered (quoted name content n) = refl
 
--- so are the pairs of a lowercased list and tail
+-- the pairs of a lowercased list or tail are its pairs, lowercased
 pairs_of_list-lowered : (list : Parameters) → pairs_of_list (lowered_list list) ≡ map lowered_pair (pairs_of_list list)
 pairs_of_list-lowered (blank n) = refl
 pairs_of_list-lowered (final n p) = ap (λ pair. pair ∷ []) (pair_of-lowered p)

@@ -38,7 +38,7 @@ unfolding is_token_byte
 are_token_bytes b go =
     in_ranges COMMON_TOKEN_BYTES is_token_except_plus (omega arith) (omega arith) (omega arith) refl b (not-true _ go)
 
--- and one for the end of quoted text only bytes of quoted text
+-- a search for the end of quoted text passes only bytes of quoted text
 pub are_quoted_text : (b : ℕ) → not (is_stop QUOTED_TEXT b) ≡ true → is_quoted_text_byte b ≡ true
 unfolding is_quoted_byte
 are_quoted_text b go = in_ranges QUOTED_TEXT is_quoted_text_byte (omega arith) (omega arith) (omega arith) refl b (not-true _ go)

@@ -149,7 +149,7 @@ static TABLE: [Row; 32] = [
 ];
 
 impl Atom {
-    /// The constant's string, and the positions of its parts.
+    /// Returns the constant's string, and the positions of its parts.
     #[inline]
     fn constant(self) -> (&'static str, Positions)
         ensures text { result.0.now ≡ atom_text self }

@@ -5,25 +5,25 @@ ghost use Rattle.mime.specs.Inner.ByteClasses.{is_token_except_plus, token_bytes
 ghost use Rattle.mime.specs.Grammar.{is_space};
 ghost use Rattle.mime.specs.Bytes.{is_token_byte, is_quoted_byte, is_quoted_text_byte};
 
-/// A byte that may stand nowhere.
+/// A byte that may occur nowhere.
 const N: u8 = 0;
 
-/// One that may stand in a quoted value only after a backslash: a quote or a backslash.
+/// A byte that may occur in a quoted string only after a backslash: a quote or a backslash.
 const B: u8 = 1;
 
-/// Another ASCII byte that may stand in a quoted value, and in no token.
+/// Any other ASCII byte that may occur in a quoted string, and in no token.
 const Q: u8 = 2;
 
-/// A byte of a character that isn't ASCII, which may stand in a quoted value, and in no token.
+/// A byte of a character that isn't ASCII. It may occur in a quoted string, and in no token.
 const U: u8 = 3;
 
 /// The plus, which may begin a suffix.
 const P: u8 = 4;
 
-/// Any other byte that may stand in a token.
+/// Any other byte that may occur in a token.
 const T: u8 = 5;
 
-/// The kind of each byte. A kind may also stand wherever the kinds before it may.
+/// The kind of each byte. A kind may also occur wherever the kinds before it may.
 static KINDS: [u8; 256] = [
     N, N, N, N, N, N, N, N, N, Q, N, N, N, N, N, N, N, N, N, N, N, N, N, N, N, N, N, N, N, N, N, N,
     Q, T, B, T, T, T, T, T, Q, Q, T, P, Q, T, T, Q, T, T, T, T, T, T, T, T, T, T, Q, Q, Q, Q, Q, Q,
@@ -44,7 +44,7 @@ pub fn is_token(b: u8) -> bool
     KINDS[b as usize] >= P
 }
 
-/// Whether a byte other than the plus may occur in a token.
+/// Returns `true` if a byte other than the plus may occur in a token.
 #[inline(always)]
 pub(crate) fn is_token_except_plus(b: u8) -> bool
     ensures { result ≡ is_token_except_plus b }
@@ -52,7 +52,7 @@ pub(crate) fn is_token_except_plus(b: u8) -> bool
     KINDS[b as usize] == T
 }
 
-/// Whether a byte may occur in a token, the plus only if `with_plus`.
+/// Returns `true` if a byte may occur in a token, the plus only if `with_plus`.
 #[inline(always)]
 pub(crate) fn is_in_token(b: u8, with_plus: bool) -> bool
     ensures { result ≡ token_bytes with_plus b }
@@ -64,7 +64,7 @@ pub(crate) fn is_in_token(b: u8, with_plus: bool) -> bool
     }
 }
 
-/// Whether a byte is a space or a tab, which may precede a parameter and follow a quoted value.
+/// Returns `true` if a byte is a space or a tab, which may precede a parameter and follow a quoted string.
 #[inline(always)]
 pub(crate) fn is_space(b: u8) -> bool
     ensures { result ≡ is_space b }
@@ -72,7 +72,8 @@ pub(crate) fn is_space(b: u8) -> bool
     b == b' ' || b == b'\t'
 }
 
-/// Whether a byte is an ASCII character that begins no media type, as the comma and the space of a list.
+/// Returns `true` if a byte is an ASCII character with which no media type begins, such as the comma and the space of a
+/// list.
 #[inline(always)]
 pub(crate) fn is_separator(b: u8) -> bool
     ensures { result ≡ is_ascii_not_token b }
@@ -80,8 +81,8 @@ pub(crate) fn is_separator(b: u8) -> bool
     KINDS[b as usize] < U
 }
 
-/// Returns `true` if a byte may follow a backslash in a quoted value (the second byte of a quoted-pair of
-/// RFC 7230, 3.2.6): the tab, and any byte from 32 on except 127. `is_quoted_byte(b'"')` is true.
+/// Returns `true` if a byte may follow a backslash in a quoted string (the second byte of a quoted-pair of RFC 7230,
+/// 3.2.6): the tab, and any byte from 32 on except 127. `is_quoted_byte(b'"')` is true.
 #[inline(always)]
 pub fn is_quoted_byte(b: u8) -> bool
     ensures { result ≡ is_quoted_byte b }
@@ -89,7 +90,7 @@ pub fn is_quoted_byte(b: u8) -> bool
     KINDS[b as usize] >= B
 }
 
-/// Returns `true` if a byte may occur in a quoted value without a backslash before it (qdtext of RFC 7230, 3.2.6): any
+/// Returns `true` if a byte may occur in a quoted string without a backslash before it (qdtext of RFC 7230, 3.2.6): any
 /// byte that may follow a backslash, except the quote and the backslash. `is_quoted_text_byte(b';')` is true.
 #[inline(always)]
 pub fn is_quoted_text_byte(b: u8) -> bool

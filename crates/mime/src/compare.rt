@@ -1,4 +1,4 @@
-//! Comparing a media type with a string, without allocating.
+//! Comparisons of a media type with a string, which don't allocate.
 
 ghost use Rattle.std.specs.Prelude.{◌≡◌, ◌≢◌, ◌↔◌, IsTrue, Some, [], length, map, slice_get};
 ghost use Rattle.mime.specs.Bytes.{semicolon_byte};
@@ -16,7 +16,7 @@ use crate::value::Mime;
 use crate::value::pairs::Pairs;
 use mime_search::{BLOCK, Suffix, eq_ignore_ascii_case, first_difference};
 
-/// Whether two strings are equal ignoring ASCII case.
+/// Returns `true` if two strings are equal ignoring ASCII case.
 #[inline(always)]
 fn eq_str_ignore_ascii_case(one: &str, other: &str) -> bool
     ensures { IsTrue result ↔ (lowered one.now ≡ lowered other.now) }
@@ -24,7 +24,7 @@ fn eq_str_ignore_ascii_case(one: &str, other: &str) -> bool
     eq_ignore_ascii_case(one.as_bytes(), other.as_bytes())
 }
 
-/// Whether a string has a semicolon at this position.
+/// Returns `true` if a string has a semicolon at this position.
 #[inline(always)]
 fn has_semicolon_at(text: &str, position: usize) -> bool
     ensures { IsTrue result ↔ (slice_get text.now position ≡ Some semicolon_byte) }
@@ -32,7 +32,7 @@ fn has_semicolon_at(text: &str, position: usize) -> bool
     position < text.len() && text.as_bytes()[position] == b';'
 }
 
-/// Whether a string starts with this essence, ignoring ASCII case, and a semicolon right after it.
+/// Returns `true` if a string starts with this essence, ignoring ASCII case, and a semicolon right after it.
 #[inline]
 fn starts_with_essence(essence: &str, text: &str) -> bool
     ensures { IsTrue result ↔ StartsWithEssence essence.now text.now }
@@ -44,7 +44,7 @@ fn starts_with_essence(essence: &str, text: &str) -> bool
     eq_ignore_ascii_case(essence.as_bytes(), &text.as_bytes()[..end])
 }
 
-/// Whether a string's parameter is the kept one, `name` with `value`: ignoring ASCII case in the name, and in the
+/// Returns `true` if a string's parameter is the kept one, `name` with `value`: ignoring ASCII case in the name, and in the
 /// value if the name is `charset`.
 #[inline]
 fn is_pair(name: &str, value: &str, other_name: &str, other_value: &str) -> bool
@@ -61,7 +61,7 @@ fn is_pair(name: &str, value: &str, other_name: &str, other_value: &str) -> bool
     }
 }
 
-/// Whether a string's parameters are read as the kept ones.
+/// Returns `true` if a string's parameters are read as the kept ones.
 #[inline]
 fn are_pairs(kept: Pairs<'_>, pairs: Pairs<'_>) -> bool
     requires { AreLowPairs kept }
@@ -79,7 +79,7 @@ fn are_pairs(kept: Pairs<'_>, pairs: Pairs<'_>) -> bool
     others.next().is_none()
 }
 
-/// Whether the first semicolon is at this position, and `count` parameters follow it.
+/// Returns `true` if the first semicolon is at this position, and `count` parameters follow it.
 #[inline(always)]
 fn has_shape(positions: Positions, semicolon: usize, count: usize) -> bool
     ensures { IsTrue result ↔ ((positions.semicolon ≡ Some semicolon) × (positions.pair_count ≡ count)) }
@@ -87,8 +87,8 @@ fn has_shape(positions: Positions, semicolon: usize, count: usize) -> bool
     positions.semicolon == Some(semicolon) && positions.pair_count == count
 }
 
-/// Whether a string that begins with a value's essence and a semicolon, ignoring ASCII case, is accepted, with as many
-/// parameters. Only what follows the semicolon is scanned. It isn't inlined: the scan needs its registers.
+/// Returns `true` if a string that begins with a value's essence and a semicolon, ignoring ASCII case, is accepted, with as
+/// many parameters. Only what follows the semicolon is scanned. It isn't inlined: the scan needs its registers.
 #[inline(never)]
 fn has_list_of(mime: &Mime, s: &str) -> bool
     requires reads { Reads mime.now.media.kept mime.now.media }
@@ -104,8 +104,8 @@ fn has_list_of(mime: &Mime, s: &str) -> bool
     }
 }
 
-/// Whether a string is equal to a value with parameters, part by part: it has the essence, and then the parameters. If
-/// `equal_ignoring_case`, it is the kept text ignoring ASCII case, and so accepted; otherwise it is scanned. It isn't
+/// Returns `true` if a string is equal to a value with parameters, part by part: it has the essence, and then the parameters.
+/// If `equal_ignoring_case`, it is the kept text ignoring ASCII case, and so accepted; otherwise it is scanned. It isn't
 /// inlined: few strings need it.
 #[inline(never)]
 fn eq_by_parts(mime: &Mime, s: &str, equal_ignoring_case: bool) -> bool
@@ -128,7 +128,7 @@ fn eq_by_parts(mime: &Mime, s: &str, equal_ignoring_case: bool) -> bool
     equal_ignoring_case || has_list_of(mime, s)
 }
 
-/// Whether a difference at this byte means different values: all bytes but space, tab and quote reach the value.
+/// Returns `true` if a difference at this byte means different values: all bytes but space, tab and quote reach the value.
 #[inline(always)]
 fn reaches_value(byte: u8) -> bool
     ensures { result ≡ reaches_value byte }
@@ -164,9 +164,9 @@ fn compare_texts(kept: &str, text: &str) -> Compared
     }
 }
 
-/// Whether a string other than the kept text is equal to a value with parameters. The first difference decides most; a
-/// lone charset in another case is equal; otherwise the parts are compared. It isn't inlined: most calls end with the
-/// kept text.
+/// Returns `true` if a string other than the kept text is equal to a value with parameters. The first difference decides most;
+/// a lone charset in another case is equal; otherwise the parts are compared. It isn't inlined: most calls end with the kept
+/// text.
 #[inline(never)]
 fn eq_other_text(mime: &Mime, s: &str) -> bool
     requires { mime.now.media.pairs ≢ [] }

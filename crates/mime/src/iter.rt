@@ -36,8 +36,8 @@ struct ReadPiece<'a> {
     steps: u128,
 }
 
-/// The end of a string's first character. It isn't inlined: few strings have a character outside ASCII where no media type goes on, and its
-/// loop would take registers from those of its caller.
+/// Returns the end of a string's first character. It isn't inlined: few strings have a character outside ASCII where no media type goes on,
+/// and its loop would take registers from those of its caller.
 #[cold]
 #[inline(never)]
 fn end_of_first(text: &str) -> usize
@@ -48,7 +48,7 @@ fn end_of_first(text: &str) -> usize
     text.ceil_char_boundary(1)
 }
 
-/// The empty string at the start of a string. Its address is known already, unlike that of `""`.
+/// Returns the empty string at the start of a string. Its address is known already, unlike that of `""`.
 #[inline(always)]
 fn nothing_of(text: &str) -> &str
     ensures { result.now ≡ [] }
@@ -57,7 +57,7 @@ fn nothing_of(text: &str) -> &str
 }
 
 impl<'a> ReadPiece<'a> {
-    /// No piece: the string was read to its end.
+    /// Returns no piece: the string was read to its end.
     #[inline(always)]
     fn none(text: &'a str, steps: u128) -> ReadPiece<'a>
         ensures piece { result.piece.now ≡ [] }
@@ -132,17 +132,16 @@ fn read_next_piece<'a>(text: &'a str, from: u128) -> ReadPiece<'a>
     }
 }
 
-/// An iterator over the media types of a string, and over the pieces of it that aren't media types. It isn't for
-/// an `Accept` header, which `mime_http::Accept` reads as HTTP does.
+/// An iterator over the media types of a string, and over the pieces of it that aren't media types. It isn't for an
+/// `Accept` header, which `mime_http::Accept` reads.
 ///
-/// The string is cut into the longest pieces that some media type begins with. Each ends before a
-/// character that can't follow it, such as the comma of a list; that character is skipped. A piece
-/// is a media type or a bad piece; an empty one isn't yielded, nor is a last piece that is
-/// unfinished. So a bad entry doesn't change the entries after its comma, unless it ends in an open quoted value. The
-/// scanner reads no byte twice.
+/// The string is cut into the longest pieces that some media type begins with. Each ends before a character that can't
+/// follow it, such as the comma of a list; that character is skipped. A piece is a media type or a bad piece. An empty
+/// piece isn't yielded, nor is a last piece that is unfinished. So a bad entry doesn't change the entries after its
+/// comma, unless it ends in an open quoted string. The scanner reads no byte twice.
 ///
-/// A media type whose piece has more than 40 bytes, white space counted, allocates once, for its kept text, and so does its
-/// `clone`. Another doesn't allocate.
+/// A media type whose piece has more than 40 bytes, including white space, allocates once, for its kept text, and so does
+/// its `clone`. Any other doesn't allocate.
 ///
 /// Over `text/html, invalid, a/b; q=1` it yields `text/html`, the bad piece `invalid`, and
 /// `a/b; q=1`. Over `a/b ; q=1` it yields `a/b` and the bad piece `q`, since no space may precede the
@@ -263,7 +262,7 @@ impl<'a> Iterator for MimeIter<'a> {
     }
 }
 
-/// What it prints is open: it may change between versions.
+/// The printed text is unspecified, and may change between versions.
 impl fmt::Debug for MimeIter<'_> {
     fn fmt<W: fmt::Write>(&self, f: &mut fmt::Formatter<W>) -> fmt::Result {
         f.write_str("MimeIter")

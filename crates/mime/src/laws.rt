@@ -64,14 +64,14 @@ pub fn accepted_is_viable()
 {}
 
 /// Exactly one of five things is missing from a viable rejected text, and its completion makes the string an accepted
-/// one: `a/b;p` lacks an equals sign, and `a/b;p=x` is accepted.
+/// one: in `a/b;p` an equals sign is missing, and `a/b;p=x` is accepted.
 #[tactic(auto, using(crate::proofs::GrammarLemmas::Faults::one_completion))]
 pub fn one_completion()
     ensures { OneCompletion }
 {}
 
-/// A string that lacks a slash, a subtype, an equals sign, a value or a closing quote is rejected: `text/`, which lacks
-/// a subtype.
+/// A string in which a slash, a subtype, an equals sign, a value or a closing quote is missing is rejected: `text/`, in
+/// which a subtype is missing.
 #[tactic(auto, using(crate::proofs::GrammarLemmas::Faults::completed_is_rejected))]
 pub fn completed_is_rejected()
     ensures { CompletedIsRejected }
@@ -176,7 +176,7 @@ pub fn kept_text_is()
     ensures { KeptTextIs }
 {}
 
-/// A key finds at most one answer in a list of items, and it finds one if for each name it is decided whether the key
+/// A look-up in a list of items has at most one answer, and it has one if for each name it is decided whether the key
 /// accepts it: `TextKey("P")` finds `1` in `a/b;p=1;p=2`, and nothing else.
 pub fn one_answer<K: ParamKey>(key: &K)
     ensures most { OneAnswer (K.Accepts key.now) }
@@ -253,23 +253,23 @@ pub fn one_count()
     ensures { OneCount }
 {}
 
-/// A comma ends whatever precedes it, unless that is an open quoted value, and what comes after it
-/// is cut as it is alone: `e f, a/b` has the item `a/b`, as `a/b` alone has.
+/// A comma ends what precedes it, unless that is an open quoted string, and what follows the comma is cut as if it were
+/// alone: `e f, a/b` has the item `a/b`, as `a/b` alone has.
 #[tactic(auto, using(crate::proofs::CutLemmas::Containment::comma_contains))]
 pub fn comma_contains()
     ensures { CommaContains }
 {}
 
-/// Values that were read come back from their kept texts with a comma and a space between them, and
-/// nothing else does: `a/b, c/d` gives `a/b` and `c/d`.
+/// If the kept texts of values that were read are joined by a comma and a space, exactly these values are yielded:
+/// `a/b, c/d` gives `a/b` and `c/d`.
 #[tactic(auto, using(crate::proofs::CutLemmas::Containment::joined_comes_back))]
 pub fn joined_comes_back()
     ensures { JoinedComesBack }
 {}
 
-/// A list as HTTP writes it (RFC 7230, 7) is cut into its elements, and nothing else: accepted texts with a comma
-/// between each and the next, and with spaces, tabs and further commas after each comma and before the first.
-/// `a/b, ,\tc/d` is cut into `a/b` and `c/d`.
+/// A list that HTTP allows (RFC 7230, 7) is cut into exactly its elements: accepted texts with a comma between each and
+/// the next, and with spaces, tabs and further commas after each comma and before the first. `a/b, ,\tc/d` is cut into
+/// `a/b` and `c/d`.
 #[tactic(auto, using(crate::proofs::CutLemmas::Containment::http_list_is_cut))]
 pub fn http_list_is_cut()
     ensures { HttpListIsCut }

@@ -1,12 +1,12 @@
-//! Media types such as `text/plain; charset=utf-8` (RFC 7231, 3.1.1.1): read, stored, compared and printed.
-//! It is a port of the Rust crate `mime`, series 0.3; what it promises are contracts that a prover checks.
+//! Media types such as `text/plain; charset=utf-8` (RFC 7231, 3.1.1.1): read, stored, compared and printed. This is a
+//! port of the Rust crate `mime`, series 0.3. Its promises are contracts that a prover checks.
 //!
-//! [`Mime::from_str`] reads a media type from a string, [`MimeIter`] takes them one by one out of a string, and
-//! [`mime_eq_str`] compares one with a string. The 38 constants such as [`CHARSET`] are names, the 32 such as
-//! [`TEXT_PLAIN_UTF_8`] are media types. [`laws`] says what holds of all of them.
+//! [`Mime::from_str`] reads a media type from a string, [`MimeIter`] finds the media types in a string, and
+//! [`mime_eq_str`] compares a media type with a string. 38 constants such as [`CHARSET`] are names, 32 such as
+//! [`TEXT_PLAIN_UTF_8`] are media types. [`laws`] states what is true of all values.
 //!
-//! The headers of HTTP are for the crate `mime_http`, whose `content_type` reads a `Content-Type` and whose
-//! `Accept` reads an `Accept`: HTTP allows white space and empty parameters that this crate rejects.
+//! To read headers of HTTP, use `content_type` and `Accept` of the crate `mime_http`: HTTP allows white space and empty
+//! parameters that this crate rejects.
 //!
 //! # Example
 //! Is a body in UTF-8? It is for the media type read from `TEXT/HTML; Charset="UTF-8"`.
@@ -14,7 +14,7 @@
 //! ```rust
 //! use mime::{CHARSET, Mime, name_eq_str};
 //!
-//! /// Whether a media type has the charset UTF-8, as `TEXT/HTML; Charset="UTF-8"` has. Of two charsets the first counts.
+//! /// Returns `true` if a media type has the charset UTF-8, as `TEXT/HTML; Charset="UTF-8"` has. Of two charsets the first counts.
 //! pub fn is_utf8(mime: &Mime) -> bool {
 //!     mime.get_param(CHARSET)
 //!         .is_some_and(|charset| name_eq_str(&charset, "utf-8"))
@@ -22,27 +22,26 @@
 //! ```
 //!
 //! # Errors
-//! A string that isn't a media type is rejected with its one fault, a [`ParseError`]: what is missing at its
-//! end, or the first byte that no media type could have there, with its position. Positions count bytes from
-//! 0. A piece of a list that isn't a media type is [`Bad::Piece`]. A bad entry doesn't change the entries after its
-//! comma, unless it ends in an open quoted value. A last entry that isn't a media type, but could still become one,
-//! isn't yielded.
+//! A string that isn't a media type is rejected with its one fault, a [`ParseError`]: what is missing at its end, or
+//! the first byte that no media type could have there, with its position. Positions count bytes from 0. A piece of a
+//! list that isn't a media type is [`Bad::Piece`]. A bad entry doesn't change the entries after its comma, unless it
+//! ends in an open quoted string. A last entry that isn't a media type, but could still become one, isn't yielded.
 //!
 //! # Memory
-//! `Mime::from_str`, `MimeIter::new` and `KnownText::into_mime` take the allocator. A media type that is read or made from
-//! more than 40 bytes, white space counted, allocates once at most, and so does each `clone` of it; if memory runs out, an
-//! error is returned. Nothing else allocates: neither rejecting a string, nor a media type from at most 40 bytes, which
-//! lies in the `Mime` itself, nor a constant, nor `*/*`.
+//! `Mime::from_str`, `MimeIter::new` and `KnownText::into_mime` take the allocator. To read or make a media type from more
+//! than 40 bytes, including white space, allocates at most once, and so does each `clone` of it. If memory runs out, an
+//! error is returned. Nothing else allocates: not to reject a string, nor a media type from at most 40 bytes, which is
+//! stored in the `Mime` itself, nor a constant, nor `*/*`.
 //!
 //! # Standards
-//! The grammar is that of RFC 7231 and RFC 7230, with the departures that docs/DIFFERENCES.md lists. RFC 9110
-//! (8.3.1, 5.6.4, 5.6.6) took their place in 2022. There a parameter may be missing after any semicolon, here after
-//! the last one alone: `a/b;` is read, `a/b;;p=x` isn't.
+//! The grammar is that of RFC 7231 and RFC 7230, with the departures that docs/DIFFERENCES.md lists. RFC 9110 (8.3.1,
+//! 5.6.4, 5.6.6) replaced them in 2022. There a parameter may be missing after any semicolon, here only after the last
+//! one: `a/b;` is read, `a/b;;p=x` isn't.
 //!
 //! # Left out
-//! What a media type means: ranges, weights, choosing by `Accept` and quoted pairs, which `mime_http` has, and the
-//! endings of files. docs/DIFFERENCES.md lists what differs from the Rust crate and from RFC 7231, crates/mime/CALLING.md
-//! every contract, docs/RECIPES.md what callers do.
+//! What a media type means isn't here: `mime_http` has ranges, weights, the choice by `Accept` and quoted pairs, and a
+//! recipe has the endings of files. docs/DIFFERENCES.md lists the differences from the Rust crate and from RFC 7231,
+//! crates/mime/CALLING.md lists every contract, docs/RECIPES.md solves common tasks.
 //!
 //! This is version 1.0.0; README.md says what may change within 1.
 #![tactic(auto)]

@@ -1,4 +1,4 @@
-//! Names: the parts of media types, how they compare, and the keys that look parameters up.
+//! Names, which are parts of media types, and the keys that look up parameters.
 
 ghost use Rattle.std.specs.Prelude.{◌≡◌, ◌↔◌, IsTrue, IfSome, List, ℕ, Bool, Some, true};
 ghost use Rattle.std.specs.Fmt.{debug_str, styled_text};
@@ -74,7 +74,7 @@ pub trait ParamKey: Drop {
         ensures { IsTrue result ↔ Accepts self.now name.entry.text.now name.entry.ignores_case };
 
     /// Returns the text that is equal, ignoring ASCII case, to each name that the key accepts, if there is one: `P` for
-    /// `TextKey("P")`. A look-up with a text is faster, and finds the same. A key that has no such method has none.
+    /// `TextKey("P")`. A look-up with a text is faster, and finds the same. By default there is none.
     #[inline]
     fn text(&self) -> Option<&str>
         ensures { IfSome result (λ text. (name : List ℕ) → Accepts self.now name true → lowered name ≡ lowered text.now) }

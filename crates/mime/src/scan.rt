@@ -20,7 +20,7 @@ pub use crate::scan::fault::{FromStrError, ParseError};
 pub(crate) use crate::scan::reader::{ByteReader, NEAR};
 
 /// The parts of an accepted string: their positions, in bytes from 0, and the number of its parameters. In this order the byte of another
-/// verdict lies beside no position, which would be moved in two parts.
+/// variant of `Verdict` isn't beside a position, which would then be moved in two parts.
 #[derive(Clone, Copy)]
 pub(crate) struct Positions {
     /// The plus before the suffix.
@@ -39,10 +39,10 @@ pub(crate) enum Verdict {
     Accepted(Positions),
     /// It ends too early: this is missing.
     Unfinished(ParseError),
-    /// No media type continues with this byte, the last one read, and the string before it is none.
+    /// No media type continues with this byte, the last one read, and the string before it isn't a media type.
     Stopped(u8),
     /// The string before this byte, the last one read, is a media type, whose parts have these positions, and no media type
-    /// continues with the byte. The byte stands last, so that the positions lie where those of an accepted string do.
+    /// continues with the byte. The byte is last, so that the positions are where those of an accepted string are.
     Followed(Positions, u8),
 }
 
@@ -97,8 +97,8 @@ fn quoted_text(reader: &mut ByteReader<'_>) -> Option<u8>
     None
 }
 
-/// Reads a quoted value's content, and returns the byte that ends it: the first quote that no unpaired backslash
-/// precedes, or a byte that may not stand there.
+/// Reads a quoted string's content, and returns the byte that ends it: the first quote that isn't in a quoted pair, or
+/// a byte that may not occur there.
 #[inline(always)]
 fn content(reader: &mut ByteReader<'_>) -> Option<u8>
     ensures { PassesContent reader.old reader.new result }
@@ -178,7 +178,7 @@ pub(crate) fn parameters(reader: &mut ByteReader<'_>, before: Positions) -> Verd
     }
 }
 
-/// Reads the ASCII characters before a media type that begin none, and returns the byte after them.
+/// Reads ASCII characters with which no media type begins, and returns the byte after them.
 #[inline(always)]
 pub(crate) fn separators(reader: &mut ByteReader<'_>) -> Option<u8>
     ensures { Passes is_ascii_not_token reader.old reader.new result }

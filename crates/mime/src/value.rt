@@ -39,7 +39,7 @@ enum Text {
 }
 
 impl Text {
-    /// A text as it is, with no more room than it needs.
+    /// Returns a text as it is, with no more room than it needs.
     #[inline(always)]
     fn of(alloc: Global, text: String) -> Result<Text, AllocError>
         ensures text { IfOk result (λ kept. bytes_of kept ≡ string_bytes text) }
@@ -72,7 +72,7 @@ impl Text {
 /// `text/plain;` as `text/plain`.
 #[derive(Drop)]
 pub struct Mime {
-    // In this order the byte of an error of `mime_http` lies where the text has its tag, so that no word is moved in parts.
+    // In this order the byte of an error of `mime_http` is where the text has its tag, so that no word is moved in parts.
     places: Places,
     text: Text,
     /// The end of the essence: the semicolon after it, or the text's length if there is no parameter.
@@ -129,7 +129,7 @@ impl Mime {
                 return Err(FromStrError::new(ParseError::InvalidToken { pos, byte }));
             }
         };
-        // Each way to a short text returns, so that it isn't moved where they would join.
+        // Each branch for a short text returns, so that the text isn't moved where the branches would join.
         if s.len() <= SHORT {
             if positions.pair_count == 0 {
                 return Ok(Mime::of_short(s, positions, ShortText::essence(s, positions)));
@@ -139,7 +139,7 @@ impl Mime {
         Mime::of_accepted(alloc, s, positions)
     }
 
-    /// The media type of an accepted string, whose parts have these positions. The only error is that memory ran out.
+    /// Returns the media type of an accepted string, whose parts have these positions. The only error is that memory ran out.
     #[inline(always)]
     pub(crate) fn of_accepted(
         alloc: Global,
@@ -164,7 +164,7 @@ impl Mime {
         }
     }
 
-    /// The media type of an accepted string, whose parts have these positions, with its kept text in the value.
+    /// Returns the media type of an accepted string, whose parts have these positions, with its kept text in the value.
     #[inline(always)]
     fn of_short(s: &str, positions: Positions, text: ShortText) -> Mime
         requires accepted { HasPositions s.now positions }
@@ -175,7 +175,7 @@ impl Mime {
         Mime::of_kept(Text::Short(text), positions_in_kept(positions))
     }
 
-    /// The media type of a text that is known to be the kept text of one with the essence of this one, and `count`
+    /// Returns the media type of a text that is known to be a kept text with this media type's essence and `count`
     /// parameters.
     #[inline(always)]
     fn with_known_parameters(
@@ -195,7 +195,7 @@ impl Mime {
         Ok(Mime::of_kept(Text::of(alloc, text)?, positions))
     }
 
-    /// The media type `*/*`.
+    /// Returns the media type `*/*`.
     #[inline(always)]
     fn star() -> Mime
         ensures reads { Reads (codes "*/*") result.media }
@@ -210,7 +210,7 @@ impl Mime {
         Mime::fixed("*/*", positions)
     }
 
-    /// The media type of a text in kept form, with the positions of its parts.
+    /// Returns the media type of a text in kept form, with the positions of its parts.
     #[inline(always)]
     fn of_kept(text: Text, positions: Positions) -> Mime
         requires { IsKept (bytes_of text) positions }
@@ -225,7 +225,7 @@ impl Mime {
         }
     }
 
-    /// The media type of a short string already in kept form, with the positions of its parts.
+    /// Returns the media type of a short string already in kept form, with the positions of its parts.
     #[inline(always)]
     pub(crate) fn fixed(text: &str, positions: Positions) -> Mime
         requires kept { IsKept text.now positions }
@@ -305,7 +305,7 @@ impl Mime {
         Params::new(self.pairs())
     }
 
-    /// The parameters as pairs of a name and a value, both strings.
+    /// Returns the parameters as pairs of a name and a value, both strings.
     #[inline(always)]
     pub(crate) fn pairs(&self) -> Pairs<'_>
         ensures pairs { result ≡ self.now.media.pairs }
@@ -319,7 +319,7 @@ impl Mime {
         )
     }
 
-    /// The number of parameters.
+    /// Returns the number of parameters.
     #[inline(always)]
     pub(crate) fn param_count(&self) -> usize
         ensures { result ≡ length self.now.media.pairs }
@@ -327,7 +327,7 @@ impl Mime {
         self.places.pair_count
     }
 
-    /// The positions of the parts of a string that begins with the essence and a semicolon, before a parameter is read.
+    /// Returns the positions of the parts of a string that begins with the essence and a semicolon, before a parameter is read.
     #[inline(always)]
     pub(crate) fn before_list(&self) -> Positions
         ensures { result ≡ positions_before_list self.now.media }

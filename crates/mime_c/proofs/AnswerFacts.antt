@@ -8,7 +8,7 @@ use Rattle.mime.specs.Grammar.{no_list}
 use Rattle.mime.specs.Values.{MediaType, Reads}
 use Rattle.mime.specs.Cut.{good, bad, Cut, whole}
 use Rattle.mime.specs.declared.scan.fault.ParseError.TheVariants.{MissingSlash, MissingSubtype, MissingEqual, MissingValue, MissingQuote, InvalidToken, NoMemory}
-use Rattle.mime.proofs.CutLemmas.Cuts.{empty-cut, cut_unique}
+use Rattle.mime.proofs.HandedOut.{empty-cut, cut_unique}
 use Rattle.mime_c.specs.Strings.{strings, ComeBack, texts_of, item_texts, written}
 use Rattle.mime_c.specs.Answers.{number_of, found_at, found_of, found_of_fault, nothing, Fails, is_not_text, ReadsTo, is_read, fails, has_no_room, NeedsMemory, ListsTo, is_listed, Compares, are_read, first_fails, second_fails}
 use Rattle.mime_c.proofs.OneOutcome.{reads_to_one, lists_to_one, compares_as_one}

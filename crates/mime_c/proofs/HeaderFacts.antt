@@ -45,7 +45,7 @@ no_room = value_has_no_room (omega arith)
 no_room_for_ranges : AcceptsTo (codes "A/B") (codes "-----------") MIME_NO_ROOM (codes "-----------") 0 0
 no_room_for_ranges = ranges_have_no_room (omega arith)
 
--- and nothing else is answered then
+-- no other answer is given then
 not_read : (new : List ℕ) (found : MimeFound) → ¬ (HeaderReadsTo (codes "A/B") (codes "----------") MIME_OK new found)
 not_read new found is =
     let only = (header_reads_to_one (codes "A/B") (codes "----------")).4 in

@@ -6,18 +6,12 @@ use Rattle.std.proofs.lemmas.Bool.{cases_lt, cases_Bool, true≢false}
 use Rattle.std.proofs.lemmas.Option.{same_Some, none-some}
 use Rattle.mime.specs.Grammar.{is_space}
 use Rattle.mime.specs.Values.{MediaType}
-use Rattle.mime.proofs.CutLemmas.Cuts.{accepted_or_rejected}
+use Rattle.mime.proofs.HandedOut.{accepted_or_rejected}
 use Rattle.mime_http.specs.HttpMediaType.{HttpReads, IsHttpMediaType}
 use Rattle.mime_http.specs.HttpList.{trimmed, IsPrinted, as_it_stands, anew, lines_or_any, AreSorted, no_text, blank, a_range, a_bad, Header, IsHeader}
 use Rattle.mime_http.specs.Ranges.{best_offer}
-use Rattle.mime_http.specs.Reader.{Answer, read, rejected, answer_of, media_of}
+use Rattle.mime_http.proofs.HandedOut.{Answer, read, rejected, answer_of, media_of, reads_around, one_cut, plain_is_http, one_header, answered_is_http, rejected_is_none}
 use Rattle.mime_http.specs.Unescaped.{unescaped}
-use Rattle.mime_http.proofs.Around.{reads_around}
-use Rattle.mime_http.proofs.Cuts.{one_cut}
-use Rattle.mime_http.proofs.PlainIsHttp.{plain_is_http}
-use Rattle.mime_http.proofs.Lists.{one_header}
-use Rattle.mime_http.proofs.ReadBack.{answered_is_http}
-use Rattle.mime_http.proofs.ReadFaults.{rejected_is_none}
 use Rattle.mime_c.specs.Strings.{strings, written}
 use Rattle.mime_c.specs.HeaderAnswers.{ranges_texts, lines_of, AcceptsTo, are_ranges, ranges_have_no_memory, ranges_have_no_room, BestIs, best_is, none_is_best, an_offer_is_bad, best_has_no_memory}
 use Rattle.mime_c.specs.ParameterAnswers.{UnescapesTo, is_unescaped, unescaped_has_no_room}
@@ -56,7 +50,7 @@ sorting (text ∷ texts) =
     (λ isnt. as_bad other (λ both. isnt both.0)) (utf8_or_not text))
     (cases_Bool (list_all is_space text))
 
--- so lines are a header
+-- lines have a header
 pub header_of : (lines : List (List ℕ)) → (header : Header) × IsHeader lines header
 header_of lines =
     let cut = one_cut (lines_or_any lines) in
@@ -101,7 +95,7 @@ some_or_none None = inr refl
 pub same_header : {lines : List (List ℕ)} {one two : Header} → IsHeader lines one → IsHeader lines two → two ≡ one
 same_header {lines} {one} {two} is too = one_header lines two one too is
 
--- and of the same best offer
+-- two outcomes speak of the same best offer
 same_best : {lines offers : List (List ℕ)} {header offered another others : Header} → IsHeader lines header → IsHeader offers offered
     → IsHeader lines another → IsHeader offers others → best_offer another.ranges others.ranges ≡ best_offer header.ranges offered.ranges
 same_best {header = header} {others = others} is of too again =

@@ -7,19 +7,15 @@ use Rattle.mime.specs.Bytes.{comma_byte}
 use Rattle.mime.specs.HeaderLaws.{IsSafePair}
 use Rattle.mime.specs.Laws.{without_parameters}
 use Rattle.mime.specs.Values.{MediaType, Reads, lowered, lowered_value}
-use Rattle.mime.proofs.HandedOut.{length-lowered, lowered_value-either}
-use Rattle.mime.proofs.LawsLemmas.Written.{essence_is_read, kept_is_safe}
+use Rattle.mime.proofs.HandedOut.{length-lowered, lowered_value-either, essence_is_read, kept_is_safe, token-size}
 use Rattle.mime_http.specs.HttpMediaType.{IsHttpParameter, with_token, with_string, AreHttpParameters, no_more, semicolon, semicolon_and, HttpReads}
 use Rattle.mime_http.specs.HttpList.{trimmed, IsPrinted, as_it_stands, anew, AreBetweenCommas, no_line, line_end, comma, AreSorted, no_text, blank, a_range, a_bad, Header, IsHeader}
-use Rattle.mime_http.specs.Reader.{text_of_parts}
+use Rattle.mime_http.proofs.HandedOut.{text_of_parts, white_around, written_reads, http_is_answered}
 use Rattle.mime_http.specs.Written.{is_token_value, quote_of, text_of_pair, text_of_pairs, with_pairs}
-use Rattle.mime_http.proofs.Around.{white_around}
-use Rattle.mime_http.proofs.ReadAnew.{written_reads}
-use Rattle.mime_http.proofs.ReadForth.{http_is_answered}
 use Rattle.mime_c.specs.Strings.{string_of, strings, ComeBack, pair_texts, parts_of, texts_of}
 use Rattle.mime_c.specs.HeaderAnswers.{range_texts, ranges_texts}
 use Rattle.mime_c.proofs.NoZero.{HasNoZero, come_back, no_zero-read, no_zero-pairs}
-use Rattle.mime_c.proofs.Room.{lengths_of, some-token}
+use Rattle.mime_c.proofs.Room.{lengths_of}
 use Rattle.mime_c.proofs.Writing.{strings_of_texts, strings_of_range, strings_of_ranges}
 
 -- ---- parameters
@@ -46,7 +42,7 @@ kept_pairs test [] are = omega arith
 kept_pairs test ((name, value) ∷ pairs) (is, are) =
     let more = kept_pairs test pairs are in
     let size = length-strings_of_pair name value pairs in
-    let some = some-token name is.0 in
+    let some = token-size name is.0 in
     by_test (test (name, value)) (name, value) (filter test pairs) (omega (arith, more, size))
     (omega (arith, more, size, some, length-pair name value, length-append (text_of_pair (name, value)) (text_of_pairs (filter test pairs))))
   where
@@ -112,7 +108,7 @@ sizes_of value media reads =
         length-lowered top,
         length-lowered sub,
       ),
-      omega (arith, spelled, some-token top reads.is_top, some-token sub reads.is_sub, before, first, second),
+      omega (arith, spelled, token-size top reads.is_top, token-size sub reads.is_sub, before, first, second),
     )
 
 -- which is read of what is written anew
@@ -213,6 +209,6 @@ no_zero-ranges texts ranges bad (a_range text range rest others _ utf8 reads _ s
     both_none (range_texts range) (ranges_texts others) (no_zero-range text range reads) (no_zero-ranges rest others bad sorted)
 no_zero-ranges texts ranges bad (a_bad text rest _ others some isnt sorted) = no_zero-ranges rest ranges others sorted
 
--- so they come back
+-- the strings of ranges come back
 pub ranges_come_back : (lines : List (List ℕ)) (header : Header) → IsHeader lines header → ComeBack (ranges_texts header.ranges)
 ranges_come_back lines header is = come_back (ranges_texts header.ranges) (no_zero-ranges is.pieces header.ranges header.bad is.sorted)

@@ -12,11 +12,7 @@ use Rattle.mime.specs.HeaderLaws.{IsSafePair}
 use Rattle.mime.specs.Laws.{without_parameters}
 use Rattle.mime.specs.Cut.{CutItem, good, bad, Cut}
 use Rattle.mime.specs.CutLaws.{IsItem}
-use Rattle.mime.proofs.BytesLemmas.{is_other, list_all-wider, are_other-token, AreTokenBytes-from_token}
-use Rattle.mime.proofs.GrammarLemmas.Viability.{accepted_is_viable, walk-from_viable}
-use Rattle.mime.proofs.LawsLemmas.Written.{essence_is_read, walked-safe, kept_is_safe}
-use Rattle.mime.proofs.ValueLemmas.KeptText.{kept_is_read}
-use Rattle.mime.proofs.CutLemmas.Containment.{cut_has_items}
+use Rattle.mime.proofs.HandedOut.{is_other, list_all-wider, are_other-token, AreTokenBytes-from_token, accepted_is_viable, walk-from_viable, essence_is_read, walked-safe, kept_is_safe, kept_is_read, cut_has_items}
 use Rattle.mime_c.specs.Strings.{string_of, strings, texts_in, ComeBack, pair_texts, texts_of, item_texts}
 
 -- a text without the byte 0
@@ -40,7 +36,7 @@ quoted_byte-other : (b : ℕ) → is_quoted_byte b ≡ true → is_other 0 b ≡
 unfolding is_quoted_byte
 quoted_byte-other b is = grind (arith, nat_tests)
 
--- so no viable text has it,
+-- no viable text has a zero
 no_zero-viable : (text : List ℕ) → IsViable text → HasNoZero text
 no_zero-viable text viable =
     let walked = walk-from_viable text viable in
@@ -64,7 +60,7 @@ no_zero-pairs [] kept are none = (none, tt)
 no_zero-pairs ((name, value) ∷ pairs) kept (is, others) none =
     (are_other-token 0 refl name (AreTokenBytes-from_token name is.0), (no_zero-content value is.1, no_zero-pairs pairs kept others none))
 
--- so the texts of a media type that was read come back,
+-- the texts of a media type that was read come back
 pub texts_come_back : (text : List ℕ) (media : MediaType) → Reads text media → ComeBack (texts_of media)
 texts_come_back text media reads =
     let kept = no_zero-read media.kept media (kept_is_read text media reads) in
@@ -77,6 +73,6 @@ no_zero-items (good piece media ∷ items) (reads, others) =
     (no_zero-read media.kept media (kept_is_read piece media reads), no_zero-items items others)
 no_zero-items (bad piece ∷ items) (is, others) = (no_zero-viable piece is.0, no_zero-items items others)
 
--- and the items of a list
+-- the items of a list come back
 pub items_come_back : (text : List ℕ) (items : List CutItem) (rest : List ℕ) → Cut text items rest → ComeBack (item_texts items)
 items_come_back text items rest cut = come_back (item_texts items) (no_zero-items items (cut_has_items text items rest cut).0)

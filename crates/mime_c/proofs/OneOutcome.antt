@@ -12,12 +12,8 @@ use Rattle.mime.specs.Comparison.{Same, media_cmp}
 use Rattle.mime.specs.Faults.{IsFault, Explains}
 use Rattle.mime.specs.declared.scan.fault.ParseError.{ParseError}
 use Rattle.mime.specs.declared.scan.fault.ParseError.TheVariants.{NoMemory}
-use Rattle.mime.proofs.GrammarLemmas.Faults.{one_fault}
-use Rattle.mime.proofs.ValueLemmas.Reading.{rejected-from_fault, Explains-from_fault}
-use Rattle.mime.proofs.GrammarLemmas.Readings.{one_reading}
-use Rattle.mime.proofs.ValueLemmas.Traits.{eq_by_cmp-tells, eq_by_cmp-same}
+use Rattle.mime.proofs.HandedOut.{one_fault, rejected-from_fault, Explains-from_fault, one_reading, eq_by_cmp-tells, eq_by_cmp-same, accepted_or_rejected, has_cut, cut_unique}
 use Rattle.mime.specs.Cut.{CutItem}
-use Rattle.mime.proofs.CutLemmas.Cuts.{accepted_or_rejected, has_cut, cut_unique}
 use Rattle.mime_c.specs.Strings.{strings, texts_of, item_texts, written}
 use Rattle.mime_c.specs.Answers.{number_of, found_at, found_of, found_of_fault, Fails, is_rejected, is_not_text, ReadsTo, is_read, fails, has_no_room, ListsTo, is_listed, has_no_memory, Compares, are_read, first_fails, second_fails}
 use Rattle.mime_c.specs.Answers as answers
@@ -49,7 +45,7 @@ longest_within text (suc n) = ⊎_elim
     ))
     (utf8_or_not (take (suc n) text))
 
--- so what isn't UTF-8 is up to a position
+-- a text that isn't UTF-8 is valid up to some position
 pub valid_up_to : (text : List ℕ) → ¬ (IsUtf8 text) → (pos : ℕ) × IsValidUpTo text pos
 valid_up_to text isnt =
     let found = longest_within text (length text) in
@@ -81,7 +77,7 @@ module _ {text : List ℕ} where
   not_both {media} utf8 reads some (is_rejected fault too why) = rejected-from_fault text fault (is_fault text fault why some) (media, reads)
   not_both utf8 reads some (is_not_text pos isnt up) = isnt utf8
 
-  -- and another fails in one way
+  -- a text that isn't read fails in one way
   one_failure : {n m : ℕ} {found other : MimeFound} → n ≢ MIME_NO_MEMORY → m ≢ MIME_NO_MEMORY → Fails text n found → Fails text m other
       → (m ≡ n) × (other ≡ found)
   one_failure h k (is_rejected one utf8 why) (is_rejected two too again) =

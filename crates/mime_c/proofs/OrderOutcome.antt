@@ -11,8 +11,7 @@ use Rattle.std.proofs.lemmas.List.Kept.{AllPairs-cons}
 use Rattle.mime.specs.Values.{MediaType}
 use Rattle.mime_http.specs.HttpList.{Header, IsHeader}
 use Rattle.mime_http.specs.Ranges.{Rank, rank_cmp, merit, merit_at, AreInOrder}
-use Rattle.mime_http.proofs.Highest.{one_rank}
-use Rattle.mime_http.proofs.Order.{weighs_within}
+use Rattle.mime_http.proofs.HandedOut.{one_rank, weighs_within}
 use Rattle.mime_c.specs.Strings.{written}
 use Rattle.mime_c.specs.HeaderAnswers.{lines_of, OrderIs, order_is, none_is_ordered, order_has_no_room, an_ordered_is_bad, order_has_no_memory}
 use Rattle.mime_c.specs.Laws.{OrderIsOne}
@@ -166,7 +165,7 @@ module _ (ranges offers : List MediaType) where
       ))
       (cases_lt 0 (merit_at ranges offers n).0)
 
-  -- so they have an order,
+  -- offers have an order
   has_order : (order : List ℕ) × AreInOrder ranges offers order
   has_order =
       let all = ordered (length offers) in (
@@ -180,7 +179,7 @@ module _ (ranges offers : List MediaType) where
         },
       )
 
-  -- and only one
+  -- offers have only one order
   only_order : (order other : List ℕ) → AreInOrder ranges offers order → AreInOrder ranges offers other → other ≡ order
   only_order order other one two =
       one_order Before (λ x y. not_back _ _ x y) other order two.best_first one.best_first

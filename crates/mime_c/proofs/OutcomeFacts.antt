@@ -7,8 +7,7 @@ use Rattle.mime.specs.Values.{MediaType, Reads}
 use Rattle.mime.specs.Faults.{Explains}
 use Rattle.mime.specs.Cut.{CutItem, good, Cut, whole}
 use Rattle.mime.specs.declared.scan.fault.ParseError.TheVariants.{NoMemory}
-use Rattle.mime.proofs.GrammarLemmas.Readings.{rejected-from_walk}
-use Rattle.mime.proofs.CutLemmas.Cuts.{cut_unique}
+use Rattle.mime.proofs.HandedOut.{rejected-from_walk, cut_unique}
 use Rattle.mime_c.specs.Strings.{strings, ComeBack, texts_of, item_texts, written}
 use Rattle.mime_c.specs.Answers.{nothing, Fails, is_rejected, is_not_text, ReadsTo, is_read, fails, has_no_room, NeedsMemory, ListsTo, is_listed, has_no_memory, Compares, are_read, first_fails, second_fails}
 use Rattle.mime_c.specs.Answers as answers
@@ -49,7 +48,7 @@ compares_for_memory is (first_fails n found why) = (refl, inl (fails_for_memory 
 compares_for_memory is (second_fails media n found utf8 reads why) = (refl, inr (fails_for_memory is why).2)
 compares_for_memory is (are_read first second equal u v reads again tells) = absurd (omega (arith, is))
 
--- so memory never runs out for the empty text, for `*/*`, for what isn't a media type, or isn't UTF-8
+-- memory never runs out for the empty text, for `*/*`, for what isn't a media type, or isn't UTF-8
 empty_list_needs_none : (old new : List ℕ) (size : ℕ) → ¬ (ListsTo [] old MIME_NO_MEMORY new size)
 empty_list_needs_none old new size lists = empty_needs_none (lists_for_memory refl lists).3
 

@@ -5,8 +5,7 @@ use Rattle.std.proofs.lemmas.Bool.Decides.{nat_tests}
 use Rattle.std.proofs.lemmas.List.Concat.{flat_map-append}
 use Rattle.mime.specs.Bytes.{quote_byte, backslash_byte}
 use Rattle.mime.specs.Values.{MediaType, Reads, lowered, lowered_value}
-use Rattle.mime.proofs.BytesLemmas.{is_other, list_all-wider}
-use Rattle.mime.proofs.HandedOut.{length-lowered, lowered_value-either}
+use Rattle.mime.proofs.HandedOut.{length-lowered, lowered_value-either, is_other, list_all-wider}
 use Rattle.mime_http.specs.Boundary.{is_bchar, IsBoundary}
 use Rattle.mime_http.specs.HttpMediaType.{HttpReads}
 use Rattle.mime_http.specs.Written.{escaped_byte, escaped, text_of_pair, text_of_pairs, others}

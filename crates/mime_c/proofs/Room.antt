@@ -4,13 +4,8 @@ use Rattle.std.proofs.lemmas.List.{map-append}
 use Rattle.std.proofs.lemmas.List.Concat.{flat_map-append}
 use Rattle.mime.specs.Grammar.{Parameter, plain, quoted, Parameters, blank, final, more, Tail, no_list, listed, SyntaxTree, text_of, text_of_parameter, text_of_list, text_of_tail, IsToken}
 use Rattle.mime.specs.Values.{MediaType, Reads, pair_of, pairs_of_list, pairs_of_tail, essence_of, kept_text}
-use Rattle.mime.specs.Inner.Scanning.{positions_of}
-use Rattle.mime.specs.Inner.KeptText.{kept_text_of}
 use Rattle.mime.specs.Cut.{CutItem, ItemsOf, is_read, is_rejected, is_empty, Cut, whole, unfinished, goes_on}
-use Rattle.mime.proofs.HandedOut.{length-lowered}
-use Rattle.mime.proofs.ValueLemmas.Utf8.{length-in_part}
-use Rattle.mime.proofs.ValueLemmas.KeptText.{text_of-essence, length-essence_of, value_of_low, value_of-lowering, keeps-tree, kept-in_part}
-use Rattle.mime.proofs.CutLemmas.Cuts.{split-size}
+use Rattle.mime.proofs.HandedOut.{length-lowered, positions_of, kept_text_of, length-in_part, text_of-essence, length-essence_of, value_of_low, value_of-lowering, keeps-tree, kept-in_part, split-size, token-size}
 use Rattle.mime_c.specs.Strings.{string_of, strings, pair_texts, texts_of, item_text, item_texts}
 use Rattle.mime_c.specs.declared.TheConstants.{MIME_GOOD, MIME_BAD}
 
@@ -36,7 +31,7 @@ room-tail : (tail : Tail) → length (strings (pair_texts (pairs_of_tail tail)))
 room-tail no_list = omega arith
 room-tail (listed list) = omega (arith, room-list list)
 
--- and the kept text is no longer than the text
+-- the kept text is no longer than the text
 room-kept : (tree : SyntaxTree) (pairs : List (List ℕ × List ℕ)) → length (kept_text pairs tree) ≤ length (text_of tree)
 room-kept tree [] = omega (arith, ap length (text_of-essence tree), length-append {A = ℕ})
 room-kept tree (pair ∷ pairs) = omega arith
@@ -62,25 +57,21 @@ lengths-low text tree size some =
       omega (arith, length-append {A = ℕ}, room-tail tree.tail, essence),
     )
 
--- a kept text is no longer than the text that it is of,
+-- a kept text is no longer than the text that it is of
 length-kept : (pairs : ℕ) (semicolon : Option ℕ) (text : List ℕ) → length (kept_text_of pairs semicolon text) ≤ length text
 length-kept pairs None text = omega (arith, length-lowered text)
 length-kept zero (Some semicolon) text = omega (arith, length-lowered (take semicolon text), length-take semicolon text)
 length-kept (suc pairs) (Some semicolon) text = omega (arith, length-in_part _ _ (kept-in_part (suc pairs) semicolon text))
 
--- which has a type, a slash and a subtype
-pub some-token : (token : List ℕ) → IsToken token → 0 < length token
-some-token [] is = absurd is
-some-token (b ∷ token) is = omega arith
-
+-- the strings of a media type that is read are no longer than its text allows
 pub lengths_of : (text : List ℕ) (media : MediaType) → Reads text media → Lengths text media
 lengths_of text media reads =
     let tree = reads.tree in
     let keeps = keeps-tree tree reads.well_formed in
     let spelled = ap length reads.spelled in
     let all = ap length (text_of-essence tree) in
-    let top = some-token tree.top reads.well_formed.0 in
-    let some : 2 < length text = omega (arith, length-essence_of tree, some-token tree.sub reads.well_formed.1, length-append {A = ℕ}) in
+    let top = token-size tree.top reads.well_formed.0 in
+    let some : 2 < length text = omega (arith, length-essence_of tree, token-size tree.sub reads.well_formed.1, length-append {A = ℕ}) in
     let kept = keeps.is_kept.has in
     let size = ap length kept.spelled in
     subst (Lengths text) (sym (sym reads.valued ∙ keeps.valued ∙ value_of-lowering kept.tree ∙ ap value_of_low keeps.is_kept.low))

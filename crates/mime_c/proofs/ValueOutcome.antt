@@ -14,8 +14,7 @@ use Rattle.mime.specs.Grammar.{IsToken}
 use Rattle.mime.specs.Values.{MediaType, type_of}
 use Rattle.mime.specs.declared.scan.fault.ParseError.{ParseError}
 use Rattle.mime.specs.declared.scan.fault.ParseError.TheVariants.{NoMemory}
-use Rattle.mime.proofs.LawsLemmas.Written.{kept_is_safe}
-use Rattle.mime.proofs.ValueLemmas.KeptText.{kept_is_read}
+use Rattle.mime.proofs.HandedOut.{kept_is_safe, kept_is_read}
 use Rattle.mime_http.specs.Boundary.{is_bchar, IsBoundary, IsBoundaryOf}
 use Rattle.mime_http.specs.HttpMediaType.{HttpReads, IsHttpMediaType}
 use Rattle.mime_http.specs.HttpList.{IsPrinted}
@@ -26,10 +25,7 @@ use Rattle.mime_http.specs.Written.{escaped, with_pairs}
 use Rattle.mime_http.specs.declared.value.FieldError.{FieldError}
 use Rattle.mime_http.specs.declared.value.FieldError.TheVariants.{NotUtf8, Invalid}
 use Rattle.mime_http.specs.declared.value.FieldError.TheVariants as field
-use Rattle.mime_http.proofs.Contents.{content_of_escaped}
-use Rattle.mime_http.proofs.HttpLaws.{one_printed_text, printed_is_read, same_anew}
-use Rattle.mime_http.proofs.ReadFaults.{no_fault, one_http_fault}
-use Rattle.mime_http.proofs.Written.{with_pair_is_read}
+use Rattle.mime_http.proofs.HandedOut.{content_of_escaped, one_printed_text, printed_is_read, same_anew, no_fault, one_http_fault, with_pair_is_read}
 use Rattle.mime_c.specs.Strings.{string_of, strings, ComeBack, texts_of, written}
 use Rattle.mime_c.specs.Answers.{number_of, found_of}
 use Rattle.mime_c.specs.HeaderAnswers.{number_of_error, found_of_error, HeaderReadsTo, is_value, isnt_value, value_has_no_room}

@@ -8,7 +8,7 @@ use Rattle.mime.specs.Values.{MediaType}
 use Rattle.mime.specs.Cut.{CutItem, Cut}
 use Rattle.mime.specs.Runs.{IsFirstItem, HasNoItem}
 use Rattle.mime.specs.Runs as runs
-use Rattle.mime.proofs.CutLemmas.Cuts.{has_cut}
+use Rattle.mime.proofs.HandedOut.{has_cut}
 use Rattle.mime_c.specs.Strings.{string_of, strings, pair_texts, parts_of, texts_of, item_text, item_texts}
 use Rattle.mime_c.specs.Writing.{HasWritten, Writes}
 use Rattle.mime_c.specs.HeaderAnswers.{four_digits, range_texts, ranges_texts}
@@ -55,7 +55,7 @@ module _ {old now left all : List ℕ} {at : ℕ} (leaves : Leaves old now at le
   pub leaves-fits : (text more : List ℕ) → left ≡ string_of text ++ more → length all ≤ length old → at + length text < length now
   leaves-fits text more is room = fits leaves.wrote text more (rw (← is, leaves.onward) room)
 
-  -- and so do other bytes that are next,
+  -- other bytes that are next fit, too
   pub leaves-holds : (bytes more : List ℕ) → left ≡ bytes ++ more → length all ≤ length old → at + length bytes ≤ length now
   leaves-holds bytes more is room =
       omega (arith, leaves.wrote.end, ap length leaves.wrote.there, ap length leaves.onward, ap length is, room, length-append {A = ℕ}, length-drop {A = ℕ})
@@ -68,11 +68,11 @@ module _ {old now left all : List ℕ} {at : ℕ} (leaves : Leaves old now at le
     onward = append_assoc leaves.prefix bytes more ∙ ap (λ it. leaves.prefix ++ it) (sym is) ∙ leaves.onward;
   }
 
--- and at the end none is left
+-- if nothing is left, all bytes are written
 pub leaves-last : {old now all : List ℕ} {at : ℕ} → Leaves old now at [] all → HasWritten old now at all
 leaves-last {old} {now} {all} {at} leaves = subst (HasWritten old now at) (sym (append-nil leaves.prefix) ∙ leaves.onward) leaves.wrote
 
--- so all are written from the position on,
+-- if nothing is left, all bytes are written from the position on
 pub writes-all : {old now left all : List ℕ} {at end : ℕ} → Leaves old now end left (take at old ++ all) → left ≡ [] → Writes old at all now end
 writes-all {old} {now} {left} {all} {at} {end} leaves none = record {
   adds = λ older prefix wrote.
@@ -88,7 +88,7 @@ writes-all {old} {now} {left} {all} {at} {end} leaves none = record {
       record { there = cc (before, after, last.there); end = last.end ∙ ap (λ it. length (it ++ all)) before };
 }
 
--- and the position after them is as many bytes further on
+-- the position after bytes that were written is as many bytes further on
 pub writes-end : {old new bytes : List ℕ} {at end : ℕ} → at ≤ length old → Writes old at bytes new end → end ≡ at + length bytes
 unfolding leaves-first
 writes-end {old} {new} {bytes} {at} within writes =
@@ -115,7 +115,7 @@ pub given-first : (media : MediaType) (items : List Item) (text : List ℕ) → 
     → strings (parts_of media) ≡ string_of text ++ strings (given_texts items)
 given-first media items text given is = rw (given, is, given_texts-items_of media.pairs) refl
 
--- and then the name and the value of each item
+-- the name and the value of an item come next
 pub given-next : (items more : List Item) (item : Item) (name value : List ℕ) → items ≡ item ∷ more → name ≡ item.name
     → value ≡ item.value → strings (given_texts items) ≡ string_of name ++ (string_of value ++ strings (given_texts more))
 given-next items more item name value next named valued = rw (next, named, valued) refl
@@ -131,7 +131,7 @@ strings_of_range range =
     let weight = string_of (four_digits (weight_of range)) in
     ap (λ it. weight ++ it) (flat_map-append string_of (parts_of range) ([] ∷ [])) ∙ sym (append_assoc weight (strings (parts_of range)) (0 ∷ []))
 
--- and ranges have those of the first, and then those of the others
+-- ranges have the strings of the first, and then those of the others
 pub strings_of_ranges : (range : MediaType) (ranges : List MediaType)
     → strings (ranges_texts (range ∷ ranges)) ≡ strings (range_texts range) ++ strings (ranges_texts ranges)
 strings_of_ranges range ranges = flat_map-append string_of (range_texts range) (ranges_texts ranges)
@@ -173,7 +173,7 @@ module _ {text old now left : List ℕ} {at : ℕ} (lists : Lists text old now a
       let cut = subst (λ items. Cut text items rest) (append-nil lists.before) (lists.cuts [] rest none) in
       rw (lists.wrote.there, lists.wrote.end) (is_listed lists.before rest room utf8 cut (items_come_back text lists.before rest cut))
 
-  -- or there was no memory for one
+  -- if there was no memory for an item, the call says so
   pub lists-no_memory : runs.FirstNeedsMemory left → ListsTo text old MIME_NO_MEMORY now 0
   lists-no_memory needs = has_no_memory now room utf8 (record {
     before = lists.before;

@@ -1,7 +1,8 @@
 //! Media types for programs that aren't in Rattle: the calls that include/mime.h declares.
 //!
-//! No call keeps a pointer or a state. Each returns a number, its answer, and writes strings, with the byte 0 after
-//! each, into the caller's buffer. The pages `Answers`, `HeaderAnswers` and `ParameterAnswers` of `Rattle.mime_c.specs` say which.
+//! No call keeps a pointer or a state. Each returns a number, its answer, and writes strings, with the byte 0 after each, into the
+//! caller's buffer. The files `Answers`, `HeaderAnswers` and `ParameterAnswers` of `Rattle.mime_c.specs` define which, and
+//! include/mime.h says it in plain words.
 #![tactic(auto)]
 
 ghost use Rattle.std.specs.Prelude.{◌≡◌, ◌≢◌, ◌+◌, ◌<◌, ◌≤◌, true, false, [], ◌∷◌, length, IfOk, IfErr, IsOk, MatchResult};
@@ -77,7 +78,7 @@ pub struct MimeFound {
     pub byte: u8,
 }
 
-/// What is found if there is nothing to say.
+/// What is found if nothing is set.
 const NOTHING: MimeFound = MimeFound {
     length: 0,
     params: 0,
@@ -88,7 +89,7 @@ const NOTHING: MimeFound = MimeFound {
     byte: 0,
 };
 
-/// The number of a fault.
+/// Returns the number of a fault.
 fn number_of(fault: &ParseError) -> u32
     ensures { result ≡ number_of fault.now }
 {
@@ -103,14 +104,14 @@ fn number_of(fault: &ParseError) -> u32
     }
 }
 
-/// What is found of a text that isn't UTF-8: how much of it is.
+/// Returns what is found in a text that isn't UTF-8: how much of it is UTF-8.
 fn found_at(pos: usize) -> MimeFound
     ensures { result ≡ found_at pos 0 }
 {
     MimeFound { pos, ..NOTHING }
 }
 
-/// What is found of a fault: the invalid byte and its position, if it is one.
+/// Returns what is found for a fault: the invalid byte and its position, if the fault has one.
 fn found_of_fault(fault: &ParseError) -> MimeFound
     ensures { result ≡ found_of_fault fault.now }
 {
@@ -124,7 +125,7 @@ fn found_of_fault(fault: &ParseError) -> MimeFound
     }
 }
 
-/// The string of these bytes, as `str::from_utf8` gives it, in less time for ASCII, which most texts are.
+/// Converts bytes to a string as `str::from_utf8` does, and faster for ASCII, which most texts are.
 #[inline(never)]
 fn text_of(bytes: &[u8]) -> Result<&str, Utf8Error>
     ensures cases { MatchResult result (λ text. (text.now ≡ bytes.now) × IsUtf8 bytes.now)
@@ -137,7 +138,7 @@ fn text_of(bytes: &[u8]) -> Result<&str, Utf8Error>
     str::from_utf8(bytes)
 }
 
-/// The number of why a text or a header's value isn't read.
+/// Returns the answer for the error of a text or of a header's value.
 fn number_of_error(error: &FieldError) -> u32
     ensures { result ≡ number_of_error error.now }
 {
@@ -148,7 +149,7 @@ fn number_of_error(error: &FieldError) -> u32
     }
 }
 
-/// What is found of why a text or a header's value isn't read.
+/// Returns what is found for the error of a text or of a header's value.
 fn found_of_error(error: &FieldError) -> MimeFound
     ensures { result ≡ found_of_error error.now }
 {
@@ -159,7 +160,7 @@ fn found_of_error(error: &FieldError) -> MimeFound
     }
 }
 
-/// The media type that a text is read as.
+/// Returns the media type that a text is read as.
 #[tactic(auto, using(crate::specs::Answers::is_not_text))]
 fn read(alloc: Global, text: &[u8]) -> Result<Mime, FieldError>
     ensures read { IfOk result (λ mime. IsUtf8 text.now × Reads text.now mime.media) }
@@ -298,8 +299,8 @@ fn put_item(out: &mut [u8], at: usize, mark: u8, text: &str) -> usize
     put(out, next, text)
 }
 
-/// Takes the media types out of `text`, as `MimeIter` does; `mime_accept` reads an Accept header. It writes a string for each, and
-/// for each bad piece, to `out`, of at least `2 * text.len()` bytes, and returns `MIME_OK`, or why it wrote no list: mime.h.
+/// Finds the media types in `text`, as `MimeIter` does; `mime_accept` reads an Accept header. It writes a string for each, and for
+/// each bad piece, to `out`, of at least `2 * text.len()` bytes, and returns `MIME_OK`, or why it wrote no list: mime.h.
 #[unsafe(no_mangle)]
 #[tactic(auto, using(crate::specs::Answers::has_no_room, crate::specs::Answers::is_not_text))]
 pub extern "C" fn mime_list(alloc: Global, text: &[u8], out: &mut [u8], length: &mut usize) -> u32
@@ -344,7 +345,7 @@ pub extern "C" fn mime_equal(alloc: Global, one: &[u8], other: &[u8], equal: &mu
     MIME_OK
 }
 
-/// A number below 10,000 in four digits.
+/// Returns a number below 10,000 in four digits.
 fn four_digits(n: u16) -> [u8; 4]
     ensures { result ≡ four_digits n }
 {
@@ -398,7 +399,7 @@ pub extern "C" fn mime_accept(
     MIME_OK
 }
 
-/// What a header accepts, of one line or of none. Its bad entries are left out.
+/// Returns what a header accepts, of one line or of none. Its bad entries are left out.
 fn accepted(alloc: Global, is_there: bool, line: &[u8]) -> Result<Accept, AllocError>
     ensures header { IfOk result (λ accept. (header : Header) × IsHeader (lines_of is_there line.now) header × (accept.ranges ≡ header.ranges)) }
     ensures nothing { HaveNoEntry (lines_of is_there line.now) → IsOk result }
@@ -410,7 +411,7 @@ fn accepted(alloc: Global, is_there: bool, line: &[u8]) -> Result<Accept, AllocE
     }
 }
 
-/// Whether an entry of a list of offers is no media type.
+/// Returns `true` if an entry of a list of offers isn't a media type.
 fn has_bad(offered: &Accept) -> bool
     ensures bad { result ≡ true → offered.now.bad ≢ [] }
     ensures good { result ≡ false → offered.now.bad ≡ [] }
@@ -418,8 +419,8 @@ fn has_bad(offered: &Accept) -> bool
     !offered.bad().is_empty()
 }
 
-/// Sets `best` to the position in a list of offers, such as `text/html, application/json`, of the one that an Accept header
-/// likes best (RFC 9110, 12.5.1). A request without the header, for which `is_there` is false, accepts everything.
+/// Sets `best` to the position in a list of offers, such as `text/html, application/json`, of the best one for an Accept
+/// header (RFC 9110, 12.5.1). A request without the header, for which `is_there` is false, accepts everything.
 #[unsafe(no_mangle)]
 pub extern "C" fn mime_best(
     alloc: Global,

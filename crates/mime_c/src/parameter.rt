@@ -1,4 +1,4 @@
-//! The calls for parameters: what they mean, and one that is written.
+//! The calls for parameters: two that say what a parameter means, and one that writes a parameter.
 
 ghost use Rattle.std.specs.Prelude.{◌≡◌, false, ◌↔◌, ◌<◌, ◌≤◌, ◌==◌, ◌&&◌, not, IsTrue, length};
 ghost use Rattle.mime.specs.Bytes.{backslash_byte};
@@ -59,14 +59,14 @@ pub extern "C" fn mime_boundary(
     }
 }
 
-/// Whether a byte is a backslash that begins a pair, after one or not.
+/// Returns `true` if a byte is a backslash that begins a pair, after one or not.
 fn begins_pair(is_paired: bool, byte: u8) -> bool
     ensures { result ≡ (not is_paired && byte == backslash_byte) }
 {
     !is_paired && byte == b'\\'
 }
 
-/// Whether a value has a backslash. Without one it means itself.
+/// Returns `true` if a value has a backslash. Without one it means itself.
 fn has_backslash(value: &[u8]) -> bool
     ensures { result ≡ false → unescaped value.now ≡ value.now }
 {
@@ -79,7 +79,7 @@ fn put_unescaped(out: &mut [u8], value: &[u8]) -> usize
     ensures written { HasWritten out.old out.new result (unescaped value.now) }
     ensures within { result ≤ length value.now }
 {
-    // The short way for most values.
+    // Most values have no backslash.
     if !has_backslash(value) {
         return copy(out, 0, value);
     }
@@ -112,7 +112,7 @@ pub extern "C" fn mime_unescape(value: &[u8], out: &mut [u8], size: &mut usize) 
     MIME_OK
 }
 
-/// Whether a buffer has room for a media type with a parameter.
+/// Returns `true` if a buffer has room for a media type with a parameter.
 fn has_room(out: &[u8], text: &[u8], name: &[u8], value: &[u8]) -> bool
     ensures { IsTrue result ↔ (room_with text.now name.now value.now ≤ length out.now) }
 {

@@ -4,7 +4,8 @@ use mime_http::{Accept, weight_of};
 use std::alloc::{AllocError, Global};
 use std::fmt::Write;
 
-/// The ranges of an `Accept` header with their weights in thousandths, and the number of entries that are none: for a log.
+/// Returns the ranges of an `Accept` header with their weights in thousandths, and the number of entries that are none: for a
+/// log.
 ///
 /// # Errors
 /// `AllocError` if memory runs out.

@@ -9,8 +9,8 @@ use mime_http::laws::one_http_reading;
 use mime_http::{FieldError, content_type};
 use std::alloc::Global;
 
-/// The status that answers a `Content-Type` with this error: 400 if it isn't a media type
-/// (RFC 9110, 15.5.1), and 503 if there was no memory to read it (RFC 9110, 15.6.4).
+/// Returns the status that answers a `Content-Type` with this error: 400 if it isn't a media type (RFC 9110, 15.5.1), and 503
+/// if there was no memory to read it (RFC 9110, 15.6.4).
 pub fn status_of(error: &FieldError) -> u16
     ensures malformed { (result ≡ 400) ↔ (error.now ≢ FieldError.NoMemory) }
     ensures memory { (result ≡ 503) ↔ (error.now ≡ FieldError.NoMemory) }
@@ -21,8 +21,8 @@ pub fn status_of(error: &FieldError) -> u16
     }
 }
 
-/// The status that refuses a request by its `Content-Type`, or `None` if that is `application/json`,
-/// whatever its parameters are: 415 for any other media type (RFC 9110, 15.5.16).
+/// Returns the status that refuses a request by its `Content-Type`, or `None` if that is `application/json`, whatever its
+/// parameters are: 415 for any other media type (RFC 9110, 15.5.16).
 pub fn refusal(alloc: Global, value: &[u8]) -> Option<u16>
     // JSON alone is taken.
     ensures taken { result ≡ None
@@ -51,8 +51,8 @@ pub fn refusal(alloc: Global, value: &[u8]) -> Option<u16>
     }
 }
 
-/// The status that refuses a request with a body by its `Content-Type`, if there is one: without it the body may be anything
-/// (RFC 9110, 8.3), so it isn't taken. Answer 400 to a request with two: recipients differ in which of them they take.
+/// Returns the status that refuses a request with a body by its `Content-Type`, if there is one: without it the body may be
+/// anything (RFC 9110, 8.3), so it isn't taken. Answer 400 to a request with two: recipients differ in which of them they take.
 pub fn refusal_of_body(alloc: Global, content_type: Option<&[u8]>) -> Option<u16>
     ensures without { content_type.entry ≡ None → result ≡ Some 415 }
     ensures taken { result ≡ None → IsSomeAnd content_type.entry (λ value. (media : MediaType) × HttpReads value.now media

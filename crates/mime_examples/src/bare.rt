@@ -7,7 +7,7 @@ use mime::laws::{essence_is_read, one_reading};
 use mime::{FromStrError, Mime, ParseError};
 use std::alloc::Global;
 
-/// The same media type without its parameters.
+/// Returns the same media type without its parameters.
 ///
 /// # Errors
 /// `FromStrError` says that memory ran out.

@@ -10,7 +10,7 @@ use mime::laws::one_reading;
 use mime::{FromStrError, Mime};
 use std::alloc::Global;
 
-/// Whether a content type has a suffix, as `image/svg+xml` has.
+/// Returns `true` if a content type has a suffix, as `image/svg+xml` has.
 ///
 /// # Errors
 /// `FromStrError` has the text's one fault, or says that memory ran out, here and below.
@@ -22,7 +22,7 @@ pub fn has_suffix(alloc: Global, text: &str) -> Result<bool, FromStrError>
     Ok(mime.suffix().is_some())
 }
 
-/// Whether a media type has a parameter of this name, in any case.
+/// Returns `true` if a media type has a parameter of this name, in any case.
 pub fn has_param(mime: &Mime, name: &str) -> bool
     ensures { (found : Option (List ℕ × Bool))
         × IsFirstAccepted (λ n flag. NameIs n flag name.now) (items_of mime.now.media.pairs) found
@@ -31,7 +31,7 @@ pub fn has_param(mime: &Mime, name: &str) -> bool
     mime.get_param(name).is_some()
 }
 
-/// A text is read as the same media type as what is printed of it.
+/// Reads a text, which is read as the same media type as what is printed of it.
 pub fn printed(alloc: Global, text: &str) -> Result<Mime, FromStrError>
     ensures explained { IfErr result (λ error. Explains text.now error) }
     ensures same { IfOk result (λ mime. Reads text.now mime.media × Reads mime.media.kept mime.media) }
@@ -41,7 +41,7 @@ pub fn printed(alloc: Global, text: &str) -> Result<Mime, FromStrError>
     Ok(mime)
 }
 
-/// Whether a text that is read twice gives equal media types: it does, since it has one reading.
+/// Returns `true` if a text that is read twice gives equal media types: it does, since it has one reading.
 pub fn reads_alike(alloc: Global, text: &str) -> Result<bool, FromStrError>
     ensures { IfOk result (λ same. same ≡ true) }
 {

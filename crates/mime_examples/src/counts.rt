@@ -15,7 +15,7 @@ use std::io;
 /// How often each media type came. Its keys come from requests, so it is seeded at random: nobody can choose them so that they collide.
 pub type Counts = HashMap<Mime, u64, RandomState>;
 
-/// No media type has come yet.
+/// Returns empty counts.
 ///
 /// # Errors
 /// An error of the system's source of random bytes.
@@ -24,7 +24,7 @@ pub fn no_counts(rt: &HostRuntime) -> io::Result<Counts> {
     Ok(HashMap::with_hasher(rt.alloc(), keys))
 }
 
-/// Counts a media type that came. `TEXT/HTML;Charset="UTF-8"` counts as `text/html; charset=utf-8`.
+/// Counts a media type. `TEXT/HTML;Charset="UTF-8"` counts as `text/html; charset=utf-8`.
 ///
 /// # Errors
 /// `AllocError` if memory runs out.
@@ -37,7 +37,7 @@ pub fn count(counts: &mut Counts, mime: Mime) -> Result<(), AllocError>
     Ok(())
 }
 
-/// The media types with their counts, in the order of media types.
+/// Returns the media types with their counts, in the order of media types.
 ///
 /// # Errors
 /// `AllocError` if memory runs out.

@@ -18,7 +18,7 @@ pub struct Disposition {
     pub file_name: Option<Vec<u8>>,
 }
 
-/// What the first parameter of a name means, if there is one.
+/// Returns what the first parameter of a name means, if there is one.
 fn meaning(alloc: Global, mime: &Mime, name: &str) -> Result<Option<Vec<u8>>, AllocError>
     ensures { IfOk result (λ answer. FirstMeans mime.now.media.pairs name.now (option_map vec_items answer)) }
 {

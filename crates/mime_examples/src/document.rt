@@ -16,7 +16,7 @@ pub struct Document<'a> {
     pub body: &'a [u8],
 }
 
-/// A body with the media type that the value of its `Content-Type` is read as.
+/// Returns a body with the media type that the value of its `Content-Type` is read as.
 ///
 /// # Errors
 /// Those of [`content_type`].

@@ -115,7 +115,7 @@ static TYPES: [(&str, &str); 95] = [
     ("zst", "application/zstd"),
 ];
 
-/// The media type of a row with this ending, ignoring ASCII case.
+/// Returns the media type of a row with this ending, ignoring ASCII case.
 pub fn type_of_ending(table: &[(&'static str, &'static str)], ending: &str) -> Option<&'static str>
     ensures found { IfSome result (λ type. (known : List ℕ)
         × Contains {X = List ℕ × List ℕ} (map (λ row. (row.0.now, row.1.now)) table.now) (known, type.now)
@@ -132,8 +132,8 @@ pub fn type_of_ending(table: &[(&'static str, &'static str)], ending: &str) -> O
     None
 }
 
-/// The media type of a file by what follows the last dot of its name, in any case; `application/octet-stream` if the table doesn't have
-/// it, or there is no dot.
+/// Returns the media type of a file by what follows the last dot of its name, in any case; `application/octet-stream` if the table
+/// doesn't have it, or there is no dot.
 pub fn type_of_file(name: &str) -> &'static str {
     match name.rsplit_once('.') {
         Some((_, ending)) => type_of_ending(&TYPES, ending).unwrap_or(OTHER),

@@ -1,6 +1,6 @@
 //! A handler chosen by constants.
 
-ghost use Rattle.std.specs.Prelude.{◌≡◌, ◌↔◌, codes, Some, None};
+ghost use Rattle.std.specs.Prelude.{◌≡◌, ◌↔◌, codes, None};
 ghost use Rattle.mime.specs.Values.{type_of, subtype_of, suffix_of};
 
 use mime::{APPLICATION, JSON, Mime, WWW_FORM_URLENCODED};
@@ -16,7 +16,7 @@ pub enum Handler {
     Refuse,
 }
 
-/// The handler of a body by its media type, whatever the parameters are.
+/// Returns the handler of a body by its media type, whatever the parameters are.
 pub fn handler_of(mime: &Mime) -> Handler
     ensures json { (result ≡ Handler.Json) ↔ ((type_of mime.now.media ≡ codes "application")
         × (subtype_of mime.now.media ≡ codes "json") × (suffix_of mime.now.media ≡ None)) }

@@ -6,7 +6,7 @@ ghost use Rattle.mime.specs.HeaderLaws.{AreHeaderBytes};
 use mime::Mime;
 use mime::laws::kept_is_safe;
 
-/// What a header's value is for a media type (RFC 9110, 8.3).
+/// Returns the value of a header for a media type (RFC 9110, 8.3).
 pub fn header_text(mime: &Mime) -> &str
     ensures text { result.now ≡ mime.now.media.kept }
     // It has no line feed, no carriage return and no zero, so nothing can be put into the response by it.

@@ -9,7 +9,7 @@ use mime::TEXT_HTML;
 use mime_http::Accept;
 use std::alloc::{AllocError, Global};
 
-/// Whether the lines of an `Accept` header give HTML a weight above 0 (RFC 9110, 12.5.1): `text/*;q=0.3` does, and
+/// Returns `true` if the lines of an `Accept` header give HTML a weight above 0 (RFC 9110, 12.5.1): `text/*;q=0.3` does, and
 /// `text/html ; q=0, */*` doesn't.
 ///
 /// # Errors

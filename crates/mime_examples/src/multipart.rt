@@ -20,8 +20,8 @@ pub struct Body<'a> {
     pub is_whole: bool,
 }
 
-/// What stands before each part of a body, at the start of a line: two hyphens and the boundary (RFC 2046, 5.1.1). `None` exactly if the
-/// type isn't `multipart`, or has no boundary.
+/// Returns the delimiter before each part of a body, at the start of a line: two hyphens and the boundary (RFC 2046, 5.1.1).
+/// Returns `None` exactly if the type isn't `multipart`, or has no boundary.
 ///
 /// # Errors
 /// `AllocError` if memory runs out, here and below.
@@ -37,7 +37,7 @@ pub fn delimiter(alloc: Global, mime: &Mime) -> Result<Option<Vec<u8>>, AllocErr
     Ok(Some(delimiter))
 }
 
-/// What stands after the delimiter, if a line begins with it at this position.
+/// Returns what follows the delimiter, if a line begins with it at this position.
 fn after_delimiter<'a>(body: &'a [u8], at: usize, delimiter: &[u8]) -> Option<&'a [u8]>
     requires { at ≤ length body.now }
     ensures { MatchOption result ((after : List ℕ) → EndsLine (take at body.now) → drop at body.now ≢ delimiter.now ++ after)
@@ -49,7 +49,7 @@ fn after_delimiter<'a>(body: &'a [u8], at: usize, delimiter: &[u8]) -> Option<&'
     body[at..].strip_prefix(delimiter)
 }
 
-/// A body cut at the first line that begins with the delimiter: what stands before it, and what stands after it.
+/// Cuts a body at the first line that begins with the delimiter: returns what precedes it, and what follows it.
 pub fn cut<'a>(body: &'a [u8], delimiter: &[u8]) -> Option<(&'a [u8], &'a [u8])>
     ensures cut { IfSome result (λ halves. IsCut delimiter.now body.now halves.0.now halves.1.now) }
     ensures none { result ≡ None → delimiter.now ≢ [] → HasNoDelimiter delimiter.now body.now }
@@ -62,7 +62,7 @@ pub fn cut<'a>(body: &'a [u8], delimiter: &[u8]) -> Option<(&'a [u8], &'a [u8])>
     None
 }
 
-/// The first line, without its line feed, and what stands after it. `None` if there is no line feed.
+/// Returns the first line, without its line feed, and what follows it, or `None` if there is no line feed.
 fn split_line(text: &[u8]) -> Option<(&[u8], &[u8])>
     ensures { MatchOption result (IsLine text.now) (λ halves. IsLine halves.0.now × (text.now ≡ halves.0.now ++ (10 ∷ halves.1.now))) }
 {
@@ -74,7 +74,7 @@ fn split_line(text: &[u8]) -> Option<(&[u8], &[u8])>
     None
 }
 
-/// The part in what stands before a delimiter: without the end of the last line, which belongs to the delimiter.
+/// Returns the part before a delimiter: without the end of its last line, which belongs to the delimiter.
 fn without_end(before: &[u8]) -> &[u8]
     ensures { EndsLine before.now → IsPart before.now result.now }
 {
@@ -84,7 +84,7 @@ fn without_end(before: &[u8]) -> &[u8]
     }
 }
 
-/// The part between a delimiter, with these bytes after it, and the next delimiter; and what stands after that.
+/// Returns the part between a delimiter, which these bytes follow, and the next delimiter; and what follows that.
 fn next_part<'a>(left: &'a [u8], delimiter: &[u8]) -> Option<(&'a [u8], &'a [u8])>
     requires { delimiter.now ≢ [] }
     ensures part { IfSome result (λ halves. IsNextPart delimiter.now left.now halves.0.now halves.1.now) }
@@ -99,7 +99,7 @@ fn next_part<'a>(left: &'a [u8], delimiter: &[u8]) -> Option<(&'a [u8], &'a [u8]
     Some((without_end(before), after))
 }
 
-/// The parts between lines that begin with the delimiter.
+/// Returns the parts between lines that begin with the delimiter.
 fn parts_between<'a>(
     alloc: Global,
     body: &'a [u8],
@@ -128,8 +128,8 @@ fn parts_between<'a>(
     })
 }
 
-/// The parts of a body: what stands between each two lines that begin with the delimiter, up to one that goes on with two hyphens, or to
-/// the last. `None` exactly if the media type has no boundary. What stands in a part isn't looked at: it may have no header.
+/// Returns the parts of a body: what is between each two lines that begin with the delimiter, up to a line that continues with two
+/// hyphens, or to the last. Returns `None` exactly if the media type has no boundary. A part isn't examined: it may have no header.
 pub fn parts<'a>(alloc: Global, mime: &Mime, body: &'a [u8]) -> Result<Option<Body<'a>>, AllocError>
     ensures { IfOk result (λ answer. MatchOption answer ((boundary : List ℕ) → ¬ (IsBoundaryOf mime.now.media boundary))
         (λ found. (boundary : List ℕ) × IsBoundaryOf mime.now.media boundary
@@ -142,7 +142,7 @@ pub fn parts<'a>(alloc: Global, mime: &Mime, body: &'a [u8]) -> Result<Option<Bo
     Ok(Some(found))
 }
 
-/// The value of a line that is a field of this name, if it is one.
+/// Returns the value of a line that is a field of this name, if it is one.
 fn value_in<'a>(line: &'a [u8], name: &str) -> Option<&'a [u8]>
     ensures { MatchOption result ((value : List ℕ) → ¬ (IsField name.now line.now value)) (λ value. IsField name.now line.now value.now) }
 {
@@ -156,14 +156,14 @@ fn value_in<'a>(line: &'a [u8], name: &str) -> Option<&'a [u8]>
     Some(rest.trim_ascii())
 }
 
-/// Whether a line ends a header.
+/// Returns `true` if a line ends a header.
 fn is_empty_line(line: &[u8]) -> bool
     ensures { IsTrue result ↔ IsEmptyLine line.now }
 {
     line.is_empty() || line == b"\r".as_slice()
 }
 
-/// The value of the first field of this name in a part's header, if there is one.
+/// Returns the value of the first field of this name in a part's header, if there is one.
 fn value_of<'a>(part: &'a [u8], name: &str) -> Option<&'a [u8]>
     ensures { IsFirstField name.now part.now (option_map (λ value. value.now) result) }
 {
@@ -180,8 +180,8 @@ fn value_of<'a>(part: &'a [u8], name: &str) -> Option<&'a [u8]>
     None
 }
 
-/// What the first `Content-Disposition` of a part says: the names of its field and of its file. `None` exactly if there is none, or it names
-/// no field. What goes on in a second line isn't read (RFC 5322, 2.2.3).
+/// Returns what the first `Content-Disposition` of a part says: the names of its field and of its file. Returns `None` exactly if there
+/// is none, or it names no field. A value that continues in a second line isn't read further (RFC 5322, 2.2.3).
 pub fn disposition_of(alloc: Global, part: &[u8]) -> Result<Option<Disposition>, AllocError>
     ensures { IfOk result (λ answer. (first : Option (List ℕ)) × IsFirstField (codes "content-disposition") part.now first
         × MatchOption answer ((value name : List ℕ) (file_name : Option (List ℕ)) → first ≡ Some value → ¬ (IsDisposition value name file_name))
@@ -194,14 +194,14 @@ pub fn disposition_of(alloc: Global, part: &[u8]) -> Result<Option<Disposition>,
     }
 }
 
-/// Whether bytes can be the boundary of a part: they are a boundary, and don't stand in it.
+/// Returns `true` if bytes can be the boundary of a part: they are a boundary, and don't stand in it.
 pub fn may_delimit(bytes: &[u8], part: &[u8]) -> bool
     ensures { IsTrue result ↔ IsBoundary bytes.now × ((before after : List ℕ) → part.now ≢ before ++ (bytes.now ++ after)) }
 {
     is_boundary(bytes) && !stand_in(bytes, part)
 }
 
-/// Whether bytes, which aren't none, stand in a part.
+/// Returns `true` if bytes, which aren't none, stand in a part.
 fn stand_in(bytes: &[u8], part: &[u8]) -> bool
     ensures stand { IsTrue result → (before after : List ℕ) × (part.now ≡ before ++ (bytes.now ++ after)) }
     ensures none { result ≡ false → bytes.now ≢ [] → (before after : List ℕ) → part.now ≢ before ++ (bytes.now ++ after) }

@@ -8,9 +8,9 @@ use mime::Mime;
 use mime_http::Accept;
 use std::alloc::Global;
 
-/// The best of what a server offers for the lines of a request's `Accept` header. An `Accept` of `application/json; charset=utf-8`
-/// doesn't accept `application/json`: offer it with the charset, too. Send `Vary: Accept` with the offer, or with 406, since caches need
-/// it (RFC 9110, 12.5.5).
+/// Returns the best of what a server offers for the lines of a request's `Accept` header. An `Accept` of
+/// `application/json; charset=utf-8` doesn't accept `application/json`: offer it with the charset, too. Send `Vary: Accept` with the
+/// offer, or with 406, since caches need it (RFC 9110, 12.5.5).
 ///
 /// # Errors
 /// The status to answer: 406 if the client accepts none (RFC 9110, 15.5.7), 503 if there was no memory to read the header (15.6.4).

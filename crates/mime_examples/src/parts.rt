@@ -4,7 +4,7 @@ use mime::Mime;
 use std::alloc::{AllocError, Global};
 use std::fmt::Write;
 
-/// The type, the subtype, the suffix and the parameters of a media type, a line each.
+/// Returns the type, the subtype, the suffix and the parameters of a media type, a line each.
 ///
 /// # Errors
 /// `AllocError` if memory runs out.

@@ -5,7 +5,7 @@ ghost use Rattle.mime.specs.Values.{type_of, subtype_of};
 
 use mime::{Mime, PLAIN, TEXT};
 
-/// Whether a media type is plain text, whatever its suffix and its parameters are.
+/// Returns `true` if a media type is plain text, whatever its suffix and its parameters are.
 pub fn is_plain(mime: &Mime) -> bool
     ensures { IsTrue result ↔ ((type_of mime.now.media ≡ codes "text") × (subtype_of mime.now.media ≡ codes "plain")) }
 {

@@ -8,8 +8,8 @@ ghost use Rattle.mime.specs.Values.{lowered};
 
 use mime::{APPLICATION_JSON, APPLICATION_WWW_FORM_URLENCODED, TEXT_PLAIN};
 
-/// What stands before the first semicolon of a `Content-Type`, without the white space around it: the essence, if it is one. The
-/// parameters aren't read, so they may be broken: of `text/html; charset` it is `text/html`.
+/// Returns what precedes the first semicolon of a `Content-Type`, without the white space around it: the essence, if it is one.
+/// The parameters aren't read, so they may be invalid: for `text/html; charset` it returns `text/html`.
 pub fn essence_of(content_type: &str) -> &str
     ensures { IsTrimAscii (before_first (λ b. b == semicolon_byte) content_type.now) result.now }
 {
@@ -20,8 +20,8 @@ pub fn essence_of(content_type: &str) -> &str
     before.trim_ascii()
 }
 
-/// Which reader takes a body, by the essence of its `Content-Type` and without memory, whatever the parameters are: `bytes` if it is
-/// none of three media types.
+/// Returns which reader takes a body, by the essence of its `Content-Type` and without memory, whatever the parameters are: `bytes`
+/// if it is none of three media types.
 pub fn reader_of(content_type: &str) -> &'static str
     ensures { (essence : List ℕ) × IsTrimAscii (before_first (λ b. b == semicolon_byte) content_type.now) essence
         × (result.now ≡ (if bytes_eq (lowered essence) (codes "application/json") then codes "json" else

@@ -9,7 +9,8 @@ use mime::{MULTIPART_FORM_DATA, Mime, TEXT_HTML};
 use mime_http::{with_boundary, with_charset};
 use std::alloc::{AllocError, Global};
 
-/// HTML in a charset: `text/html; charset=utf-8`. `None` if the charset isn't a token.
+/// Returns the media type of HTML in a charset: `text/html; charset=utf-8`. Returns `None` if the charset isn't a
+/// token.
 ///
 /// # Errors
 /// `AllocError` if memory runs out, here and below.
@@ -24,7 +25,8 @@ pub fn page_in(alloc: Global, charset: &str) -> Result<Option<Mime>, AllocError>
     with_charset(alloc, &TEXT_HTML.mime(), charset)
 }
 
-/// A form whose fields are parts between lines with this boundary: `multipart/form-data; boundary=x`. `None` if that is no boundary.
+/// Returns a form whose fields are parts between lines with this boundary: `multipart/form-data; boundary=x`. `None` if that is no
+/// boundary.
 pub fn form_with(alloc: Global, boundary: &str) -> Result<Option<Mime>, AllocError>
     ensures { IfOk result (λ answer. IfSome answer (λ made. (form : MediaType) × Reads (codes "multipart/form-data") form
         × (made.media ≡ with_pair form (codes "boundary") boundary.now))) }

@@ -1,6 +1,6 @@
 //! A file as a reply.
 
-ghost use Rattle.std.specs.Prelude.{◌≡◌, ◌≢◌, ◌⊎◌, ℕ, IfOk, IfErr, map};
+ghost use Rattle.std.specs.Prelude.{◌≡◌, ◌≢◌, ◌⊎◌, IfOk, IfErr, map};
 ghost use Rattle.mime_http.specs.HttpList.{Header, IsHeader};
 ghost use Rattle.mime_http.specs.Ranges.{given_weight};
 
@@ -9,7 +9,7 @@ use mime::Mime;
 use mime_http::Accept;
 use std::alloc::Global;
 
-/// The media type of a file by its name, with the charset of a text, for the lines of a request's `Accept` header.
+/// Returns the media type of a file by its name, with the charset of a text, for the lines of a request's `Accept` header.
 ///
 /// # Errors
 /// The status to answer: 406 if the client doesn't accept it (RFC 9110, 15.5.7), 503 if memory ran out (15.6.4).

@@ -4,8 +4,8 @@ use crate::charset::is_utf8;
 use mime_http::{FieldError, content_type};
 use std::alloc::Global;
 
-/// Whether the value of a `Content-Type` says that the body is in UTF-8 (RFC 9110, 8.3.2): `text/html ; Charset="UTF-8"` does,
-/// `text/html; charset=utf8` doesn't.
+/// Returns `true` if the value of a `Content-Type` says that the body is in UTF-8 (RFC 9110, 8.3.2):
+/// `text/html ; Charset="UTF-8"` does, `text/html; charset=utf8` doesn't.
 ///
 /// # Errors
 /// Those of [`content_type`].

@@ -127,7 +127,7 @@ two_elements =
     separated 32 _ _ refl (separated 44 _ _ refl (more_elements (codes "A/B") plain_value _ _ reads_capitals
     (separated 9 _ _ refl (separated 44 _ _ refl (more_elements (codes "A/B") plain_value [] [] reads_capitals no_element)))))
 
--- or end with an element
+-- a list may end with an element
 one_of_two : IsHttpList (codes ",A/B") (good (codes "A/B") plain_value ∷ [])
 one_of_two = separated 44 _ _ refl (one_element (codes "A/B") plain_value reads_capitals)
 

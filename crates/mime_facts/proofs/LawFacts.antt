@@ -75,7 +75,7 @@ completion : OneCompletion → (fault : ParseError) → Lacks (codes "e") fault 
 completion law fault lacks =
     let one = law (codes "e") e_is_viable e_is_rejected in one.2 fault lacks ∙ sym (one.2 MissingSlash e_lacks_slash)
 
--- and there is one
+-- the text `e` has a completion
 some_completion : OneCompletion → (fault : ParseError) × Lacks (codes "e") fault
 some_completion law = let one = law (codes "e") e_is_viable e_is_rejected in (one.0, one.1)
 

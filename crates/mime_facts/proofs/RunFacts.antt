@@ -89,7 +89,7 @@ star_is_fixed old new at end mime (piece, first, star, same) =
 no_memory_is_told : ¬ (GivesItem (begun (codes "A/B")) (Some (Err NoMemory)) (ended_run (codes "A/B") 3))
 no_memory_is_told given = true≢false (sym given.2)
 
--- and only then: not if none is given, nor with a media type or a bad piece
+-- it is said only then: not if nothing is yielded, nor with a media type or a bad piece
 none_keeps_memory : ¬ (GivesItem (begun (codes "e")) None (memory_ran_out (ended_run (codes "e") 1)))
 none_keeps_memory given = true≢false given.2
 

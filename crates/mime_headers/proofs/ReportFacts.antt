@@ -11,9 +11,7 @@ use Rattle.mime_http.specs.HttpList.{Header}
 use Rattle.mime_http.specs.Ranges.{AreInOrder}
 use Rattle.mime_http.specs.declared.value.FieldError.{FieldError}
 use Rattle.mime_http.specs.declared.value.FieldError.TheVariants.{NotUtf8, Invalid, NoMemory}
-use Rattle.mime_http.proofs.HttpLaws.{one_printed_text}
-use Rattle.mime_http.proofs.Lists.{one_header}
-use Rattle.mime_http.proofs.ReadFaults.{no_fault, one_http_fault}
+use Rattle.mime_http.proofs.HandedOut.{one_printed_text, one_header, no_fault, one_http_fault}
 use Rattle.mime_io.specs.Lines.{row}
 use Rattle.mime_headers.specs.Head.{trimmed}
 use Rattle.mime_headers.specs.Report.{media_rows, ReportsBoundary, bounded, unbounded, fault_rows, ReportsType, good, bad, ReportsTypes, no_more, one_more, Reports}

@@ -33,13 +33,12 @@ pub use Rattle.std.specs.Vec.{vec_items}
 pub use Rattle.std.specs.declared.cmp.Ordering.{Ordering}
 pub use Rattle.std.specs.declared.cmp.Ordering.TheVariants.{Equal, Greater, Less}
 pub use Rattle.std.specs.declared.cmp.Reverse.{Reverse}
-pub use Rattle.mime.proofs.HandedOut.{AreTokenBytes-from_token, Begun, ClosedParameters, IsContent-taken, IsToken-lowered, ListState, accepted-from_complete, accepted_or_rejected, after_quotes, awaits_after-append, boundary_after, by_class, completed_is_rejected, content-from_token, dead-from_walk, essence_is_read, grow, grow_list, grow_state, high_bytes, in_ranges, IsBegun, IsState, BegunList, walk_from-lengthens, length-lowered, list_all-lowered, list_all-wider, list_at, lowered-lowered, lowered_value-either, lowered_value-lowered, not_viable-at_dead, one_fault, one_reading, pairs_of_tail-lowered, prefix_of_viable_is_viable, rejected-from_walk, slice_get-prefix, spelled-from_walk, stopped-from_walk, tree_of, viable-from_lacks, viable-from_walk, walk, walk-accepted, walk-from_viable, walk_by-append, walk_by-append_some, walk_from}
+pub use Rattle.mime.proofs.HandedOut.{AreTokenBytes-from_token, Begun, ClosedParameters, IsContent-taken, IsToken-lowered, ListState, accepted-from_complete, accepted_or_rejected, after_quotes, awaits_after-append, boundary_after, by_class, completed_is_rejected, content-from_token, dead-from_walk, essence_is_read, grow, grow_list, grow_state, high_bytes, in_ranges, IsBegun, IsState, BegunList, walk_from-lengthens, length-lowered, list_all-lowered, list_all-wider, list_at, lowered-lowered, lowered_value-either, lowered_value-lowered, not_viable-at_dead, one_fault, one_reading, pairs_of_tail-lowered, prefix_of_viable_is_viable, rejected-from_walk, slice_get-prefix, spelled-from_walk, stopped-from_walk, tree_of, viable-from_lacks, viable-from_walk, walk, walk-accepted, walk-from_viable, walk_by-append, walk_by-append_some, walk_from, awaits_after, awaits_next, continues, takes, by_option, whole_prefix-from_walk}
 unfoldable pub use Rattle.mime.specs.Bytes.{is_quoted_byte, is_token_byte}
 pub use Rattle.mime.specs.Bytes.{backslash_byte, is_quoted_text_byte, quote_byte}
 pub use Rattle.mime.specs.Faults.{EndsIn, Explains, IsDeadAt, IsFault, IsLongestPrefix, IsViable, Lacks, completion_of, last_byte_of}
 pub use Rattle.mime.specs.Grammar.{AreParameters, AreSpaces, AreTokenBytes, IsContent, IsParameter, IsTail, IsToken, IsWellFormed, Parameter, Parameters, SyntaxTree, Tail, blank, final, is_space, listed, more, no_byte, no_list, plain, quoted, quoted_pair, text_byte, text_of, text_of_list, text_of_parameter, text_of_tail}
 pub use Rattle.mime.specs.HeaderLaws.{AreHeaderBytes, IsSafe, IsSafePair}
-pub use Rattle.mime.specs.Inner.Quoted.{awaits_after, awaits_next, continues, takes}
 pub use Rattle.mime.specs.Items.{IsFirstAccepted, Item, item_of, item_seen, items_of, name_seen, name_text}
 pub use Rattle.mime.specs.Names.{NameIs}
 pub use Rattle.mime.specs.Values.{IsAccepted, MediaType, OwnedMedia, Reads, essence_of, is_charset, kept_text, last_plus, lowered, lowered_list, lowered_parameter, lowered_tail, lowered_tree, lowered_value, pair_of, pairs_of_list, pairs_of_tail, type_of, value_of}
@@ -63,6 +62,5 @@ pub use Rattle.mime_http.specs.Weight.{thousandths_of}
 pub use Rattle.mime_http.specs.Written.{WrittenIsMeant, escaped, is_token_value, others, quote_of, text_of_pair, text_of_pairs, with_pair, with_pairs}
 pub use Rattle.mime_http.specs.declared.quoted.Form.{Form}
 pub use Rattle.mime_http.specs.declared.quoted.Form.TheVariants.{Escaped, Token}
-pub use Rattle.mime.proofs.GrammarLemmas.Viability.{by_option, whole_prefix-from_walk}
 pub use Rattle.std.proofs.lemmas.Result.{IfOk-weaker, on_ok_weaker}
 pub use Rattle.std.proofs.Math.Bool.{and-false, and-true}

@@ -32,3 +32,4 @@ pub mod Strangers
 pub mod Takes
 pub mod Trims
 pub mod Written
+pub mod HandedOut

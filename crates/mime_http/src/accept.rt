@@ -36,7 +36,7 @@ impl Model for Accept {
 }
 
 impl Accept {
-    /// Takes an entry that is this media type.
+    /// Adds an entry that is this media type.
     #[inline(always)]
     fn take(&mut self, range: Mime) -> Result<(), AllocError>
         ensures { OnOk result (self.new ≡ record self.old { ranges = self.old.ranges ++ (range.media ∷ []) }) }
@@ -48,7 +48,8 @@ impl Accept {
         Ok(())
     }
 
-    /// Takes an entry that is none, without the white space around it, if bad ones are kept. It isn't inlined: few entries are bad.
+    /// Adds an entry that isn't a media type, without the white space around it, if bad entries are kept. It isn't inlined: few
+    /// entries are bad.
     #[inline(never)]
     fn take_bad(&mut self, alloc: Global, keeps_bad: bool, entry: &[u8]) -> Result<(), AllocError>
         ensures { OnOk result (self.new
@@ -60,8 +61,8 @@ impl Accept {
         Ok(())
     }
 
-    /// Takes a piece that the library rejects without the white space around it, for this fault. It isn't inlined, so that the way of one
-    /// that the library accepts stays short.
+    /// Adds a piece that the library rejects for this fault, without the white space around it. It isn't inlined, so that the code for
+    /// pieces that the library accepts stays short.
     #[inline(never)]
     #[tactic(auto, using(crate::proofs::Around::utf8_around))]
     fn take_rejected(
@@ -87,7 +88,7 @@ impl Accept {
         }
     }
 
-    /// Takes a piece of a line, which may be known to be ASCII: white space alone is nothing.
+    /// Adds a piece of a line, which may be known to be ASCII, unless it is only white space.
     #[inline(always)]
     #[tactic(auto, using(crate::proofs::Trims::ascii_trimmed))]
     fn take_piece(
@@ -114,7 +115,7 @@ impl Accept {
         }
     }
 
-    /// Takes a line's pieces.
+    /// Adds the pieces of a line.
     fn take_line(&mut self, alloc: Global, keeps_bad: bool, line: &[u8]) -> Result<(), AllocError>
         ensures taken { OnOk result (Takes keeps_bad (cut line.now) self.old self.new) }
         ensures nothing { AreSorted (cut line.now) [] [] → IsOk result }
@@ -158,7 +159,7 @@ impl Accept {
 
     /// Reads a header's lines, which are one list; no line at all, `&[]`, is a request without the header, which accepts everything
     /// (RFC 9110, 5.3 and 12.5.1). Lines without a range, such as an empty one or `invalid`, accept nothing. Each line is cut at its
-    /// commas outside quoted values; a quoted value that is open ends with its line.
+    /// commas outside quoted strings; a quoted string that is open ends with its line.
     ///
     /// It allocates the two lists, a copy of each bad entry, and what [`content_type`](crate::content_type) allocates for each range.
     ///
@@ -184,33 +185,34 @@ impl Accept {
         Accept::read(alloc, lines, false)
     }
 
-    /// The ranges, in the header's order. Each prints what `content_type` prints of its entry.
+    /// Returns the ranges, in the header's order. Each prints what `content_type` prints of its entry.
     pub fn ranges(&self) -> &[Mime]
         ensures { map (λ range. range.media) result.now ≡ self.now.ranges }
     {
         &self.ranges
     }
 
-    /// The entries that are no media ranges, in the header's order, each as it came, without the white space around it.
+    /// Returns the entries that aren't ranges, in the header's order, each as it was passed, without the white space around it.
     pub fn bad(&self) -> &[Vec<u8>]
         ensures { map vec_items result.now ≡ self.now.bad }
     {
         &self.bad
     }
 
-    /// The weight of an offer in thousandths: that of the closest range that covers it, of two as close the higher, and 0 without one
-    /// (RFC 9110, 12.5.1), as [`covers`](crate::covers) says. It allocates nothing. An offer `application/json` weighs nothing for the
-    /// range `application/json; charset=utf-8`, which demands the parameter.
+    /// Returns the weight of an offer, in thousandths: that of the most specific range that covers it (of two equally specific
+    /// ones, the higher weight), or 0 if none does (RFC 9110, 12.5.1). [`covers`](crate::covers) says what a range covers. It
+    /// allocates nothing. An offer `application/json` weighs nothing for the range `application/json; charset=utf-8`, which
+    /// demands the parameter.
     pub fn weight(&self, offer: &Mime) -> u16
         ensures { result ≡ given_weight self.now.ranges offer.now.media }
     {
         merit(&self.ranges, offer).0
     }
 
-    /// The position of the best of these offers: that of the highest weight, then of the closer range (the parts that it names, then the
-    /// parameters that it demands), then of the range that stands earlier (of two alike the later counts), and then the first offered. It
-    /// is `None` exactly if each weighs 0, so that 406 is the answer (RFC 9110, 15.5.7). Either answer depends on the header, so it says
-    /// `Vary: Accept` (12.5.5). It allocates nothing.
+    /// Returns the position of the offer with the highest weight, or `None` exactly if every offer weighs 0. Ties go to the offer whose
+    /// range is more specific (it names more parts, then more parameters), then to the one whose range comes first (if two of its ranges
+    /// tie, the later counts), then to the first offer. For `None` reply with 406 (RFC 9110, 15.5.7). Every reply depends on the header,
+    /// so send `Vary: Accept` (12.5.5). It allocates nothing.
     pub fn best(&self, offers: &[Mime]) -> Option<usize>
         ensures exact { result ≡ best_offer self.now.ranges (map (λ offer. offer.media) offers.now) }
         ensures within { IfSome result (λ at. at < length offers.now) }
@@ -218,11 +220,11 @@ impl Accept {
         best_of(&self.ranges, offers)
     }
 
-    /// The positions of all offers that weigh more than 0, in the order in which `best` takes them: the first is what `best` gives. It
-    /// allocates for the positions and, while it runs, for what each offer is given.
+    /// Returns the positions of all offers that weigh more than 0, the best first, in the order of `best`, which returns the first
+    /// of them. It allocates for the positions and, while it runs, for the rank of each offer.
     ///
     /// # Errors
-    /// `AllocError` if memory runs out, which is never without offers.
+    /// `AllocError` if memory runs out, which never happens without offers.
     pub fn order(&self, alloc: Global, offers: &[Mime]) -> Result<Vec<usize>, AllocError>
         ensures order { IfOk result (λ order. AreInOrder self.now.ranges (map (λ offer. offer.media) offers.now) (vec_items order)) }
         ensures none { offers.now ≡ [] → IsOk result }

@@ -8,7 +8,7 @@ ghost use Rattle.mime_http.specs.RangesLaws.{ClosestIsClosest, BestIsAcceptable,
 
 use crate::value::FieldError;
 
-/// What the library `mime` reads is what HTTP writes: `a/b; p=x;`.
+/// What the library `mime` reads, HTTP allows, and it is read as the same media type: `a/b; p=x;`.
 #[tactic(auto, using(crate::proofs::PlainIsHttp::plain_is_http))]
 pub fn plain_is_http()
     ensures { PlainIsHttp }
@@ -20,7 +20,7 @@ pub fn one_http_reading()
     ensures { OneHttpReading }
 {}
 
-/// One text is printed of a value: of ` text/html ;; charset="utf-8"` it is `text/html; charset=utf-8`.
+/// Exactly one text is printed for a value: for ` text/html ;; charset="utf-8"` it is `text/html; charset=utf-8`.
 pub fn one_printed_text()
     ensures { OnePrintedText }
 {}
@@ -43,13 +43,14 @@ pub fn one_cut()
     ensures { OneCut }
 {}
 
-/// Of lists as HTTP writes them the elements are read, and none is bad: `,a/b ,, c/d;q=0.5` has `a/b` and `c/d;q=0.5` (RFC 9110, 5.6.1.2).
+/// A list that HTTP allows is read as its elements, and no entry is bad: `,a/b ,, c/d;q=0.5` has `a/b` and `c/d;q=0.5` (RFC 9110,
+/// 5.6.1.2).
 #[tactic(auto, using(crate::proofs::Lists::http_lists_are_read))]
 pub fn http_lists_are_read()
     ensures { HttpListsAreRead }
 {}
 
-/// Lines of which no entry is bad are lists as HTTP writes them.
+/// Lines without a bad entry are lists that HTTP allows.
 #[tactic(auto, using(crate::proofs::Lists::read_are_http_lists))]
 pub fn read_are_http_lists()
     ensures { ReadAreHttpLists }
@@ -60,13 +61,14 @@ pub fn one_header()
     ensures { OneHeader }
 {}
 
-/// A bad entry changes no other, wherever it stands, and no offer's weight: `c/d, a b` and `c/d` have the same ranges.
+/// A bad entry changes no other entry, wherever it is, and no offer's weight: `c/d, a b` and `c/d` have the same
+/// ranges.
 #[tactic(auto, using(crate::proofs::Lists::bad_is_alone))]
 pub fn bad_is_alone()
     ensures { BadIsAlone }
 {}
 
-/// The closest range covers the offer, and no other that covers it is closer.
+/// The most specific range covers the offer, and no range that covers it is more specific.
 #[tactic(auto, using(crate::proofs::Picked::closest_is_closest))]
 pub fn closest_is_closest()
     ensures { ClosestIsClosest }
@@ -96,8 +98,8 @@ pub fn covers_itself()
     ensures { CoversItself }
 {}
 
-/// How closely a range covers an offer is a matter of what both mean: `a/b;p="\x"` covers `a/b;p=x` as closely as `a/b;p=x` does (RFC 9110,
-/// 5.6.4).
+/// Whether a range covers an offer, and how specific it is, depends on what both mean: `a/b;p="\x"` covers `a/b;p=x` just as `a/b;p=x`
+/// does (RFC 9110, 5.6.4).
 #[tactic(auto, using(crate::proofs::Meanings::meaning_counts))]
 pub fn meaning_counts()
     ensures { MeaningCounts }
@@ -110,7 +112,7 @@ pub fn weight_is_number()
 {}
 
 /// A range that covers none of the offers changes neither their weights nor which is the best nor their order: for `text/html` and
-/// `text/plain` an `image/png;q=0` is of no account.
+/// `text/plain` the range `image/png;q=0` doesn't matter.
 pub fn stranger_changes_nothing()
     ensures { StrangerChangesNothing }
 {}

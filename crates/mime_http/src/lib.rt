@@ -1,20 +1,20 @@
-//! What a server reads in the headers of HTTP, as HTTP writes it (RFC 9110), over the library `mime`, whose `from_str` rejects some
-//! valid values. What it promises are contracts that a prover checks.
+//! Reads and writes media types in headers of HTTP for servers, as RFC 9110 defines them. It uses the library `mime`, whose
+//! `from_str` rejects some valid values. Its promises are contracts that a prover checks.
 //!
 //! [`content_type`] reads the bytes of a header's value, such as that of a `Content-Type`. [`Accept`] reads the lines of an
-//! `Accept` header, weighs what a server offers, and gives the best offer or all in order; [`covers`] and [`weight_of`] say it of
-//! a range alone. [`with_parameter`], [`with_charset`] and [`with_boundary`] write parameters, [`boundary`] and [`unescape`] read
-//! them. [`laws`] says what holds of all values.
+//! `Accept` header, weighs a server's offers, and returns the best offer, or all in order; [`covers`] and [`weight_of`] are about
+//! a single range. [`with_parameter`], [`with_charset`] and [`with_boundary`] write parameters, [`boundary`] and [`unescape`]
+//! read them. [`laws`] states what is true of all values.
 //!
 //! # Example
-//! What a server asks of two headers of a request. It refuses no body of ` application/json ;; charset=utf-8`.
+//! This is how a server checks two headers of a request. It accepts a body of ` application/json ;; charset=utf-8`.
 //!
 //! ```rust
 //! use mime::Mime;
 //! use mime_http::{Accept, FieldError, content_type};
 //! use std::alloc::Global;
 //!
-//! /// The status that refuses a body with this `Content-Type`, if one does: JSON alone is taken.
+//! /// Returns the status that rejects a body with this `Content-Type`, or `None` if it is JSON.
 //! pub fn refusal(alloc: Global, value: &[u8]) -> Option<u16> {
 //!     match content_type(alloc, value) {
 //!         Ok(mime) => (mime.essence_str() != "application/json").then_some(415),
@@ -23,7 +23,7 @@
 //!     }
 //! }
 //!
-//! /// What is sent of these offers, for the lines of an `Accept` header, or the status without one.
+//! /// Returns the offer to send, given the lines of `Accept`, or the status if none is acceptable.
 //! pub fn chosen<'o>(alloc: Global, lines: &[&[u8]], offers: &'o [Mime]) -> Result<&'o Mime, u16> {
 //!     let accept = Accept::from_lines(alloc, lines).map_err(|_| 503_u16)?;
 //!     let best = accept.best(offers).ok_or(406_u16)?;
@@ -32,13 +32,13 @@
 //! ```
 //!
 //! # Errors
-//! A value that isn't a media type is rejected with its one fault, at its position in the bytes that were given: what is
-//! missing at its end, or the first byte that no media type has there. White space may follow a media type, so in `a/b c` the `c`
-//! is at fault; in `text ` the space is. Positions count bytes from 0.
+//! A value that isn't a media type is rejected with its one fault: what is missing at its end, or the first byte that no media
+//! type has there, with its position in the bytes that were passed. White space may follow a media type, so in `a/b c` the `c` is
+//! at fault; in `text ` the space is. Positions count bytes from 0.
 //!
 //! # Standards
-//! Values are those of RFC 9110 (8.3.1, 5.6.3, 5.6.4 and 5.6.6) in UTF-8: bytes past ASCII that aren't (obs-text) are rejected.
-//! A quoted value keeps its backslashes, as in `mime`; [`unescape`] takes them out.
+//! Values are those of RFC 9110 (8.3.1, 5.6.3, 5.6.4 and 5.6.6) in UTF-8: other bytes past ASCII (obs-text) are rejected. A
+//! value keeps its backslashes, as in `mime`; [`unescape`] removes them.
 #![tactic(auto)]
 
 mod accept;

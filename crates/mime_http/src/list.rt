@@ -7,23 +7,23 @@ ghost use Rattle.mime.specs.Grammar.{is_space};
 ghost use Rattle.mime_http.specs.HttpList.{trim_start, trim_end};
 ghost use Rattle.mime_http.specs.LineCut.{Outside, Quoted, AreUnmarked, IsNextMark, cut_from, cut, cut_after};
 
-use mime_search::{BLOCK, Class, content_end, first_stop};
+use mime_search::{Class, content_end, first_stop};
 use std::simd::prelude::*;
 
-/// The position of the first comma or equals sign from a position on, or the length.
+/// Returns the position of the first comma or equals sign from a position on, or the length.
 #[inline(always)]
 fn next_outside(line: &[u8], from: usize) -> usize
     requires { from < length line.now }
     ensures { IsNextMark comma_byte equals_byte line.now from result }
 {
-    // The short way for the sign before a string, and for signs in a row.
+    // This is quick for the sign before a string, and for signs in a row.
     if line[from] == b'=' {
         return from;
     }
     first_stop(line, from, &Class::of(b',', b'='))
 }
 
-/// The position after the closing quote of the string that `from` is in, or the length.
+/// Returns the position after the closing quote of the string that `from` is in, or the length.
 #[inline(always)]
 fn string_end(line: &[u8], from: usize) -> usize
     requires { from ≤ length line.now }
@@ -35,8 +35,8 @@ fn string_end(line: &[u8], from: usize) -> usize
     if end < line.len() { end + 1 } else { end }
 }
 
-/// The length of a line's first piece, of which the first comma or quote is the quote at a position. It isn't inlined: few pieces have a
-/// quote.
+/// Returns the length of a line's first piece, of which the first comma or quote is the quote at a position. It isn't inlined: few
+/// pieces have a quote.
 #[inline(never)]
 fn quoted_piece_len(line: &[u8], quote: usize) -> usize
     requires within { quote ≤ length line.now }
@@ -63,7 +63,7 @@ fn quoted_piece_len(line: &[u8], quote: usize) -> usize
     at
 }
 
-/// Whether the piece of a line that begins at a position is empty, and a comma ends it.
+/// Returns `true` if the piece of a line that begins at a position is empty, and a comma ends it.
 #[inline(always)]
 pub(crate) fn is_empty_piece(line: &[u8], from: usize) -> bool
     ensures { result ≡ true → (from < length line.now) × (slice_index line.now from ≡ comma_byte) }
@@ -71,7 +71,8 @@ pub(crate) fn is_empty_piece(line: &[u8], from: usize) -> bool
     from < line.len() && line[from] == b','
 }
 
-/// The end of the piece of a line that begins at a position: the position of the first comma outside strings, or the length.
+/// Returns the end of the piece of a line that begins at a position: the position of the first comma outside strings, or the
+/// length.
 #[inline(always)]
 pub(crate) fn piece_end(line: &[u8], from: usize) -> usize
     requires { from ≤ length line.now }
@@ -86,14 +87,15 @@ pub(crate) fn piece_end(line: &[u8], from: usize) -> usize
     mark
 }
 
-/// Whether a byte is white space (RFC 9110, 5.6.3).
+/// Returns `true` if a byte is white space (RFC 9110, 5.6.3).
 pub(crate) fn is_space(byte: u8) -> bool
     ensures { result ≡ is_space byte }
 {
     byte == b' ' || byte == b'\t'
 }
 
-/// A piece without the white space before it. It isn't inlined: most pieces begin with no white space, or with one space.
+/// Returns a piece without the white space before it. It isn't inlined: most pieces begin with no white space, or with one
+/// space.
 #[inline(never)]
 fn trim_spaces(piece: &[u8]) -> &[u8]
     ensures { result.now ≡ trim_start piece.now }
@@ -106,7 +108,7 @@ fn trim_spaces(piece: &[u8]) -> &[u8]
     &[]
 }
 
-/// A piece without the white space before it.
+/// Returns a piece without the white space before it.
 #[inline(always)]
 pub(crate) fn trim_start(piece: &[u8]) -> &[u8]
     ensures { result.now ≡ trim_start piece.now }
@@ -123,7 +125,7 @@ pub(crate) fn trim_start(piece: &[u8]) -> &[u8]
 /// The number of bytes that are tested for ASCII at once.
 const ASCII_BLOCK: usize = 32;
 
-/// Whether a block that begins at a position is ASCII.
+/// Returns `true` if a block that begins at a position is ASCII.
 #[inline(always)]
 fn is_ascii_block(text: &[u8], at: usize) -> bool
     requires { at + ASCII_BLOCK ≤ length text.now }
@@ -133,7 +135,7 @@ fn is_ascii_block(text: &[u8], at: usize) -> bool
     bytes.simd_gt(u8x32::splat(127)).to_bitmask() == 0
 }
 
-/// Whether a line from 32 up to 256 bytes is ASCII. The pieces of another are looked at one by one instead.
+/// Returns `true` if a line of 32 to 256 bytes is ASCII. The pieces of any other line are tested one by one.
 #[inline(never)]
 pub(crate) fn is_short_ascii(line: &[u8]) -> bool
     ensures { result ≡ true → IsAscii line.now }
@@ -152,7 +154,7 @@ pub(crate) fn is_short_ascii(line: &[u8]) -> bool
     is_ascii_block(line, last)
 }
 
-/// A piece without the white space after it. It isn't inlined: most pieces end in no white space.
+/// Returns a piece without the white space after it. It isn't inlined: most pieces end in no white space.
 #[inline(never)]
 fn trim_spaces_after(piece: &[u8]) -> &[u8]
     ensures { result.now ≡ trim_end piece.now }
@@ -164,7 +166,7 @@ fn trim_spaces_after(piece: &[u8]) -> &[u8]
     &piece[..end]
 }
 
-/// A piece without the white space after it.
+/// Returns a piece without the white space after it.
 #[inline(always)]
 pub(crate) fn trim_end(piece: &[u8]) -> &[u8]
     ensures { result.now ≡ trim_end piece.now }

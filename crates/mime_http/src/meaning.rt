@@ -1,9 +1,9 @@
-//! Do two values mean the same?
+//! Whether two values mean the same.
 
 ghost use Rattle.std.specs.Prelude.{◌≡◌, ◌<◌, [], ◌∷◌, IfSome, MatchOption, bytes_eq, length};
 ghost use Rattle.mime_http.specs.Unescaped.{unescaped};
 
-/// The first byte that a value means, and what is left after it.
+/// Returns the first byte that a value means, and what is left after it.
 #[inline(always)]
 fn split_first(value: &[u8]) -> Option<(u8, &[u8])>
     ensures meant { MatchOption result (unescaped value.now ≡ []) (λ first. unescaped value.now ≡ first.0 ∷ unescaped first.1.now) }
@@ -16,7 +16,8 @@ fn split_first(value: &[u8]) -> Option<(u8, &[u8])>
     }
 }
 
-/// Whether two values mean the same, byte by byte up to the first that differs. It isn't inlined: few ranges get so far.
+/// Returns `true` if two values mean the same, byte by byte up to the first that differs. It isn't inlined: few ranges get so
+/// far.
 #[inline(never)]
 fn mean_the_same_bytes(value: &[u8], other: &[u8]) -> bool
     ensures { result ≡ bytes_eq (unescaped value.now) (unescaped other.now) }
@@ -35,8 +36,8 @@ fn mean_the_same_bytes(value: &[u8], other: &[u8]) -> bool
     split_first(other_left).is_none()
 }
 
-/// Whether two values of parameters mean the same: a backslash and the byte after it mean that byte (RFC 9110, 5.6.4). It allocates
-/// nothing.
+/// Returns `true` if two values of parameters mean the same: a backslash and the byte after it mean that byte (RFC 9110, 5.6.4). It
+/// doesn't allocate.
 pub(crate) fn mean_the_same(value: &str, other: &str) -> bool
     ensures { result ≡ bytes_eq (unescaped value.now) (unescaped other.now) }
 {

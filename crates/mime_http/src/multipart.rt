@@ -13,13 +13,13 @@ use crate::range::first_value;
 use mime::Mime;
 use std::alloc::{AllocError, Global};
 
-/// A byte that may stand in a boundary.
+/// A byte that may occur in a boundary.
 const Y: bool = true;
 
-/// One that may not.
+/// A byte that may not.
 const N: bool = false;
 
-/// Which bytes may stand in a boundary.
+/// Which bytes may occur in a boundary.
 static BOUNDARY_BYTES: [bool; 256] = [
     N, N, N, N, N, N, N, N, N, N, N, N, N, N, N, N, N, N, N, N, N, N, N, N, N, N, N, N, N, N, N, N,
     Y, N, N, N, N, N, N, Y, Y, Y, N, Y, Y, Y, Y, Y, Y, Y, Y, Y, Y, Y, Y, Y, Y, Y, Y, N, N, Y, N, Y,
@@ -34,7 +34,7 @@ static BOUNDARY_BYTES: [bool; 256] = [
 /// The number of bytes that a boundary has at most.
 const LONGEST: usize = 70;
 
-/// Whether a byte may stand in a boundary.
+/// Returns `true` if a byte may occur in a boundary.
 #[inline(always)]
 fn is_boundary_byte(byte: u8) -> bool
     ensures { result ≡ is_bchar byte }
@@ -42,7 +42,7 @@ fn is_boundary_byte(byte: u8) -> bool
     BOUNDARY_BYTES[byte as usize]
 }
 
-/// Whether all of these bytes may stand in a boundary.
+/// Returns `true` if all of these bytes may occur in a boundary.
 fn are_boundary_bytes(bytes: &[u8]) -> bool
     ensures { result ≡ list_all is_bchar bytes.now }
 {
@@ -53,8 +53,8 @@ fn are_boundary_bytes(bytes: &[u8]) -> bool
     all
 }
 
-/// Whether bytes are a boundary: 1 to 70 letters, digits, spaces and marks of `'()+_,-./:=?`, with no space at the end (RFC 2046, 5.1.1).
-/// `a b` is one, `a ` and `a;b` aren't.
+/// Returns `true` if bytes are a boundary: 1 to 70 letters, digits, spaces and marks of `'()+_,-./:=?`, with no space at the end (RFC
+/// 2046, 5.1.1). `a b` is one, `a ` and `a;b` aren't.
 pub fn is_boundary(bytes: &[u8]) -> bool
     ensures { IsTrue result ↔ IsBoundary bytes.now }
 {
@@ -64,8 +64,8 @@ pub fn is_boundary(bytes: &[u8]) -> bool
     }
 }
 
-/// The boundary that a parameter's value means, if it means one. A value that is too long to mean one asks for no memory, nor does one
-/// that has no backslash and isn't a boundary.
+/// Returns the boundary that a parameter's value means, if it means one. It doesn't allocate for a value that is too long, nor for
+/// one that has no backslash and isn't a boundary.
 fn meant_boundary(alloc: Global, value: &str) -> Result<Option<Vec<u8>>, AllocError>
     ensures { IfOk result (λ answer. MatchOption answer (¬ (IsBoundary (unescaped value.now)))
         (λ boundary. (vec_items boundary ≡ unescaped value.now) × IsBoundary (unescaped value.now))) }
@@ -75,7 +75,7 @@ fn meant_boundary(alloc: Global, value: &str) -> Result<Option<Vec<u8>>, AllocEr
         // It has no backslash, so it means itself.
         return Ok(Some(bytes.to_vec(alloc)?));
     }
-    // Two bytes mean one at least, but for a backslash at the end.
+    // Two bytes mean at least one, except a backslash at the end.
     if bytes.len() > 2 * LONGEST + 1 || !value.contains('\\') {
         return Ok(None);
     }
@@ -88,7 +88,8 @@ fn meant_boundary(alloc: Global, value: &str) -> Result<Option<Vec<u8>>, AllocEr
     }
 }
 
-/// The boundary that the first parameter `boundary` means, if it means one. It isn't inlined: most media types aren't `multipart`.
+/// Returns the boundary that the first parameter `boundary` means, if it means one. It isn't inlined: most media types aren't
+/// `multipart`.
 #[inline(never)]
 fn first_boundary(alloc: Global, mime: &Mime) -> Result<Option<Vec<u8>>, AllocError>
     ensures meant { IfOk result (λ answer. MatchOption answer

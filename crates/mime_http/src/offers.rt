@@ -1,4 +1,4 @@
-//! What the ranges of an `Accept` header give a server's offers.
+//! The weights that the ranges of an `Accept` header give to a server's offers.
 
 ghost use Rattle.std.specs.Prelude.{◌≡◌, ◌<◌, [], None, map, length, IfSome, IfOk, IsOk};
 ghost use Rattle.std.specs.Option.{option_cmp};
@@ -24,7 +24,7 @@ struct Offer<'a> {
 }
 
 impl<'a> Offer<'a> {
-    /// An offer with its parts.
+    /// Returns an offer with its parts.
     #[inline(always)]
     fn of(mime: &'a Mime) -> Offer<'a>
         ensures { result.mime.now.media ≡ mime.now.media }
@@ -37,7 +37,7 @@ impl<'a> Offer<'a> {
     }
 }
 
-/// How closely the closest range so far covers an offer, if one does: the parts that it names, the parameters that it demands, its
+/// The most specific range so far that covers an offer, if one does: how many parts it names, how many parameters it demands, its
 /// weight, and its position.
 #[derive(Drop)]
 struct Closest {
@@ -57,7 +57,7 @@ impl Model for Closest {
 }
 
 impl Closest {
-    /// No range so far.
+    /// Returns the state before any range.
     #[inline(always)]
     fn none() -> Closest
         ensures { result ≡ None }
@@ -70,8 +70,7 @@ impl Closest {
         }
     }
 
-    /// Keeps the range at this position if none so far is closer. One that names fewer parts than that can't be it, so nothing else of it
-    /// is looked at.
+    /// Keeps the range at this position if none so far is more specific. If it names fewer parts, nothing else of it is examined.
     #[inline(always)]
     fn look_at(&mut self, range: &Mime, offer: Offer<'_>, at: usize)
         ensures { self.new ≡ ord_max (option_cmp rank_cmp) self.old (closeness offer.entry.mime.now.media (at, range.now.media)) }
@@ -98,7 +97,7 @@ impl Closest {
         self.at = at;
     }
 
-    /// What it is.
+    /// Returns what it is.
     #[inline(always)]
     fn found(self) -> Option<(u8, usize, u16, usize)>
         ensures { result ≡ self }
@@ -108,7 +107,7 @@ impl Closest {
     }
 }
 
-/// How closely the closest of these ranges covers an offer.
+/// Finds the most specific of these ranges that covers an offer.
 #[inline(always)]
 fn closest_of(ranges: &[Mime], offer: &Mime) -> Option<(u8, usize, u16, usize)>
     ensures { result ≡ closest (map (λ range. range.media) ranges.now) offer.now.media }
@@ -121,7 +120,7 @@ fn closest_of(ranges: &[Mime], offer: &Mime) -> Option<(u8, usize, u16, usize)>
     closest.found()
 }
 
-/// How an offer ranks: by the weight that the closest range gives it, then by how closely that covers it, then by how early that stands.
+/// Returns the rank of an offer: its weight, then how specific its range is, then how early its range comes.
 #[inline(always)]
 pub(crate) fn merit(ranges: &[Mime], offer: &Mime) -> (u16, u8, usize, usize)
     ensures { result ≡ merit (map (λ range. range.media) ranges.now) offer.now.media }
@@ -137,7 +136,7 @@ pub(crate) fn merit(ranges: &[Mime], offer: &Mime) -> (u16, u8, usize, usize)
     }
 }
 
-/// The position of the first offer of the highest rank; `None` if all weigh 0.
+/// Returns the position of the first offer of the highest rank; `None` if all weigh 0.
 pub(crate) fn best_of(ranges: &[Mime], offers: &[Mime]) -> Option<usize>
     ensures exact { result ≡ best_offer (map (λ range. range.media) ranges.now) (map (λ offer. offer.media) offers.now) }
     ensures within { IfSome result (λ at. at < length offers.now) }
@@ -154,7 +153,7 @@ pub(crate) fn best_of(ranges: &[Mime], offers: &[Mime]) -> Option<usize>
     if most.0 > 0 { best } else { None }
 }
 
-/// The positions of offers.
+/// Returns the positions of offers.
 fn positions(
     alloc: Global,
     offers: &[(Reverse<(u16, u8, usize, usize)>, usize)],
@@ -164,7 +163,7 @@ fn positions(
     offers.iter().map(|offer| offer.1).collect(alloc)
 }
 
-/// The positions of the offers that weigh more than 0, the best first.
+/// Returns the positions of the offers that weigh more than 0, the best first.
 pub(crate) fn order_of(
     alloc: Global,
     ranges: &[Mime],

@@ -1,4 +1,4 @@
-//! A parameter written into a media type, as a header then holds it.
+//! Media types with a new parameter, as they are written in a header.
 
 ghost use Rattle.std.specs.Prelude.{◌≡◌, ◌++◌, ◌↔◌, IsTrue, IfOk, IsOk, IfSome, OnOk, is_some, if◌then◌else◌, codes, string_bytes, length};
 ghost use Rattle.mime.specs.Grammar.{IsToken};
@@ -16,7 +16,7 @@ use mime::laws::{kept_is_safe, one_reading};
 use mime::{KnownText, Mime, is_token, name_eq_str};
 use std::alloc::{AllocError, Global};
 
-/// Whether a string is a token.
+/// Returns `true` if a string is a token.
 fn is_token_text(text: &str) -> bool
     ensures { result ≡ is_token_value text.now }
 {
@@ -28,7 +28,7 @@ fn is_token_text(text: &str) -> bool
     !text.is_empty()
 }
 
-/// Whether a string has no ASCII capital.
+/// Returns `true` if a string has no ASCII capital.
 fn is_lowercase(text: &str) -> bool
     ensures { IsTrue result → lowered text.now ≡ text.now }
 {
@@ -40,7 +40,7 @@ fn is_lowercase(text: &str) -> bool
     true
 }
 
-/// Whether a parameter is kept as it is written: without a capital in what is kept in lowercase.
+/// Returns `true` if a parameter is kept as it is written: without a capital in what is kept in lowercase.
 #[tactic(auto, using(crate::proofs::Contents::kept_low))]
 fn is_kept_as_written(name: &str, value: &str) -> bool
     ensures { IsTrue result → (lowered name.now ≡ name.now) × (lowered_value name.now (escaped value.now) ≡ escaped value.now) }
@@ -48,7 +48,7 @@ fn is_kept_as_written(name: &str, value: &str) -> bool
     is_lowercase(name) && (name != "charset" || is_lowercase(value))
 }
 
-/// How a value is written that needs no backslashes but those that it has.
+/// Returns the form of a value that needs no other backslashes than those that it has.
 fn form_of_content(content: &str) -> Form
     ensures { result ≡ (if is_token_value content.now then Token else Quoted) }
 {
@@ -82,7 +82,7 @@ fn push_parameter(text: &mut String, name: &str, value: &str, form: Form) -> Res
     }
 }
 
-/// A media type's essence, its parameters of other names, and this one; and how many the others are.
+/// Returns a media type's essence, its parameters of other names, and this one; and how many the others are.
 fn text_with(
     alloc: Global,
     mime: &Mime,
@@ -123,7 +123,7 @@ fn text_with(
     Ok((text, count))
 }
 
-/// The media type with this parameter in place of those of its name.
+/// Returns the media type with this parameter in place of those of its name.
 fn mime_with(
     alloc: Global,
     mime: &Mime,
@@ -136,7 +136,7 @@ fn mime_with(
     requires fits { form ≡ form_of value.now }
     ensures { IfOk result (λ made. made.media ≡ with_pair mime.now.media (lowered name.now) (lowered_value name.now (escaped value.now))) }
 {
-    // For the proof: what the kept text holds may stand in a header.
+    // For the proof: what the kept text holds may occur in a header.
     let _kept = mime.as_str();
     kept_is_safe();
     one_reading();
@@ -163,14 +163,14 @@ fn mime_with(
 /// parameters stay as they are, in their order, and this one comes last. `text/html; charset=utf-8` with the parameter `title` and the
 /// value `a "b"` is `text/html; charset=utf-8; title="a \"b\""`.
 ///
-/// `None` exactly if the name isn't a token, or the value has a byte that no quoted string can hold: a control character other than
-/// the tab. So neither can add a parameter, nor anything else to a header.
+/// It returns `None` exactly if the name isn't a token, or the value has a byte that no quoted string can hold: a control character
+/// other than the tab. So neither can inject a parameter, or anything else, into a header.
 ///
 /// A value is printed as it is if it is a token. Any other is in quotes, with a backslash before each quote and each backslash (5.6.4);
-/// [`unescape`](crate::unescape) of the parameter's value gives it back, that of a `charset` in lowercase. The others are printed so
-/// too, with the backslashes that they have: `a/b;p="x"` with the parameter `q` and the value `1` is `a/b; p=x; q=1`.
+/// [`unescape`](crate::unescape) of the parameter's value returns it, in lowercase for a `charset`. The other parameters are printed in
+/// the same way, with the backslashes that they have: `a/b;p="x"` with the parameter `q` and the value `1` is `a/b; p=x; q=1`.
 ///
-/// It allocates the text, which may grow, and once more at most for what is kept of it, if that has more than 40 bytes.
+/// It allocates the text, which may grow, and at most once more for what is kept of it, if that has more than 40 bytes.
 ///
 /// # Errors
 /// `AllocError` if memory runs out, which is never if the answer is `None`.
@@ -213,7 +213,7 @@ pub fn with_charset(alloc: Global, mime: &Mime, charset: &str) -> Result<Option<
 
 /// Returns the media type with this boundary in place of its own, as [`with_parameter`] writes it; `None` exactly if these bytes aren't a
 /// boundary (RFC 2046, 5.1.1), as [`is_boundary`] says. `multipart/mixed` with the boundary `a b` is `multipart/mixed; boundary="a b"`.
-/// Any media type is taken, though a boundary means something in those of the type `multipart` alone.
+/// Any media type is accepted, though a boundary has a meaning only for the type `multipart`.
 ///
 /// # Errors
 /// `AllocError` if memory runs out, which is never if the answer is `None`.

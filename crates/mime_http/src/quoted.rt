@@ -29,7 +29,7 @@ pub fn unescape(value: &str, buffer: &mut Vec<u8>) -> Result<(), AllocError>
     Ok(())
 }
 
-/// Moves what the bytes from this position on mean to that position, and returns where it ends.
+/// Replaces the bytes from this position on by what they mean, and returns where that ends.
 fn unescape_in_place(bytes: &mut [u8], start: usize) -> usize
     requires { start ≤ length bytes.old }
     ensures meant { take result bytes.new ≡ take start bytes.old ++ unescaped (drop start bytes.old) }
@@ -59,16 +59,16 @@ pub(crate) enum Form {
     Escaped,
 }
 
-/// A byte that may stand in no quoted string.
+/// A byte that may not occur in a quoted string.
 const N: u8 = 0;
 
-/// One that may stand there after a backslash: a quote or a backslash.
+/// A byte that may occur there after a backslash: a quote or a backslash.
 const B: u8 = 1;
 
-/// One that may stand there as it is, and in no token.
+/// A byte that may occur there as it is, and not in a token.
 const Q: u8 = 3;
 
-/// One that may stand in a token, too.
+/// A byte that may also occur in a token.
 const T: u8 = 7;
 
 /// The kind of each byte. Its lowest bit says that the byte may be in a value, the next one that it needs no backslash, and the third
@@ -84,10 +84,10 @@ static KINDS: [u8; 256] = [
     Q, Q, Q, Q, Q, Q, Q, Q, Q, Q, Q, Q, Q, Q, Q, Q, Q, Q, Q, Q, Q, Q, Q, Q, Q, Q, Q, Q, Q, Q, Q, Q,
 ];
 
-/// The size of a block. The search for a byte that may stand in no quoted string stops between blocks alone.
+/// The size of a block. The search for a byte that may not occur in a quoted string stops only between blocks.
 const KIND_BLOCK: usize = 64;
 
-/// The kind of a byte.
+/// Returns the kind of a byte.
 #[inline(always)]
 fn kind_of_byte(byte: u8) -> u8
     ensures { result ≡ kind_of (byte ∷ []) }
@@ -95,7 +95,7 @@ fn kind_of_byte(byte: u8) -> u8
     KINDS[byte as usize]
 }
 
-/// The bits that the kinds of all bytes of a block have.
+/// Returns the bits that the kinds of all bytes of a block have.
 #[inline(always)]
 #[tactic(auto, using(crate::proofs::Forms::kind_of_more))]
 fn kind_of_block(block: &[u8]) -> u8
@@ -108,7 +108,7 @@ fn kind_of_block(block: &[u8]) -> u8
     kind
 }
 
-/// The bits that the kinds of all bytes of a value have.
+/// Returns the bits that the kinds of all bytes of a value have.
 #[tactic(auto, using(crate::proofs::Forms::block_seen))]
 fn kind_of(value: &[u8]) -> u8
     ensures { result ≡ kind_of value.now }
@@ -123,7 +123,8 @@ fn kind_of(value: &[u8]) -> u8
     kind
 }
 
-/// How a value is written; `None` if no quoted string can mean it, since it has a control character other than the tab.
+/// Returns how a value is written, or `None` if no quoted string can mean it, since it has a control character other
+/// than the tab.
 #[tactic(auto, using(crate::proofs::Forms::token_from_kind))]
 pub(crate) fn form_of(value: &str) -> Option<Form>
     ensures { result ≡ (if list_all is_quoted_byte value.now then Some (form_of value.now) else None) }
@@ -140,7 +141,7 @@ pub(crate) fn form_of(value: &str) -> Option<Form>
     }
 }
 
-/// The position of the first quote or backslash from this position on, or the length if there is none.
+/// Returns the position of the first quote or backslash from this position on, or the length if there is none.
 #[inline(always)]
 #[tactic(auto, using(crate::proofs::Forms::plain_from_kind, crate::proofs::Forms::plain_more))]
 fn special_from(value: &str, from: usize) -> usize

@@ -1,4 +1,4 @@
-//! Does a range cover an offer, and how closely?
+//! Whether a range covers an offer, and how specific it is.
 
 ghost use Rattle.std.specs.Prelude.{◌≡◌, ◌++◌, Some, None, length, drop, option_map, unwrap_or, is_some, if◌then◌else◌, codes, bytes_eq};
 ghost use Rattle.std.specs.List.{list_all};
@@ -29,14 +29,14 @@ impl ParamKey for Exactly<'_> {
     }
 }
 
-/// The first value under a name, which is in lowercase.
+/// Returns the first value under a name, which is in lowercase.
 pub(crate) fn first_value<'a>(mime: &'a Mime, name: &str) -> Option<Name<'a>>
     ensures { option_map name_text result ≡ first_value name.now mime.now.media.pairs }
 {
     mime.get_param(Exactly(name))
 }
 
-/// The weight that the value of a `q` is, in thousandths, or 1000 without one.
+/// Returns the weight that the value of a `q` is, in thousandths, or 1000 without one.
 #[inline]
 fn weight_in(value: Option<&str>) -> u16
     ensures { result ≡ unwrap_or (option_map (λ text. thousandths_of text.now) value.entry) 1000 }
@@ -47,8 +47,8 @@ fn weight_in(value: Option<&str>) -> u16
     }
 }
 
-/// The weight of a range in thousandths, or 1000 if it has none (RFC 9110, 12.4.2). The first `q` counts, quoted or not: the weight is the
-/// number that its text begins with, and at most 1. `.2` is 200, `2` is 1000, `high` and `\1` are 0.
+/// Returns the weight of a range in thousandths, or 1000 if it has none (RFC 9110, 12.4.2). The first `q` counts, quoted or not: the
+/// weight is the number that its text begins with, and at most 1. `.2` is 200, `2` is 1000, `high` and `\1` are 0.
 pub fn weight_of(range: &Mime) -> u16
     ensures { result ≡ weight_of range.now.media }
 {
@@ -58,7 +58,8 @@ pub fn weight_of(range: &Mime) -> u16
     }
 }
 
-/// Whether a range is `*/*`, whatever its parameters. It isn't inlined, so that a range whose length differs isn't looked at.
+/// Returns `true` if a range is `*/*`, whatever its parameters. It isn't inlined, so that a range whose length differs isn't
+/// looked at.
 #[inline(never)]
 fn is_star(range: &Mime) -> bool
     ensures { result ≡ bytes_eq range.now.media.essence (codes "*/*") }
@@ -66,7 +67,7 @@ fn is_star(range: &Mime) -> bool
     range.essence_str() == "*/*"
 }
 
-/// Whether a range is `text/*`, for the type `text`, whatever its parameters. It isn't inlined, as `is_star`.
+/// Returns `true` if a range is `text/*`, for the type `text`, whatever its parameters. It isn't inlined, as `is_star`.
 #[inline(never)]
 fn is_all_of(range: &Mime, type_: &str) -> bool
     ensures { result ≡ bytes_eq range.now.media.essence (type_.now ++ codes "/*") }
@@ -74,7 +75,7 @@ fn is_all_of(range: &Mime, type_: &str) -> bool
     range.essence_str().strip_suffix("/*") == Some(type_)
 }
 
-/// Whether a range has this essence. It isn't inlined, as `is_star`.
+/// Returns `true` if a range has this essence. It isn't inlined, as `is_star`.
 #[inline(never)]
 fn is_same(range: &Mime, essence: &str) -> bool
     ensures { result ≡ bytes_eq range.now.media.essence essence.now }
@@ -82,8 +83,8 @@ fn is_same(range: &Mime, essence: &str) -> bool
     range.essence_str() == essence
 }
 
-/// How many parts of an offer's essence a range names: 0 for `*/*`, 1 for `text/*`, and 2 for `text/html`; `None` if it doesn't cover it.
-/// `type_` is the offer's type.
+/// Returns how many parts of an offer's essence a range names: 0 for `*/*`, 1 for `text/*`, and 2 for `text/html`; `None` if it doesn't
+/// cover it. `type_` is the offer's type.
 #[inline(always)]
 pub(crate) fn named_parts(range: &Mime, essence: &str, type_: &str) -> Option<u8>
     ensures { result ≡ (if bytes_eq range.now.media.essence (codes "*/*") then Some 0 else
@@ -103,7 +104,7 @@ pub(crate) fn named_parts(range: &Mime, essence: &str, type_: &str) -> Option<u8
     }
 }
 
-/// Whether an offer has a parameter of this name, with a value that means the same.
+/// Returns `true` if an offer has a parameter of this name, with a value that means the same.
 fn has(offer: &Mime, name: &str, value: &str) -> bool
     ensures { result ≡ has offer.now.media (name.now, value.now) }
 {
@@ -115,7 +116,7 @@ fn has(offer: &Mime, name: &str, value: &str) -> bool
     false
 }
 
-/// How many parameters a media type has.
+/// Returns how many parameters a media type has.
 pub(crate) fn param_count(mime: &Mime) -> usize
     ensures { result ≡ length mime.now.media.pairs }
 {
@@ -123,8 +124,8 @@ pub(crate) fn param_count(mime: &Mime) -> usize
     count
 }
 
-/// In one walk: how many parameters other than `q` the range has, before and after it (RFC 9110, 12.5.1), if the offer has them all, and its
-/// weight. It isn't inlined: most ranges have no parameter.
+/// Returns how many parameters other than `q` the range has, before and after it (RFC 9110, 12.5.1), if the offer has them all, and its
+/// weight, in one walk. It isn't inlined: most ranges have no parameter.
 #[inline(never)]
 fn demanded_among(range: &Mime, offer: &Mime) -> Option<(usize, u16)>
     ensures { result ≡ (if list_all (has offer.now.media) (demanded range.now.media.pairs)
@@ -146,7 +147,7 @@ fn demanded_among(range: &Mime, offer: &Mime) -> Option<(usize, u16)>
     Some((count, weight_in(weight)))
 }
 
-/// What follows the essence in a media type's kept text: the parameters, with the semicolon before them.
+/// Returns what follows the essence in a media type's kept text: the parameters, with the semicolon before them.
 #[inline(always)]
 pub(crate) fn after_essence(mime: &Mime) -> &[u8]
     ensures after { result.now ≡ drop (length mime.now.media.essence) mime.now.media.kept }
@@ -155,8 +156,8 @@ pub(crate) fn after_essence(mime: &Mime) -> &[u8]
     &mime.as_str().as_bytes()[mime.essence_str().len()..]
 }
 
-/// How many parameters a range demands of an offer, and its weight; `None` if the offer hasn't all of them. The range
-/// `text/html;level=1` is for `text/html;level=1`, and not for all HTML.
+/// Returns how many parameters a range demands of an offer, and its weight, or `None` if the offer doesn't have all of them.
+/// The range `text/html;level=1` demands one.
 #[inline(always)]
 pub(crate) fn demanded(range: &Mime, offer: &Mime) -> Option<(usize, u16)>
     ensures { result ≡ (if list_all (has offer.now.media) (demanded range.now.media.pairs)
@@ -173,9 +174,9 @@ pub(crate) fn demanded(range: &Mime, offer: &Mime) -> Option<(usize, u16)>
     }
 }
 
-/// Whether a range covers an offer: `text/*` covers `text/html`, and `text/html;level=1` covers `text/html;level=1` and not all HTML
-/// (RFC 9110, 12.5.1). The offer must have each parameter of the range, also those after its weight `q`, which itself doesn't matter, with a
-/// value that means the same: a backslash and the byte after it mean that byte, and case counts, but for a charset's.
+/// Returns `true` if a range covers an offer: `text/*` covers `text/html`, and `text/html;level=1` covers `text/html;level=1` and not all
+/// HTML (RFC 9110, 12.5.1). The offer must have each parameter of the range, also those after its weight `q`, which itself doesn't
+/// matter, with a value that means the same: a backslash and the byte after it mean that byte, and case matters, except for a charset.
 pub fn covers(range: &Mime, offer: &Mime) -> bool
     ensures { result ≡ is_some (closeness offer.now.media (0, range.now.media)) }
 {

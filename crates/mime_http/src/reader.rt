@@ -31,7 +31,7 @@ static COMMON_TEXT_BYTES: Class = Class {
 /// The number of bytes of a run after which blocks of it are searched at once.
 const LONG: usize = 16;
 
-/// The position, from one on, of the first byte that isn't white space, or the length.
+/// Returns the position of the first byte, from a position on, that isn't white space, or the length.
 fn spaces_end(value: &[u8], from: usize) -> usize
     requires { from ≤ length value.now }
     ensures end { result ≡ run_end is_space value.now from }
@@ -44,7 +44,7 @@ fn spaces_end(value: &[u8], from: usize) -> usize
     at
 }
 
-/// The position, from one on, of the first byte that may not stand in a token, or the length.
+/// Returns the position of the first byte, from a position on, that may not occur in a token, or the length.
 fn token_end(value: &[u8], from: usize) -> usize
     requires { from ≤ length value.now }
     ensures end { result ≡ run_end is_token_byte value.now from }
@@ -60,7 +60,7 @@ fn token_end(value: &[u8], from: usize) -> usize
     at
 }
 
-/// Whether a byte stands at a position.
+/// Returns `true` if the byte at a position is this one.
 #[inline(always)]
 fn is_at(value: &[u8], pos: usize, byte: u8) -> bool
     ensures yes { result ≡ true → (pos < length value.now) × (slice_index value.now pos ≡ byte) }
@@ -69,7 +69,7 @@ fn is_at(value: &[u8], pos: usize, byte: u8) -> bool
     pos < value.len() && value[pos] == byte
 }
 
-/// Whether a token begins at a position.
+/// Returns `true` if a token begins at a position.
 #[inline(always)]
 fn is_token_at(value: &[u8], pos: usize) -> bool
     ensures yes { result ≡ true → (pos < length value.now) × (is_token_byte (slice_index value.now pos) ≡ true) }
@@ -78,7 +78,7 @@ fn is_token_at(value: &[u8], pos: usize) -> bool
     pos < value.len() && is_token(value[pos])
 }
 
-/// The fault of a value in which no media type goes on at a position: what is missing at its end, or the byte there.
+/// Returns the fault of a value that no media type continues at a position: what is missing at its end, or the byte there.
 fn fault_at(value: &[u8], pos: usize, missing: ParseError) -> ParseError
     requires { pos ≤ length value.now }
     ensures { result ≡ fault_at value.now pos missing }
@@ -92,7 +92,7 @@ fn fault_at(value: &[u8], pos: usize, missing: ParseError) -> ParseError
     }
 }
 
-/// The position after the byte that a backslash at a position pairs, or the fault.
+/// Returns the position after the byte that a backslash at a position pairs, or the fault.
 fn pair_end(value: &[u8], backslash: usize) -> Result<usize, ParseError>
     requires within { backslash < length value.now }
     requires first { slice_index value.now backslash ≡ backslash_byte }
@@ -107,7 +107,7 @@ fn pair_end(value: &[u8], backslash: usize) -> Result<usize, ParseError>
     Err(fault_at(value, paired, ParseError::MissingQuote))
 }
 
-/// The position after a byte of quoted text, in content that begins at `from`, and perhaps after more of them.
+/// Returns the position after a byte of quoted text, in content that begins at `from`, and perhaps after more of them.
 #[inline(always)]
 fn text_end(value: &[u8], at: usize, from: usize) -> usize
     requires least { from ≤ at }
@@ -124,7 +124,7 @@ fn text_end(value: &[u8], at: usize, from: usize) -> usize
     end
 }
 
-/// The position of the quote that closes a string whose content goes on at a position, or the fault.
+/// Returns the position of the quote that closes a string whose content goes on at a position, or the fault.
 fn string_end(value: &[u8], from: usize) -> Result<usize, ParseError>
     requires { from ≤ length value.now }
     ensures { MatchResult result (IsClosedAt value.now from) (IsStringFault value.now from) }
@@ -158,7 +158,7 @@ struct Spans {
     end: usize,
 }
 
-/// The parameter whose value is the string that a quote at a position opens, or the fault.
+/// Returns the parameter whose value is the string that a quote at a position opens, or the fault.
 fn string_at(value: &[u8], quote: usize) -> Result<Spans, ParseError>
     requires within { quote < length value.now }
     requires quote { slice_index value.now quote ≡ quote_byte }
@@ -188,7 +188,7 @@ fn string_at(value: &[u8], quote: usize) -> Result<Spans, ParseError>
     })
 }
 
-/// The parameter whose value begins at a position, or the fault.
+/// Returns the parameter whose value begins at a position, or the fault.
 fn value_at(value: &[u8], begin: usize) -> Result<Spans, ParseError>
     requires { begin ≤ length value.now }
     ensures { MatchResult result (IsValueAt value.now begin) (IsValueFault value.now begin) }
@@ -208,7 +208,7 @@ fn value_at(value: &[u8], begin: usize) -> Result<Spans, ParseError>
     })
 }
 
-/// The parameter whose name begins at a position, or the fault.
+/// Returns the parameter whose name begins at a position, or the fault.
 fn parameter_at(value: &[u8], name: usize) -> Result<Spans, ParseError>
     requires within { name < length value.now }
     requires token { is_token_byte (slice_index value.now name) ≡ true }
@@ -221,7 +221,7 @@ fn parameter_at(value: &[u8], name: usize) -> Result<Spans, ParseError>
     value_at(value, equals + 1)
 }
 
-/// Where the essence of a value begins and ends, or the fault.
+/// Returns where the essence of a value begins and ends, or the fault.
 fn essence(value: &[u8]) -> Result<(usize, usize), ParseError>
     ensures { MatchResult result (λ ends. IsEssenceAt value.now ends.0 ends.1) (λ fault. answer_of value.now ≡ rejected fault) }
 {
@@ -241,7 +241,7 @@ fn essence(value: &[u8]) -> Result<(usize, usize), ParseError>
     Ok((top, end))
 }
 
-/// Writes bytes into a room after `len` others, if they fit, and gives how many bytes there are then.
+/// Writes bytes into a buffer after `len` others, if they fit, and returns how many bytes there are then.
 fn put(room: &mut [u8], len: usize, bytes: &[u8]) -> usize
     requires { len + length bytes.now < 2 ^ 64 }
     ensures holds { (text : List ℕ) → Holds room.old len text → Holds room.new result (text ++ bytes.now) }
@@ -272,8 +272,8 @@ fn put_parameter(room: &mut [u8], len: usize, value: &[u8], name: usize, spans: 
     put(room, len, &value[spans.begin..spans.last])
 }
 
-/// Writes the media type of a value anew, as far as there is room, and gives how many bytes that takes: its essence, and each parameter as
-/// `with_parameter` writes it. Or gives the fault of a value that isn't a media type as HTTP writes it. It takes no memory.
+/// Writes the media type of a value anew, as far as there is room: its essence, and each parameter as `with_parameter` writes it. Returns
+/// how many bytes that takes, or the fault of a value that HTTP doesn't allow. It doesn't allocate.
 pub(crate) fn write_anew(value: &[u8], room: &mut [u8]) -> Result<usize, ParseError>
     ensures answer { MatchResult result
         (λ len. (parts : Parts) × (answer_of value.now ≡ read parts) × Holds room.new len (text_of_parts parts))

@@ -1,4 +1,4 @@
-//! The media type of a header's value, which comes as bytes.
+//! The media type of a header's value, which is passed as bytes.
 
 ghost use Rattle.std.specs.Prelude.{◌≡◌, ◌≢◌, ◌<◌, ◌≤◌, true, codes, length, Some, IfOk, IfErr, IsOk, MatchResult};
 ghost use Rattle.std.specs.Fmt.InlineText.{inline_text};
@@ -20,12 +20,12 @@ use std::fmt;
 use std::fmt::{InlineText, Write};
 use std::str::Utf8Error;
 
-/// Why no media type was read from a header's value. Positions are in bytes of the value that was given, from 0.
+/// Why a header's value isn't read as a media type. Positions are in bytes of the value that was passed, from 0.
 #[derive(Clone, Copy, PartialEq, Eq, Debug)]
 pub enum FieldError {
     /// The value isn't valid UTF-8. Nothing was allocated.
     NotUtf8 {
-        /// The position of the first byte that isn't: the bytes before it are the longest prefix that is.
+        /// The position of the first byte that isn't valid UTF-8: the bytes before it are the longest valid prefix.
         pos: usize,
     },
     /// The value isn't a media type, for this fault. It is never `ParseError::NoMemory`.
@@ -34,7 +34,7 @@ pub enum FieldError {
     NoMemory,
 }
 
-/// What `NotUtf8` prints, at most 54 bytes. Not written with the caller's formatter, whose width would pad the number.
+/// Returns what `NotUtf8` prints, at most 54 bytes. It doesn't use the caller's formatter, whose width would pad the number.
 fn not_utf8_text(pos: usize) -> Result<InlineText<64>, fmt::Error>
     ensures { IfOk result (λ text. inline_text text ≡ not_utf8_text pos) }
 {
@@ -66,7 +66,7 @@ impl fmt::Display for FieldError {
 
 impl Error for FieldError {}
 
-/// The string of these bytes, as `str::from_utf8` gives it, in less time for ASCII, which most values are.
+/// Converts bytes to a string as `str::from_utf8` does, and faster for ASCII, which most values are.
 #[inline(always)]
 pub(crate) fn text_of(value: &[u8]) -> Result<&str, Utf8Error>
     ensures cases { MatchResult result (λ text. (text.now ≡ value.now) × IsUtf8 value.now)
@@ -75,7 +75,7 @@ pub(crate) fn text_of(value: &[u8]) -> Result<&str, Utf8Error>
     text_of_piece(value, false)
 }
 
-/// The string of a piece of a line. The bytes of a line that is known to be ASCII aren't looked at again.
+/// Returns the string of a piece of a line. The bytes of a line that is known to be ASCII aren't looked at again.
 #[inline(always)]
 #[tactic(auto, using(crate::proofs::HttpText::ascii_is_utf8))]
 pub(crate) fn text_of_piece(piece: &[u8], is_ascii: bool) -> Result<&str, Utf8Error>
@@ -90,7 +90,7 @@ pub(crate) fn text_of_piece(piece: &[u8], is_ascii: bool) -> Result<&str, Utf8Er
     str::from_utf8(piece)
 }
 
-/// A text without the white space around it.
+/// Returns a text without the white space around it.
 #[inline(always)]
 fn trimmed(text: &str) -> &str
     ensures { result.now ≡ trimmed text.now }
@@ -100,7 +100,7 @@ fn trimmed(text: &str) -> &str
     unsafe { str::from_utf8_unchecked(left) }
 }
 
-/// Reads what is written anew of a value. It takes no memory for at most 40 bytes.
+/// Reads what is written anew of a value. It doesn't allocate for at most 40 bytes.
 fn read_written(alloc: Global, text: &[u8]) -> Result<Mime, FieldError>
     requires utf8 { IsUtf8 text.now }
     requires accepted { IsAccepted text.now }
@@ -131,8 +131,8 @@ fn read_in_block(alloc: Global, value: &str, len: usize) -> Result<Mime, FieldEr
     }
 }
 
-/// Reads anew a value that the library rejects without the white space around it: gives its media type, or its fault. It takes no memory
-/// if at most 40 bytes are printed, else a block for them and one for what is read of them.
+/// Reads anew a value that the library rejects without the white space around it: returns its media type, or its fault. It doesn't
+/// allocate if at most 40 bytes are printed; else it allocates a block for them and one for what is read of them.
 fn read_anew(alloc: Global, value: &str) -> Result<Mime, FieldError>
     requires { ¬ (IsAccepted (trimmed value.now)) }
     ensures http { IfOk result (λ mime. HttpReads value.now mime.media × IsPrinted value.now mime.media) }
@@ -190,33 +190,33 @@ pub(crate) fn read_rejected(
     }
 }
 
-/// Reads the media type of a header's value, such as that of a `Content-Type`, from the bytes that a connection gives
-/// (RFC 9110, 8.3.1, with 5.6.3, 5.6.4 and 5.6.6). Accepts what the grammar there allows, with white space around it, if it is
-/// valid UTF-8: white space around semicolons, and empty parameters. A value past ASCII that isn't UTF-8 (obs-text) is rejected.
+/// Reads the media type of a header's value, such as that of a `Content-Type`, from bytes as they are received (RFC 9110, 8.3.1,
+/// with 5.6.3, 5.6.4 and 5.6.6). Accepts what the grammar there allows, if it is valid UTF-8, also with white space around it:
+/// white space around semicolons, and empty parameters. A value past ASCII that isn't UTF-8 (obs-text) is rejected.
 ///
-/// A request has one such line at most. Two are an error, since programs differ in which they take; without one a body may be taken for
-/// `application/octet-stream` (8.3).
+/// A request has at most one such line. Treat two as an error, since programs differ in which one they use. A body without one may be
+/// treated as `application/octet-stream` (8.3).
 ///
-/// The white space around the value is left out. What [`Mime::from_str`] then accepts is read as it stands. Any other value is printed
-/// anew: its essence, and each parameter as [`with_parameter`](crate::with_parameter) writes it, so that ` text/html ;; charset="utf-8"`
+/// The white space around the value is removed. What [`Mime::from_str`] then accepts is read as it is. Any other value is printed anew:
+/// its essence, and each parameter as [`with_parameter`](crate::with_parameter) writes it, so that ` text/html ;; charset="utf-8"`
 /// prints `text/html; charset=utf-8`. The values of parameters keep their backslashes.
 ///
-/// It allocates nothing if at most 40 bytes are printed; else once for a value that is read as it stands, and twice for one that is printed
-/// anew, of which one block is freed. Rejecting a value allocates nothing.
+/// It doesn't allocate if at most 40 bytes are printed. Otherwise it allocates once for a value that is read as it is, and twice for one
+/// that is printed anew, of which one block is freed. It doesn't allocate for a value that it rejects.
 ///
 /// # Errors
-/// `NotUtf8` for a value that isn't valid UTF-8; `Invalid` with the fault of a value that isn't a media type, at its position in `value`: 7
-/// for `   a/b c`; `NoMemory` if memory runs out, which is never for a value that isn't a media type, nor for one of which at most 40 bytes
-/// are printed.
+/// `NotUtf8` for a value that isn't valid UTF-8; `Invalid` with the fault of a value that isn't a media type, at its position in `value`:
+/// 7 for `   a/b c`; `NoMemory` if memory runs out, which never happens for a value that isn't a media type, nor for one of which at most
+/// 40 bytes are printed.
 #[inline(always)]
 pub fn content_type(alloc: Global, value: &[u8]) -> Result<Mime, FieldError>
-    // The result is the media type that HTTP writes there,
+    // The result is the media type that HTTP defines,
     ensures http { IfOk result (λ mime. IsUtf8 value.now × HttpReads value.now mime.media) }
     // with the text that is printed of the value.
     ensures kept { IfOk result (λ mime. IsPrinted value.now mime.media) }
     // An error is where the value isn't UTF-8, or its fault, or says that memory ran out.
     ensures explained { IfErr result (λ error. HttpExplains value.now error) }
-    // So what HTTP writes, in UTF-8, is read, or memory ran out,
+    // So what HTTP allows, in UTF-8, is read, or memory ran out,
     ensures accepted { IsUtf8 value.now → IsHttpMediaType value.now → IfErr result (λ error. error ≡ FieldError.NoMemory) }
     // and `*/*` is always read, as is what is printed in at most 40 bytes.
     ensures star { value.now ≡ codes "*/*" → IsOk result }

@@ -4,7 +4,7 @@ ghost use Rattle.std.specs.Prelude.{◌≡◌, ◌≤◌, ◌*◌, ◌-◌};
 ghost use Rattle.mime_http.specs.Digits.{worth};
 ghost use Rattle.mime_http.specs.Weight.{thousandths_of};
 
-/// What the digits after a dot are worth in thousandths, as 500 for `5`.
+/// Returns the value of the digits after a dot, in thousandths: 500 for `5`.
 fn decimals_of(bytes: &[u8]) -> u16
     ensures { result ≡ worth 100 bytes.now }
 {
@@ -20,7 +20,7 @@ fn decimals_of(bytes: &[u8]) -> u16
     sum
 }
 
-/// What the first digit after a dot is worth in thousandths, as 500 for `5`.
+/// Returns the value of the first digit after a dot, in thousandths: 500 for `5`.
 #[inline(always)]
 pub(crate) fn tenths(digit: u8) -> u16
     requires { 48 ≤ digit }
@@ -29,8 +29,8 @@ pub(crate) fn tenths(digit: u8) -> u16
     100 * u16::from(digit - b'0')
 }
 
-/// A weight in thousandths, as 500 for `0.5`. A string that is no weight counts as the number that it begins with, at most 1, and as 0
-/// without one: `.2` is 200, `2` is 1000 and `high` is 0, as in most libraries.
+/// Returns a weight in thousandths: 500 for `0.5`. A string that isn't a weight counts as the number with which it begins, at most 1,
+/// or as 0 if there is none: `.2` is 200, `2` is 1000 and `high` is 0, as in most libraries.
 pub(crate) fn thousandths(weight: &str) -> u16
     ensures { result ≡ thousandths_of weight.now }
 {

@@ -11,7 +11,7 @@ use std::io::{Read, Write};
 #[derive(Clone, Copy, PartialEq, Eq, Debug)]
 pub struct Failed;
 
-/// What can be read from: a [`Device`] over standard input, for example.
+/// Something to read from, such as a [`Device`] over standard input.
 pub trait Source {
     /// The bytes that are left to read, or `None` if the source doesn't say.
     ghost left: { Self → Option (List ℕ) };
@@ -28,7 +28,7 @@ pub trait Source {
         ensures unfailed { OnOk result (has_failed self.new ≡ has_failed self.old) };
 }
 
-/// What can be written to: a [`Device`] over standard output, for example.
+/// Something to write to, such as a [`Device`] over standard output.
 pub trait Sink {
     /// The bytes that it holds, or `None` if the sink doesn't say.
     ghost held: { Self → Option (List ℕ) };
@@ -65,7 +65,7 @@ pub struct Device<T> {
 }
 
 impl<T> Device<T> {
-    /// What an inner call returned, without the cause of an error, which sets the flag.
+    /// Returns what an inner call returned, without the cause of an error, which sets the flag.
     fn flagged<V>(&mut self, answer: io::Result<V>) -> Result<V, Failed>
         ensures inner { self.new.inner ≡ self.old.inner }
         ensures answer { MatchResult answer (λ value. result ≡ Ok value) (λ _. IsErr result) }

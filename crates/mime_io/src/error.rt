@@ -12,14 +12,14 @@ pub enum RunError {
     Read,
     /// A write or a flush failed, whatever the cause.
     Write,
-    /// The source gave more than 1,048,576 bytes.
+    /// The source has more than 1,048,576 bytes.
     TooLong,
     /// Memory ran out for the input or for its report.
     NoMemory,
 }
 
 impl RunError {
-    /// What the error prints.
+    /// Returns what the error prints.
     fn text(self) -> &'static str
         ensures { result.now ≡ stop_text self }
     {

@@ -1,13 +1,14 @@
 //! The input: all bytes of a source up to a limit, and their lines.
 
-ghost use Rattle.std.specs.Prelude.{◌≡◌, ◌≢◌, ℕ, List, [], ◌<◌, ◌≤◌, ◌∷◌, ◌==◌, ◌+◌, length, drop, true, OnOk, IfOk, IfSome, MatchOption};
-ghost use Rattle.std.specs.List.{list_any, position_or_len};
+ghost use Rattle.std.specs.Prelude.{◌≡◌, ◌≢◌, ℕ, List, [], ◌<◌, ◌≤◌, ◌∷◌, ◌==◌, ◌+◌, length, true, OnOk, IfOk, IfSome, MatchOption};
+ghost use Rattle.std.specs.List.{position_or_len};
 ghost use Rattle.std.specs.Io.KnownBytes.{Consumes, IsAtEnd};
 ghost use Rattle.mime_io.specs.Stops.{limit};
 ghost use Rattle.mime_io.specs.Lines.{lines_of};
 
 use crate::device::Source;
 use crate::error::RunError;
+use mime_search::{Class, first_stop};
 use std::alloc::Global;
 
 /// The most bytes that an input may have.
@@ -15,9 +16,6 @@ const LIMIT: usize = 1_048_576;
 
 /// The most bytes that one read asks for.
 const AT_ONCE: usize = 8192;
-
-/// The number of bytes that are searched at once for a line feed.
-const STEP: usize = 8;
 
 /// Reads a source to its end, and no further than one byte past the limit.
 pub fn read_to_limit<S: Source>(alloc: Global, source: &mut S) -> Result<Vec<u8>, RunError>
@@ -53,44 +51,15 @@ pub fn read_to_limit<S: Source>(alloc: Global, source: &mut S) -> Result<Vec<u8>
     }
 }
 
-/// Whether some bytes have a line feed. Without an early exit, several bytes are tested at a time.
-#[inline(always)]
-fn has_line_end(bytes: &[u8]) -> bool
-    ensures { result ≡ list_any (λ byte. byte == 10) bytes.now }
-{
-    let mut found = false;
-    for byte in bytes {
-        found |= *byte == b'\n';
-    }
-    found
-}
-
-/// The length of the whole steps at an input's start, of `STEP` bytes each, that have no line feed.
-fn whole_steps(input: &[u8]) -> usize
-    ensures within { result ≤ length input.now }
-    ensures passed { result + position_or_len (λ byte. byte == 10) (drop result input.now)
-        ≡ position_or_len (λ byte. byte == 10) input.now }
-{
-    let mut end = 0;
-    while input.len() - end >= STEP && !has_line_end(&input[end..end + STEP]) {
-        end += STEP;
-    }
-    end
-}
-
-/// The position of an input's first line feed, or the input's length.
+/// Returns the position of an input's first line feed, or the input's length.
 fn line_end(input: &[u8]) -> usize
     ensures line { result ≡ position_or_len (λ byte. byte == 10) input.now }
     ensures within { result ≤ length input.now }
 {
-    let mut end = whole_steps(input);
-    while end < input.len() && input[end] != b'\n' {
-        end += 1;
-    }
-    end
+    first_stop(input, 0, &Class::of(b'\n', b'\n'))
 }
 
-/// The first line of an input and the rest after its line feed, or `None` if the input is empty.
+/// Returns the first line of an input and the rest after its line feed, or `None` if the input is empty.
 pub fn first_line(input: &[u8]) -> Option<(&[u8], &[u8])>
     ensures lines { MatchOption result (lines_of input.now ≡ []) (λ cut. lines_of input.now ≡ cut.0.now ∷ lines_of cut.1.now) }
     ensures shorter { IfSome result (λ cut. length cut.1.now < length input.now) }

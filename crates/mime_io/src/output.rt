@@ -26,7 +26,7 @@ pub fn write_report<T: Sink>(sink: &mut T, report: &[u8]) -> Result<(), RunError
     Ok(())
 }
 
-/// The exit status of a run, whose error is printed on standard error.
+/// Returns the exit status of a run, whose error is printed on standard error.
 pub fn ended(rt: &impl Eprint, outcome: Result<(), RunError>) -> ExitCode
     ensures done { OnOk outcome (exit_status result ≡ 0) }
     ensures stopped { OnErr outcome (exit_status result ≡ 1) }

@@ -5,7 +5,6 @@ ghost use Rattle.std.specs.Prelude.{◌≡◌, ◌<◌, ◌≤◌, Some, None, I
 ghost use Rattle.std.specs.Vec.Iter.{into_iter_items, into_iter_len};
 ghost use Rattle.mime_lines.specs.Program.{mode_named};
 
-pub mod laws;
 mod mode;
 mod program;
 mod report;
@@ -20,8 +19,7 @@ use std::env;
 use std::env::Args;
 use std::process::ExitCode;
 
-/// The mode that the arguments select, or `None` if they select none. The first of them is the name of
-/// the program.
+/// Returns the mode that the arguments select, or `None` if they select none. The first of them is the name of the program.
 fn asked_mode(mut arguments: Args) -> Option<Mode>
     ensures parts { into_iter_len arguments ≤ 1 → result ≡ Some Mode.Parts }
     // The argument after the program's name says which mode.
@@ -39,7 +37,7 @@ fn asked_mode(mut arguments: Args) -> Option<Mode>
     }
 }
 
-/// The mode that an argument names, or `None`.
+/// Returns the mode that an argument names, or `None`.
 fn named_mode(word: &str) -> Option<Mode>
     ensures { result ≡ mode_named word.now }
 {

@@ -12,7 +12,7 @@ use mime::{Bad, Mime, MimeIter, ParseError};
 use mime_io::first_line;
 use std::alloc::{AllocError, Global};
 
-/// The report on an input, whose lines are validated one by one.
+/// Returns the report on an input, whose lines are validated one by one.
 pub(crate) fn report_of(alloc: Global, input: &[u8], mode: Mode) -> Result<String, AllocError>
     ensures { IfOk result (λ report. IsReportOf mode input.now (string_bytes report)) }
 {

@@ -64,7 +64,7 @@ struct Reader<'a> {
     is_called_again: bool,
 }
 
-/// A reader that gives these bytes.
+/// Returns a reader that gives these bytes.
 fn giving<'a>(bytes: &'a [u8], scenario: &Scenario, reads: usize, fails_once: bool) -> Reader<'a> {
     Reader {
         byte: *bytes.first().unwrap_or(&b'a'),
@@ -119,7 +119,7 @@ struct Writer<'a> {
     is_called_again: bool,
 }
 
-/// A writer that takes these bytes.
+/// Returns a writer that takes these bytes.
 fn taking<'a>(bytes: &'a [u8], scenario: &Scenario, fails_once: bool) -> Writer<'a> {
     Writer {
         bytes,
@@ -186,7 +186,7 @@ struct Case<'a> {
     report: &'a [u8],
 }
 
-/// What a run of a scenario writes; a failed write stops it at this byte.
+/// Returns what a run of a scenario writes; a failed write stops it at this byte.
 fn written<'a>(case: &Case<'a>, scenario: &Scenario, at: usize) -> &'a [u8] {
     match scenario.answer {
         Err(RunError::Write) if scenario.flushes > 0 => &case.report[..at.min(case.report.len())],
@@ -362,7 +362,7 @@ fn run_into(
     answer
 }
 
-/// Whether a run into a slice of bytes writes all of its report, or nothing if memory runs out. It prints which.
+/// Returns `true` if a run into a slice of bytes writes all of its report, or nothing if memory runs out. It prints which.
 fn fills_slice(rt: &HostRuntime, case: &Case<'_>) -> bool {
     let mut room = [0u8; 256];
     let mut sink = Device {
@@ -538,7 +538,7 @@ fn memory_is_found(rt: HostRuntime) {
     assert!(rt; error.is_none(), "memory ran out");
 }
 
-/// Whether an error prints this text, and nothing else, to a writer that takes no other bytes.
+/// Returns `true` if an error prints this text, and nothing else, to a writer that takes no other bytes.
 fn prints(error: RunError, text: &[u8]) -> bool {
     static ANY: Scenario = PLAIN;
     let mut writer = taking(text, &ANY, false);

@@ -40,7 +40,7 @@ module _ (a b : List ℕ) (at : ℕ) (room : at + 16 ≤ length a) (other_room :
       get_or-zip2 difference_lane (chunk at 16 a) (chunk at 16 b) k 0 0 0 (omega (arith, lt, length-chunk at 16 a room))
       (omega (arith, lt, length-chunk at 16 b other_room)) ∙ ap₂ difference_lane (get_or-chunk at 16 a k 0 lt) (get_or-chunk at 16 b k 0 lt)
 
-  -- so the bytes before the first bit are the same
+  -- the bytes before the first bit are the same
   passed : (k : ℕ) → k < run → k < 16 → get_or a (at + k) 0 ≡ get_or b (at + k) 0
   passed k before lt =
       lane_same (get_or a (at + k) 0) (get_or b (at + k) 0)
@@ -60,7 +60,7 @@ module _ (a b : List ℕ) (at : ℕ) (room : at + 16 ≤ length a) (other_room :
       subst (λ n. get_or a n 0 ≡ get_or b n 0) back
       (passed (k - at) (omega (arith, lt, least, leading_from_mask_l (top 7) lanes none, count)) (omega (arith, lt, least)))
 
-  -- and the lowest bit is at the first difference
+  -- the lowest bit is at the first difference
   pub lowest_differs : mask ≢ 0 → DifferAt a b at (at + count_trailing_zeros 64 mask)
   lowest_differs some =
       let first : count_trailing_zeros 64 mask ≡ run = trailing_mask_l (top 7) 64 lanes (omega (arith, count)) (omega (arith, some)) in

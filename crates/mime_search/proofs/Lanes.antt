@@ -92,7 +92,7 @@ mask-not p (x ∷ xs) = go (p x) (mask-not p xs)
 pub stops_inside : (class : Class) (v : List ℕ) → length v ≡ 16 → class.inside ≡ true → 65535 - outside class v ≡ stops class v
 stops_inside class v long is = rw is (omega (arith, mask-not (is_outside class) v, ap (λ n. 2 ^ n) long))
 
--- or outside
+-- a search stops outside the ranges
 pub stops_outside : (class : Class) (v : List ℕ) → class.inside ≡ false → outside class v ≡ stops class v
 stops_outside class v is = rw is refl
 

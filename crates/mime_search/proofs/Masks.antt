@@ -35,7 +35,7 @@ module _ (p : ℕ → Bool) where
       ∙ ap (λ k. mask (take n text) + 2 ^ k * mask (drop n text)) (length-map (take n text) p ∙ length-take-le n text room)
       ∙ ap (λ k. mask (take n text) + k) (mul_comm (2 ^ n) (mask (drop n text)))
 
-  -- and without the first bytes
+  -- the mask of a text without its first bytes
   rest-mask : (n : ℕ) (bytes : List ℕ) → mask bytes / 2 ^ n ≡ mask (drop n bytes)
   rest-mask n bytes = mask-drop n (map p bytes) ∙ ap mask_l (drop-map p n bytes)
 
@@ -103,7 +103,7 @@ module _ (p : ℕ → Bool) (text : List ℕ) (at known found : ℕ) (is : found
   known-none none =
       omega (arith, no_stop p text at (known - at) _ (omega (arith, whole, there)) (omega (arith, few)) next none, whole)
 
-  -- and else those before the lowest bit
+  -- with a bit, the bytes before the lowest bit are passed
   pub known-few : found / 2 ^ at ≢ 0 → at + count_trailing_zeros 64 (found / 2 ^ at) < known
   known-few some =
       omega (arith, stop_within p text at (known - at) _ (omega (arith, whole, there)) (omega (arith, few)) next some, whole)

@@ -17,13 +17,13 @@ len_from-at : (text : List ℕ) (position : ℕ) → position < length text → 
     ≡ cond (get_or text position 0 == quote) 0 (suc (len_from (get_or text position 0 == backslash) (drop (position + 1) text)))
 len_from-at text position within = ap (len_from false) (drop_more text position 0 within)
 
--- so any other byte is passed alone,
+-- any byte other than a quote and a backslash is passed
 pub search_past_plain : (text : List ℕ) (position : ℕ) → position < length text → ¬ (get_or text position 0 ≡ quote)
     → ¬ (get_or text position 0 ≡ backslash) → len_from false (drop position text) ≡ 1 + len_from false (drop (position + 1) text)
 search_past_plain text position within no_quote no_backslash =
     let at = rw (ne_eqb _ _ no_quote, ne_eqb _ _ no_backslash) at (len_from-at text position within) in omega (arith, at)
 
--- and so are bytes up to the first quote or backslash
+-- the bytes up to the first quote or backslash are passed, too
 abbrev pub is_mark : ℕ → Bool
 is_mark b = b == quote || b == backslash
 

@@ -21,7 +21,7 @@ half : (b : Bool) (m : ℕ) → (cond b 1 0 + 2 * m) / 2 ≡ m
 half true m = omega arith
 half false m = omega arith
 
--- and without more of them
+-- a bit mask without its lowest bits
 pub mask-drop : (n : ℕ) (ms : List Bool) → mask_l ms / 2 ^ n ≡ mask_l (drop n ms)
 mask-drop zero ms = div-one (mask_l ms)
 mask-drop (suc n) [] = zero-div (2 ^ suc n)
@@ -83,7 +83,7 @@ module _ (p : ℕ → Bool) (text : List ℕ) (at n found : ℕ) (room : at + n 
       let all = eq-eqb _ _ (leading_from_mask_l p (take n (drop at text)) (sym is ∙ none)) in
       omega (arith, split ∙ cond-true _ _ _ all, long, ap run (drop-drop n at text))
 
-  -- else they aren't all passed,
+  -- with a bit, not all bytes are passed
   within : found ≢ 0 → run (take n (drop at text)) < n
   within some = omega (
     arith,
@@ -92,7 +92,7 @@ module _ (p : ℕ → Bool) (text : List ℕ) (at n found : ℕ) (room : at + n 
     long,
   )
 
-  -- and the lowest bit is the first stop
+  -- the lowest bit is the first stop
   lowest : found ≢ 0 → count_trailing_zeros 64 found ≡ run (take n (drop at text))
   lowest some =
       ap (count_trailing_zeros 64) is ∙ trailing_mask_l p 64 (take n (drop at text)) (omega (arith, few, long)) (omega (arith, is, some))

@@ -25,7 +25,7 @@ pub struct Class {
 }
 
 impl Class {
-    /// One of two bytes.
+    /// Returns one of two bytes.
     #[inline(always)]
     pub fn of(one: u8, other: u8) -> Class
         ensures { (b : ℕ) → is_stop result b ≡ (b == one || b == other) }
@@ -39,7 +39,7 @@ impl Class {
         }
     }
 
-    /// The bytes at which a search for these doesn't stop.
+    /// Returns the bytes at which a search for these doesn't stop.
     #[inline(always)]
     pub fn others(&self) -> Class
         ensures { (b : ℕ) → is_stop result b ≡ not (is_stop self.now b) }
@@ -48,7 +48,7 @@ impl Class {
         Class { inside, ..*self }
     }
 
-    /// Whether a search stops at a byte.
+    /// Returns `true` if a search stops at a byte.
     #[inline(always)]
     pub(crate) fn has(&self, byte: u8) -> bool
         ensures { result ≡ is_stop self.now byte }
@@ -68,8 +68,9 @@ impl Class {
     }
 }
 
-/// Which of 16 bytes are outside the ranges of a class, as a bit mask. The lowest bit is for the first byte. Comparisons alone are
-/// a few instructions on every processor; a look-up by shuffled bytes isn't on the oldest ones.
+/// Returns which of 16 bytes are outside the ranges of a class, as a bit mask. The lowest bit is for the first byte. Comparisons
+/// take a few instructions on every processor. A look-up by shuffled bytes takes fewer, but is a loop on the oldest x86-64, for
+/// which the library for C is built.
 #[inline(always)]
 fn outside_in_lanes(bytes: u8x16, class: &Class) -> u64
     ensures mask { result ≡ outside class.now bytes }
@@ -89,7 +90,7 @@ fn outside_in_lanes(bytes: u8x16, class: &Class) -> u64
     (no_folded & no_second & no_third).to_bitmask()
 }
 
-/// At which of 16 bytes a search stops, as a bit mask.
+/// Returns at which of 16 bytes a search stops, as a bit mask.
 #[inline(always)]
 pub(crate) fn stops_in_lanes(bytes: u8x16, class: &Class) -> u64
     ensures mask { result ≡ stops class.now bytes }

@@ -4,7 +4,7 @@ ghost use Rattle.std.specs.Prelude.{◌≡◌, ◌+◌, ◌≤◌, length};
 
 use std::simd::Simd;
 
-/// Copies the first `N` bytes and the last `N`, which may overlap and are all together.
+/// Copies the first `N` bytes and the last `N`, which may overlap, and together are all bytes.
 #[inline(always)]
 fn copy_ends<const N: usize>(out: &mut [u8], bytes: &[u8])
     requires same { length out.old ≡ length bytes.now }

@@ -10,7 +10,7 @@ use crate::search::first_stop;
 /// The bit in which a lowercase ASCII letter and its capital differ.
 const CASE_BIT: u8 = 0x20;
 
-/// 1 if two bytes differ ignoring ASCII case, else 0.
+/// Returns 1 if two bytes differ ignoring ASCII case, else 0.
 #[inline(always)]
 fn difference(x: u8, y: u8) -> u8
     ensures { result ≡ difference_bit x y }
@@ -23,7 +23,8 @@ fn difference(x: u8, y: u8) -> u8
     u8::from((x ^ y) & !case != 0)
 }
 
-/// For each position in the first block of two byte strings, 1 if their bytes differ ignoring ASCII case, else 0.
+/// Returns, for each position in the first block of two byte strings, 1 if their bytes differ ignoring ASCII case, else
+/// 0.
 #[inline(always)]
 fn differences(a: &[u8], b: &[u8]) -> [u8; BLOCK]
     requires room { BLOCK ≤ length a.now }
@@ -39,7 +40,7 @@ fn differences(a: &[u8], b: &[u8]) -> [u8; BLOCK]
     found
 }
 
-/// The first position in the first block at which two byte strings differ ignoring ASCII case, if they do.
+/// Returns the first position in the first block at which two byte strings differ ignoring ASCII case, if they do.
 #[inline(always)]
 fn difference_in_block(a: &[u8], b: &[u8]) -> Option<usize>
     requires room { BLOCK ≤ length a.now }
@@ -51,7 +52,7 @@ fn difference_in_block(a: &[u8], b: &[u8]) -> Option<usize>
     if at < BLOCK { Some(at) } else { None }
 }
 
-/// The first position at which two byte strings of at least a block differ ignoring ASCII case, if they do before one
+/// Returns the first position at which two byte strings of at least a block differ ignoring ASCII case, if they do before one
 /// of them ends. The last block may overlap the one before.
 #[inline(always)]
 pub fn first_difference(a: &[u8], b: &[u8]) -> Option<usize>
@@ -74,8 +75,8 @@ pub fn first_difference(a: &[u8], b: &[u8]) -> Option<usize>
     }
 }
 
-/// Whether two byte strings of equal length are equal ignoring ASCII case. The loop doesn't end early: over
-/// a known length it is a few vector instructions.
+/// Returns `true` if two byte strings of equal length are equal ignoring ASCII case. The loop doesn't end early: over a known
+/// length it is a few vector instructions.
 #[inline(always)]
 fn eq_byte_by_byte(a: &[u8], b: &[u8]) -> bool
     requires same_length { length a.now ≡ length b.now }
@@ -90,9 +91,9 @@ fn eq_byte_by_byte(a: &[u8], b: &[u8]) -> bool
     differs == 0
 }
 
-/// Whether two byte strings of equal length, from `block` to twice `block`, are equal ignoring ASCII case: by their
-/// last and first `block` bytes, which together are all of them. Names differ more often in their last bytes than in
-/// their first.
+/// Returns `true` if two byte strings of equal length, from `block` to twice `block`, are equal ignoring ASCII case: by their
+/// last and first `block` bytes, which together are all of them. Names differ more often in their last bytes than in their
+/// first.
 #[inline(always)]
 fn eq_at_both_ends(a: &[u8], b: &[u8], block: usize) -> bool
     requires same_length { length a.now ≡ length b.now }
@@ -104,7 +105,7 @@ fn eq_at_both_ends(a: &[u8], b: &[u8], block: usize) -> bool
     eq_byte_by_byte(&a[last..], &b[last..]) && eq_byte_by_byte(&a[..block], &b[..block])
 }
 
-/// Whether two byte strings of equal length are equal ignoring ASCII case. It isn't inlined: it has many callers.
+/// Returns `true` if two byte strings of equal length are equal ignoring ASCII case. It isn't inlined: it has many callers.
 #[inline(never)]
 fn eq_of_one_length(a: &[u8], b: &[u8]) -> bool
     requires same_length { length a.now ≡ length b.now }
@@ -122,7 +123,7 @@ fn eq_of_one_length(a: &[u8], b: &[u8]) -> bool
     eq_byte_by_byte(a, b)
 }
 
-/// Whether two byte strings are equal ignoring ASCII case. The lengths, which decide most calls, are compared in the
+/// Returns `true` if two byte strings are equal ignoring ASCII case. The lengths, which decide most calls, are compared in the
 /// caller's code.
 #[inline(always)]
 pub fn eq_ignore_ascii_case(a: &[u8], b: &[u8]) -> bool

@@ -16,6 +16,6 @@ pub use crate::copy::copy_bytes;
 pub use crate::differing::difference_from;
 pub use crate::ignoring_case::{eq_ignore_ascii_case, first_difference};
 pub use crate::quoted::content_end;
-pub use crate::search::{first_stop, first_stop_at_end, first_stop_far, stops_in_block};
+pub use crate::search::{first_stop, first_stop_far};
 pub use crate::start::{WINDOW, stops_at_start, stops_in_window};
 pub use crate::suffix::Suffix;

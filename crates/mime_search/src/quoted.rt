@@ -7,7 +7,7 @@ ghost use Rattle.mime_search.specs.Quoted.{quote, backslash, len_from};
 use crate::class::{BLOCK, Class};
 use crate::search::{first_stop, stops_from};
 
-/// Skips the quoted-pair at this position, a backslash and a byte. A backslash that ends the text counts as one.
+/// Skips the quoted pair at this position, a backslash and a byte. A backslash that ends the text counts as one.
 #[inline(always)]
 fn after_pair(text: &[u8], from: usize) -> usize
     requires within { from < length text.now }
@@ -23,7 +23,7 @@ fn after_pair(text: &[u8], from: usize) -> usize
     from + 2
 }
 
-/// Skips the quoted-pairs in a row, a backslash and a byte each, of which the first is at this position. A backslash that
+/// Skips quoted pairs in a row, a backslash and a byte each, of which the first is at this position. A backslash that
 /// ends the text counts as one.
 #[inline(always)]
 fn after_pairs(text: &[u8], from: usize) -> usize
@@ -47,8 +47,9 @@ fn after_pairs(text: &[u8], from: usize) -> usize
     after_pair(text, last)
 }
 
-/// Skips the quoted-pairs among `size` bytes from a position on, and the bytes between them: to the first quote that isn't in a
-/// pair, or to the end of these bytes or of a pair that ends after them. `stops` are the quotes and backslashes.
+/// Skips the quoted pairs among `size` bytes from a position on, and the bytes between them: up to the first quote that isn't
+/// in a quoted pair, or to the end of these bytes, or of a quoted pair that ends after them. `stops` are the quotes and
+/// backslashes.
 #[inline(always)]
 fn after_pairs_among(text: &[u8], from: usize, size: usize, stops: u64) -> usize
     requires few { size ≤ BLOCK }
@@ -96,7 +97,7 @@ fn after_plain(text: &[u8], from: usize) -> usize
     first_stop(text, at, &class)
 }
 
-/// The position, from one on, of the first quote that no backslash pairs, or the length.
+/// Returns the position of the first quote, from a position on, that isn't in a quoted pair, or the length.
 #[inline(always)]
 pub fn content_end(text: &[u8], from: usize) -> usize
     requires { from ≤ length text.now }

@@ -6,9 +6,9 @@ ghost use Rattle.mime_search.specs.Classes.{stops, end_of_run};
 use crate::class::{BLOCK, Class, stops_in_lanes};
 use std::simd::prelude::*;
 
-/// At which bytes of the block that begins at a position a search stops, as a bit mask.
+/// Returns at which bytes of the block that begins at a position a search stops, as a bit mask.
 #[inline(always)]
-pub fn stops_in_block(text: &[u8], at: usize, class: &Class) -> u64
+pub(crate) fn stops_in_block(text: &[u8], at: usize, class: &Class) -> u64
     requires { at + BLOCK ≤ length text.now }
     ensures mask { result ≡ stops class.now (take BLOCK (drop at text.now)) }
     ensures few { result < 2 ^ 16 }
@@ -16,7 +16,8 @@ pub fn stops_in_block(text: &[u8], at: usize, class: &Class) -> u64
     stops_in_lanes(u8x16::from_slice(&text[at..]), class)
 }
 
-/// The position, from one on, of the first byte at which a search stops, or the length. The text is searched byte by byte.
+/// Returns the position of the first byte, from a position on, at which a search stops, or the length. The text is searched
+/// byte by byte.
 #[inline(always)]
 fn first_stop_by_bytes(text: &[u8], from: usize, class: &Class) -> usize
     requires { from ≤ length text.now }
@@ -29,10 +30,10 @@ fn first_stop_by_bytes(text: &[u8], from: usize, class: &Class) -> usize
     at
 }
 
-/// The position, from one on after which less than a block is left, of the first byte at which a search stops, or the length. The
-/// text's last block is searched at once.
+/// Returns the position of the first byte, from a position on, at which a search stops, or the length. Less than a block is
+/// left after that position, so the text's last block is searched at once.
 #[inline(always)]
-pub fn first_stop_at_end(text: &[u8], from: usize, class: &Class) -> usize
+pub(crate) fn first_stop_at_end(text: &[u8], from: usize, class: &Class) -> usize
     requires block { BLOCK ≤ length text.now }
     requires within { from ≤ length text.now }
     requires end { length text.now < from + BLOCK }
@@ -47,10 +48,10 @@ pub fn first_stop_at_end(text: &[u8], from: usize, class: &Class) -> usize
     }
 }
 
-/// At which of the bytes from a position on a search stops, as a bit mask, and how many bytes these are: a block, or the rest of
-/// the text.
+/// Returns at which of the bytes from a position on a search stops, as a bit mask, and how many bytes these are: a block, or the
+/// rest of the text.
 #[inline(always)]
-pub fn stops_from(text: &[u8], from: usize, class: &Class) -> (usize, u64)
+pub(crate) fn stops_from(text: &[u8], from: usize, class: &Class) -> (usize, u64)
     requires block { BLOCK ≤ length text.now }
     requires within { from ≤ length text.now }
     ensures few { result.0 ≤ BLOCK }
@@ -67,8 +68,7 @@ pub fn stops_from(text: &[u8], from: usize, class: &Class) -> (usize, u64)
     )
 }
 
-/// The position, from one on, of the first byte at which a search stops, or the length, as `first_stop` finds it. It isn't
-/// inlined: most searches end before.
+/// Returns what `first_stop` returns. It isn't inlined: most searches end before.
 #[cold]
 #[inline(never)]
 pub fn first_stop_far(text: &[u8], from: usize, class: &Class) -> usize
@@ -79,7 +79,7 @@ pub fn first_stop_far(text: &[u8], from: usize, class: &Class) -> usize
     first_stop(text, from, class)
 }
 
-/// The position, from one on, of the first byte at which a search stops, or the length.
+/// Returns the position of the first byte, from a position on, at which a search stops, or the length.
 #[tactic(auto, using(crate::proofs::Searches::run_within))]
 #[inline(always)]
 pub fn first_stop(text: &[u8], from: usize, class: &Class) -> usize

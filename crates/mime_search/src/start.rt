@@ -13,7 +13,7 @@ pub const WINDOW: usize = 64;
 /// Half a block.
 const HALF: usize = 8;
 
-/// The mask of `size` bytes, from the masks of their first and of their last `part` bytes, which may overlap.
+/// Returns the mask of `size` bytes, from the masks of their first and of their last `part` bytes, which may overlap.
 #[inline(always)]
 fn joined(first: u64, last: u64, part: usize, size: usize) -> u64
     requires part { part ≤ 32 }
@@ -26,7 +26,7 @@ fn joined(first: u64, last: u64, part: usize, size: usize) -> u64
     first + ((last >> (part + part - size)) << part)
 }
 
-/// The first and the last bytes of a string, half a block of each. They may overlap.
+/// Returns the first and the last bytes of a string, half a block of each. They may overlap.
 #[inline(always)]
 fn both_ends(text: &[u8]) -> u8x16
     requires { HALF ≤ length text.now }
@@ -37,7 +37,7 @@ fn both_ends(text: &[u8]) -> u8x16
     first.shuffle(last, [0, 1, 2, 3, 4, 5, 6, 7, 8, 9, 10, 11, 12, 13, 14, 15])
 }
 
-/// At which bytes of a string a search stops. It has from half a block to a block.
+/// Returns at which bytes of a string a search stops. The string has from half a block to a block.
 #[inline(always)]
 fn stops_in_halves(text: &[u8], class: &Class) -> u64
     requires room { HALF ≤ length text.now }
@@ -48,7 +48,8 @@ fn stops_in_halves(text: &[u8], class: &Class) -> u64
     joined(found % 256, found / 256, HALF, text.len())
 }
 
-/// At which bytes of a string a search stops. It has from one block to four, and `first` are those in the first one.
+/// Returns at which bytes of a string a search stops. The string has from one block to four. `first` are the bytes in its
+/// first block at which it stops.
 #[inline(always)]
 pub fn stops_in_window(text: &[u8], first: u64, class: &Class) -> u64
     requires room { BLOCK ≤ length text.now }
@@ -67,8 +68,8 @@ pub fn stops_in_window(text: &[u8], first: u64, class: &Class) -> u64
     joined(start, end, BLOCK + BLOCK, size)
 }
 
-/// The start of a string: how many bytes it has, and at which of them a search stops. That is the whole string, up to
-/// a block, or nothing if it is shorter than half a block.
+/// Returns the length of a string's start, and at which of its bytes a search stops. The start is a block, or the whole string
+/// if it is shorter, or nothing if it is shorter than half a block.
 #[inline(always)]
 pub fn stops_at_start(text: &[u8], class: &Class) -> (usize, u64)
     ensures few { result.0 ≤ BLOCK }

@@ -8,8 +8,8 @@ use crate::class::{BLOCK, Class};
 use crate::search::{first_stop, first_stop_at_end, stops_in_block};
 use std::marker::Model;
 
-/// The position of a byte, from one on, or the length if it doesn't occur. It isn't inlined: most searches end in their
-/// first or last block.
+/// Returns the position of a byte, from a position on, or the length if it doesn't occur. It isn't inlined: most searches end
+/// in their first or last block.
 #[cold]
 #[inline(never)]
 fn position_far(text: &[u8], from: usize, byte: u8) -> usize
@@ -19,7 +19,7 @@ fn position_far(text: &[u8], from: usize, byte: u8) -> usize
     first_stop(text, from, &Class::of(byte, byte))
 }
 
-/// The position of a byte, or the length if it doesn't occur, searched byte by byte. It isn't inlined: few strings with
+/// Returns the position of a byte, or the length if it doesn't occur, searched byte by byte. It isn't inlined: few strings with
 /// parameters are shorter than a block.
 #[inline(never)]
 fn position_by_one(text: &[u8], byte: u8) -> usize
@@ -55,7 +55,7 @@ impl<'a> Model for Suffix<'a> {
 }
 
 impl<'a> Suffix<'a> {
-    /// The suffix of a string from this position on.
+    /// Returns the suffix of a string from this position on.
     #[inline(always)]
     pub fn of(whole: &'a str, from: usize) -> Suffix<'a>
         requires { IsCharBoundary whole.now from }
@@ -67,7 +67,7 @@ impl<'a> Suffix<'a> {
         }
     }
 
-    /// The suffix itself.
+    /// Returns the suffix itself.
     #[inline(always)]
     pub fn text(&self) -> &'a str
         ensures { result.now ≡ self.now }
@@ -75,7 +75,7 @@ impl<'a> Suffix<'a> {
         self.text
     }
 
-    /// Its length in bytes.
+    /// Returns its length in bytes.
     #[inline(always)]
     pub fn len(&self) -> usize
         ensures { result ≡ length self.now }
@@ -83,7 +83,7 @@ impl<'a> Suffix<'a> {
         self.text.len()
     }
 
-    /// Whether it begins with a byte.
+    /// Returns `true` if it begins with a byte.
     #[inline(always)]
     pub fn begins_with(&self, byte: u8) -> bool
         ensures begins { IsTrue result ↔ (slice_get self.now 0 ≡ Some byte) }
@@ -92,7 +92,7 @@ impl<'a> Suffix<'a> {
         !self.text.is_empty() && self.text.as_bytes()[0] == byte
     }
 
-    /// Its own suffix from this position on.
+    /// Returns its own suffix from this position on.
     #[inline(always)]
     pub fn after(&self, from: usize) -> Suffix<'a>
         requires { IsCharBoundary self.now from }
@@ -104,7 +104,7 @@ impl<'a> Suffix<'a> {
         }
     }
 
-    /// The first position of a byte, counted from 0 in the suffix, or the suffix's length if it doesn't occur.
+    /// Returns the first position of a byte, counted from 0 in the suffix, or the suffix's length if it doesn't occur.
     #[inline(always)]
     pub fn position_of(&self, byte: u8) -> usize
         ensures { result ≡ first_position byte self.now }

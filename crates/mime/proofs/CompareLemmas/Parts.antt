@@ -17,6 +17,7 @@ use Rattle.mime.specs.Inner.KeptText.{lowered_pair}
 use Rattle.mime.specs.Inner.ComparedText.{StartsWithEssence, IsAcceptedAt, IsLoneCharset}
 use Rattle.mime.specs.declared.scan.Positions.{Positions}
 use Rattle.mime.proofs.BytesLemmas.{list_all-parts, AreTokenBytes-from_token, are_other-token, semicolon_is_no_token}
+use Rattle.mime.proofs.ValueLemmas.Pairs.{cut_after_equals-name}
 use Rattle.mime.proofs.ValueLemmas.Parts.{kept-essence, read-low_essence}
 use Rattle.mime.proofs.ValueLemmas.KeptText.{text_of-essence, take-essence, length-essence_of, slice_get-semicolon, kept_is_read, pairs_within-text_of}
 use Rattle.mime.proofs.LowercaseLemmas.{lowered-append, length-tail_lowered, pairs_of_tail-lowered, list_all-lowered}
@@ -147,16 +148,10 @@ text_is-lone_charset kept text value reads some is lone =
 
 -- ---- a lone charset
 
--- the name of a pair that is cut out
-cut_value-name : (whole : ℕ) (name bytes : List ℕ) → (cut_after_equals whole name bytes).name ≡ name
-cut_value-name whole name [] = refl
-cut_value-name whole name (b ∷ bytes) =
-    cond_both (b == quote_byte) _ _ (λ (cut : PairCut). cut.name ≡ name) (λ _. refl) (λ _. refl)
-
 -- the first name of a list that begins with ` charset=`
 cut_of-charset : (after : List ℕ) → (cut_of (codes " charset=" ++ after)).name ≡ codes "charset"
 unfolding cut_of
-cut_of-charset after = cut_value-name (length (codes " charset=" ++ after)) (codes "charset") after
+cut_of-charset after = cut_after_equals-name (length (codes " charset=" ++ after)) (codes "charset") after
 
 -- the only pair of such a list is a charset
 pub lone_charset : (list : List ℕ) → take 9 list ≡ codes " charset=" → IsLoneCharset (pairs_within 1 list)

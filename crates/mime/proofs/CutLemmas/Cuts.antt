@@ -45,7 +45,7 @@ following_len (b ∷ f) l all begins =
     let parts = and_parts (is_following_byte b) (list_all is_following_byte f) all in
     rw (parts.0, following_len f l parts.1 begins) (omega arith)
 
--- so how long a character is, is read off the text
+-- the text determines how long its character is
 character_len : (c l : List ℕ) → IsCharacter c l → suc (prefix_len is_following_byte (drop 1 (c ++ l))) ≡ length c
 character_len [] l one = absurd one
 character_len (b ∷ f) l one = ap suc (following_len f l one.0 one.1)

@@ -203,7 +203,7 @@ walk_from-in_list top sub list (b ∷ xs) =
 pub walk-type : (top : List ℕ) → IsToken top → walk top ≡ Some (in_type top)
 walk-type = walk_by-token grow (in_type []) in_type (λ b yes. cond-true _ _ _ yes) (λ b taken c yes. cond-true _ _ _ yes)
 
--- and after the slash to a subtype
+-- a token after the slash leads to a subtype
 pub walk_from-subtype : (top sub : List ℕ) → IsToken sub → walk_from (in_subtype top []) sub ≡ Some (in_subtype top sub)
 walk_from-subtype top =
     walk_by-token grow (in_subtype top []) (in_subtype top) (λ b yes. cond-true _ _ _ yes) (λ b taken c yes. cond-true _ _ _ yes)
@@ -223,7 +223,7 @@ walk_list-name closed n =
     walk_by-token grow_list (list_at closed (in_spaces n)) (λ name. list_at closed (in_name n name))
     (λ b yes. cond-false _ _ _ (token_byte-not_space b yes) ∙ cond-true _ _ _ yes) (λ b taken c yes. cond-true _ _ _ yes)
 
--- and after the equals sign to a plain value
+-- a token after the equals sign leads to a plain value
 pub walk_list-value : (closed : Closed) (n name value : List ℕ) → IsToken value
     → walk_list (list_at closed (in_value n name [])) value ≡ at_state closed (in_value n name value)
 walk_list-value closed n name =

@@ -97,7 +97,7 @@ IsForeign-outside b outside = record {
   quote = grind (arith, nat_tests);
 }
 
--- so is a byte past ASCII
+-- a byte past ASCII is foreign, too
 pub foreign-from_high : (b : ℕ) → 128 ≤ b → IsForeign b
 foreign-from_high b high = IsForeign-outside b (grind (arith, nat_tests))
 

@@ -17,7 +17,7 @@ decided_by : {P : Type 0} (test : Bool) → Decides test P → P ⊎ ¬ P
 decided_by true decides = inl (decides.0 refl)
 decided_by false decides = inr (not_from_Decides false decides refl)
 
--- and is so if it can't be otherwise
+-- what is so or isn't, and can't be otherwise, is so
 is_so : {P : Type 0} → P ⊎ ¬ P → ¬ (¬ P) → P
 is_so (inl p) never = p
 is_so (inr isnt) never = absurd (never isnt)

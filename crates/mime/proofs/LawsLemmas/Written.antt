@@ -20,7 +20,7 @@ use Rattle.mime.specs.Grammar.{Parameter, plain, quoted, Parameters, blank, fina
 use Rattle.mime.specs.HeaderLaws.{AreHeaderBytes, IsSafePair, KeptIsSafe, text_with_parameter, with_parameter, ParameterIsRead}
 use Rattle.mime.specs.Inner.Quoted.{takes, awaits_after, continues}
 use Rattle.mime.proofs.GrammarLemmas.Begun.{Begun, in_type, in_list, in_quotes, list_at, grow, walk_from}
-use Rattle.mime.proofs.BytesLemmas.{list_all-wider, list_all-parts, AreTokenBytes-from_token}
+use Rattle.mime.proofs.BytesLemmas.{list_all-wider, list_all-parts, AreTokenBytes-from_token, token-size}
 use Rattle.mime.proofs.GrammarLemmas.Characters.{IsForeign, IsForeign-outside, IsOpen, grow-foreign}
 use Rattle.mime.proofs.ValueLemmas.KeptText.{value_of_low, value_of-lowering, kept_is_read}
 use Rattle.mime.proofs.GrammarLemmas.Content.{IsContent-taken, takes_all-text, awaits_after-text}
@@ -105,7 +105,7 @@ unsafe-untaken : (awaiting : Bool) (b : ℕ) → IsFalse (is_quoted_byte b) → 
 unsafe-untaken true b unsafe = unsafe
 unsafe-untaken false b unsafe = ap (λ t. t && not (b == quote_byte)) unsafe
 
--- so it leads nowhere
+-- a byte that a header doesn't have leads nowhere
 unsafe-dead : (begun : Begun) (b : ℕ) → IsFalse (is_quoted_byte b) → grow begun b ≡ None
 unsafe-dead begun b unsafe =
     elim (grow begun b) as (λ o. MatchOption o (Unit {0}) (λ next. IsOpen begun × IsOpen next) → grow begun b ≡ o → o ≡ None) [
@@ -139,7 +139,7 @@ token_byte-text : (b : ℕ) → is_token_byte b ≡ true → is_quoted_text_byte
 unfolding is_token_byte is_quoted_byte
 token_byte-text b token = grind (arith, nat_tests)
 
--- so a token is quoted content
+-- a token is quoted content
 pub content-from_token : (bytes : List ℕ) → IsToken bytes → IsContent bytes
 content-from_token bytes token =
     let text = list_all-wider is_token_byte is_quoted_text_byte token_byte-text bytes (AreTokenBytes-from_token bytes token) in
@@ -172,10 +172,6 @@ subtype_some : (text : List ℕ) (value : MediaType) (plus : Option ℕ) → Rea
 subtype_some text value None reads is =
     let size = token-size (lowered reads.tree.sub) (IsToken-lowered reads.tree.sub reads.well_formed.1) in
     omega (arith, size, ap length (after_slash-read text value reads), length-drop (value.slash + 1) value.essence)
-  where
-    token-size : (bytes : List ℕ) → IsToken bytes → 0 < length bytes
-    token-size [] token = absurd token
-    token-size (b ∷ bytes) token = omega arith
 subtype_some text value (Some p) reads is = omega (arith, (plus_in text value.essence value p reads refl is).above)
 
 -- the suffix has token bytes

@@ -88,7 +88,7 @@ passing_skip class text at to before within least most =
       };
     }
 
--- and the byte after them is given
+-- the byte after the bytes that were skipped is given
 pub reaches_skip : (class : ℕ → Bool) (text : List ℕ) (at to before : ℕ) → to < length text → at ≤ to
     → to ≤ at + prefix_len class (drop at text)
     → Reaches class (reader_at text at before) (reader_at text (to + 1) before) (Some (get_or text to 0))
@@ -137,7 +137,7 @@ reaches_whole {class} {b = b} q fits = record {
 abbrev pub reached : {class : ℕ → Bool} {old new : Remaining} {stop : Option ℕ} → Passes class old new stop → Reaches class old new stop
 reached q = record { run = q.run; of_class = q.of_class; given = q.given }
 
--- and a run whose end is known the longest
+-- a run whose end is known is the longest run
 abbrev passes_from : {class : ℕ → Bool} {old new : Remaining} {stop : Option ℕ} → Reaches class old new stop
     → MatchOption stop (new.left ≡ []) (λ b. IsFalse (class b)) → Passes class old new stop
 passes_from q stopped = record { run = q.run; of_class = q.of_class; given = q.given; stopped = stopped }

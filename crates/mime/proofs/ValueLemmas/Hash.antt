@@ -56,7 +56,7 @@ bytes_of_number (b ∷ bytes) count fits =
     ∙ ap (bytes_low_first 0 (suc (length bytes + count))) high ∙ bytes_of_number bytes count (λ i. fits (suc i)) in
     λ j. low j ∷ rest j
 
--- so those of a part's last bytes are its last word
+-- the bytes of the number of a part's last bytes are its last word
 pub end_word-bytes : (rest : List ℕ) → length rest < 8 → ((i : ℕ) → get_or rest i 0 < 256) → to_le_bytes w64 (number_of rest) ≡ end_word rest
 end_word-bytes rest short fits =
     let size : 8 ≡ suc (length rest + (7 - length rest)) = omega (arith, short) in

@@ -67,7 +67,7 @@ len_from-le awaiting (b ∷ text) =
     cond_both (not awaiting && b == quote_byte) _ _ (λ n. n ≤ length (b ∷ text)) (λ closes. omega arith)
     (λ on. omega (arith, len_from-le (awaits_next awaiting b) text))
 
--- nor is content
+-- content is no longer than its text
 pub content_len-le : (text : List ℕ) (n : ℕ) → n ≡ content_len text → n ≤ length text
 content_len-le text n e = omega (arith, e, len_from-le false text)
 
@@ -226,8 +226,8 @@ pairs_within-first zero list some = absurd (some refl)
 pairs_within-first (suc count) list some =
     ap (λ (left : ℕ). ((cut_of list).name, (cut_of list).value) ∷ pairs_within left (cut_of list).rest) (omega arith)
 
--- a cut keeps the name that stands before the equals sign
-cut_after_equals-name : (size : ℕ) (name text : List ℕ) → (cut_after_equals size name text).name ≡ name
+-- a cut keeps the name before the equals sign
+pub cut_after_equals-name : (size : ℕ) (name text : List ℕ) → (cut_after_equals size name text).name ≡ name
 cut_after_equals-name size name [] = refl
 cut_after_equals-name size name (b ∷ back) = cond_both (b == quote_byte) _ _ (λ (cut : PairCut). cut.name ≡ name) (λ _. refl) (λ _. refl)
 
@@ -239,7 +239,7 @@ unfolding cut_of
 cut_of-part part list name back size x size_is name_is back_is is =
     is ∙ (λ i. part (cut_after_equals (size_is i) (name_is i) (back_is i)))
 
--- so the cut has that name
+-- the cut of a list has the name before its first equals sign
 pub cut_of-name : (list name : List ℕ) → name ≡ before_byte equals_byte (without_spaces list) → name ≡ (cut_of list).name
 unfolding cut_of
 cut_of-name list name is = is ∙ sym (cut_after_equals-name (length list) _ (after_byte equals_byte (without_spaces list)))
@@ -251,7 +251,7 @@ pub found-first : (Accepts : List ℕ → Bool → Type 0) (count : ℕ) (list v
 found-first Accepts count list value flag some accepted valued flagged =
     rw (pairs_within-first count list some) (λ _. cc (valued, flagged), λ other. absurd (other accepted))
 
--- else what is found in the rest
+-- if the first name isn't accepted, what is found in a list is what is found in the rest
 pub found-next : (Accepts : List ℕ → Bool → Type 0) (count : ℕ) (list : List ℕ) (found : Option (List ℕ × Bool)) → count ≢ 0
     → ¬ (Accepts (cut_of list).name true) → IsFirstAccepted Accepts (items_of (pairs_within (count - 1) (cut_of list).rest)) found
     → IsFirstAccepted Accepts (items_of (pairs_within count list)) found
@@ -274,7 +274,7 @@ get_or-first_equals : (text : List ℕ) → first_position equals_byte text < le
 get_or-first_equals text within =
     grind (arith, nat_tests, prefix_len_stops (λ b. not (b == equals_byte)) text 0 within)
 
--- so another byte isn't at that position
+-- the first position of an equals sign isn't that of another byte
 pub first_equals-other : (text : List ℕ) (n : ℕ) → n < length text → get_or text n 0 ≢ equals_byte → first_position equals_byte text ≢ n
 first_equals-other text n within other is =
     other (subst (λ k. get_or text k 0 ≡ equals_byte) is (eqb-true _ equals_byte (get_or-first_equals text (omega (arith, within, is)))))

@@ -81,7 +81,7 @@ unfolding is_token_byte
 kept_atom STAR_STAR = kept_by (atom_text STAR_STAR) refl refl refl refl refl refl
 kept_atom atom = kept_by (atom_text atom) refl refl refl refl refl refl
 
--- and it is short enough to lie in the value
+-- each constant's text is short enough to be stored in the value
 pub short_atom : (atom : Atom) → length (atom_text atom) ≤ 40
 short_atom STAR_STAR = omega arith
 short_atom atom = omega arith

@@ -48,7 +48,7 @@ finds_lists cmp IsLess finds exact (x ∷ xs) [] = (λ is. absurd cc, λ before.
 finds_lists cmp IsLess finds exact (x ∷ xs) (y ∷ ys) =
     finds_then x y _ _ (cmp x y) (slice_cmp cmp xs ys) (finds x y) (exact x y) (finds_lists cmp IsLess finds exact xs ys)
 
--- so of bytes, of texts, of pairs and of values
+-- the orders of bytes, of texts, of pairs and of values find which comes before
 finds_bytes : Finds nat_cmp (λ x y. x < y)
 finds_bytes x y =
     (λ is. subst (λ o. MatchOrdering o (x < y) (x ≡ y) (y < x)) is (ranked x y (nat_cmp x y) refl), λ less. sym (nat_cmp_is x y Less less))
@@ -79,7 +79,7 @@ tells_media x y = go (media_cmp x y) refl
     go Equal is = same_from_cmp x y (ap is_eq is)
     go Greater is = (finds_media y x).0 (media_cmp_total.antisymm y x ∙ ap ordering_reverse is)
 
--- so does an answer that is the order's
+-- an answer that is the order's tells which value comes before
 pub tells_answer : (x y : MediaType) (answer : Ordering) → answer ≡ media_cmp x y
     → MatchOrdering answer (Before x y) (Same x y) (Before y x)
 tells_answer x y answer is = subst (λ order. MatchOrdering order (Before x y) (Same x y) (Before y x)) (sym is) (tells_media x y)
@@ -142,7 +142,7 @@ ordered_by_difference (x ∷ xs) (y ∷ ys) (suc k) within also differ =
       differ = differ.differ;
     }))
 
--- and so are beginnings that have those bytes
+-- beginnings that have the bytes at which two texts differ differ there, too
 pub differ_in_beginnings : (text other : List ℕ) (n m at : ℕ) → at < n → at < m → DifferAt text other 0 at
     → DifferAt (take n text) (take m other) 0 at
 differ_in_beginnings text other n m at within also differ = record {

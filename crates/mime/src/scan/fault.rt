@@ -20,8 +20,8 @@ pub enum ParseError {
     MissingEqual,
     /// The string ends in a parameter's equals sign: a value is missing, as in `a/b;p=`.
     MissingValue,
-    /// The string ends in a quoted value: its closing `"` is missing, as in `a/b;p="x`. After an unpaired backslash, as
-    /// in `a/b;p="\`, the byte after it is missing too.
+    /// The string ends in a quoted string: its closing `"` is missing, as in `a/b;p="x`. After an unpaired backslash,
+    /// as in `a/b;p="\`, the byte after it is missing, too.
     MissingQuote,
     /// A byte that no media type has there, as the space in `a b`: some media type begins with the bytes before it, and
     /// none with the bytes up to and including it.
@@ -35,7 +35,7 @@ pub enum ParseError {
     NoMemory,
 }
 
-/// What `InvalidToken` prints, at most 69 bytes. Not written with the caller's formatter, whose width would pad each
+/// Returns what `InvalidToken` prints, at most 69 bytes. It doesn't use the caller's formatter, whose width would pad each
 /// number.
 fn token_text(pos: usize, byte: u8) -> Result<InlineText<80>, fmt::Error>
     ensures { IfOk result (λ text. inline_text text ≡ token_text pos byte) }
@@ -94,7 +94,7 @@ impl Model for FromStrError {
 }
 
 impl FromStrError {
-    /// The error of a string with this fault.
+    /// Returns the error of a string with this fault.
     pub(crate) fn new(fault: ParseError) -> FromStrError
         ensures { result ≡ fault }
     {

@@ -1,6 +1,6 @@
 //! A reader of a string's bytes that counts those it has returned or skipped.
 
-ghost use Rattle.std.specs.Prelude.{◌≡◌, ◌≢◌, ◌+◌, ◌-◌, ◌<◌, ◌≤◌, ◌^◌, [], ◌∷◌, true, false, length, drop, not, IsTrue, None, Some};
+ghost use Rattle.std.specs.Prelude.{◌≡◌, ◌≢◌, ◌+◌, ◌-◌, ◌<◌, ◌≤◌, ◌^◌, [], true, false, length, drop, not, IsTrue, None, Some};
 ghost use Rattle.std.specs.List.{prefix_len};
 ghost use Rattle.mime.specs.Bytes.{is_quoted_text_byte};
 ghost use Rattle.mime.specs.Inner.ByteClasses.{is_token_except_plus, token_bytes};
@@ -24,15 +24,16 @@ pub(crate) struct ByteReader<'a> {
     known: usize,
     /// Which of these aren't common token bytes, as a bit mask.
     stops: u64,
-    /// How many bytes of a run are read in its caller's loop. The others are read by a call, which is dearer for a short run.
+    /// How many bytes of a run are read in its caller's loop. The others are read by a call, which costs more for a short
+    /// run.
     near: usize,
 }
 
 /// How many bytes of a run are read in the loop of a `MimeIter`'s caller. Most tokens are shorter.
 pub(crate) const NEAR: usize = 24;
 
-/// The position of the byte, from a position on, that ends a run of a token's bytes, or the length. A plus ends it, too, unless
-/// `with_plus`.
+/// Returns the position of the byte, from a position on, that ends a run of a token's bytes, or the length. A plus ends it,
+/// too, unless `with_plus`.
 #[inline(always)]
 fn end_of_token(text: &[u8], from: usize, with_plus: bool) -> usize
     requires { from ≤ length text.now }
@@ -49,8 +50,8 @@ fn end_of_token(text: &[u8], from: usize, with_plus: bool) -> usize
     at
 }
 
-/// The position that `end_of_token` finds, if a plus ends a run. It isn't inlined: between other loops, its own would have twice as
-/// many instructions.
+/// Returns the position that `end_of_token` finds, if a plus ends a run. It isn't inlined: between other loops, its own would have
+/// twice as many instructions.
 #[inline(never)]
 fn end_at_plus(text: &[u8], from: usize) -> usize
     requires { from ≤ length text.now }
@@ -60,7 +61,7 @@ fn end_at_plus(text: &[u8], from: usize) -> usize
     end_of_token(text, from, false)
 }
 
-/// The position that `end_of_token` finds, if a plus ends no run. It isn't inlined, as `end_at_plus`.
+/// Returns the position that `end_of_token` finds, if a plus doesn't end a run. It isn't inlined, like `end_at_plus`.
 #[inline(never)]
 fn end_past_pluses(text: &[u8], from: usize) -> usize
     requires { from ≤ length text.now }
@@ -70,7 +71,7 @@ fn end_past_pluses(text: &[u8], from: usize) -> usize
     end_of_token(text, from, true)
 }
 
-/// The position that `end_of_token` finds, by a call.
+/// Returns the position that `end_of_token` finds, by a call.
 #[inline(always)]
 fn end_far(text: &[u8], from: usize, with_plus: bool) -> usize
     requires { from ≤ length text.now }
@@ -96,8 +97,8 @@ impl<'a> Model for ByteReader<'a> {
 }
 
 impl<'a> ByteReader<'a> {
-    /// A reader of all bytes of `text`, whose count begins at `count`. It looks at no byte but those that it has counted, and
-    /// the next one, so that its count is that of the steps of a `MimeIter`. `near` is how many bytes of a run its caller's loop reads.
+    /// Returns a reader of all bytes of `text`, whose count begins at `count`. It looks only at bytes that it has counted, and at the
+    /// next one, so that its count is the number of steps of a `MimeIter`. `near` is how many bytes of a run its caller's loop reads.
     #[inline(always)]
     pub(crate) fn new(text: &'a str, count: u128, near: usize) -> ByteReader<'a>
         requires { count + length text.now < 2 ^ 128 }
@@ -114,8 +115,8 @@ impl<'a> ByteReader<'a> {
         }
     }
 
-    /// A reader of all bytes of `text`, whose count begins at 0. It looks at blocks of bytes, and may skip some: it is
-    /// for callers that tell nobody how many steps they take.
+    /// Returns a reader of all bytes of `text`, whose count begins at 0. It looks at blocks of bytes, and may skip some. It is
+    /// for callers that don't count steps.
     #[inline(always)]
     pub(crate) fn by_blocks(text: &'a str) -> ByteReader<'a>
         ensures left { result.left ≡ text.now }
@@ -133,7 +134,7 @@ impl<'a> ByteReader<'a> {
         }
     }
 
-    /// The next byte, or `None` at the end.
+    /// Returns the next byte, or `None` at the end.
     #[inline(always)]
     pub(crate) fn next(&mut self) -> Option<u8>
         ensures { GivesFirst self.old self.new result }
@@ -146,14 +147,14 @@ impl<'a> ByteReader<'a> {
         Some(byte)
     }
 
-    /// The position up to which the bytes of a run, from the next byte on, are read in the caller's loop.
+    /// Returns the position up to which the bytes of a run, from the next byte on, are read in the caller's loop.
     #[inline(always)]
     pub(crate) fn near_end(&self) -> usize {
         // If the sum wraps, the whole run is read by a call.
         self.at.wrapping_add(self.near).min(self.text.len())
     }
 
-    /// Whether the next byte is before a position.
+    /// Returns `true` if the next byte is before a position.
     #[inline(always)]
     pub(crate) fn is_before(&self, end: usize) -> bool
         ensures { IsTrue result → 0 < length self.now.left }
@@ -164,7 +165,7 @@ impl<'a> ByteReader<'a> {
         self.at < end && self.at < self.text.len()
     }
 
-    /// The next byte, of a string that hasn't ended.
+    /// Returns the next byte, of a string that hasn't ended.
     #[inline(always)]
     pub(crate) fn next_byte(&mut self) -> u8
         requires { self.old.left ≢ [] }
@@ -225,7 +226,8 @@ impl<'a> ByteReader<'a> {
         Some(self.text[stop])
     }
 
-    /// Whether the string may go on after the token at the next byte: unless a known byte ends it that is no semicolon.
+    /// Returns `true` if the string may continue after the token at the next byte: unless a known byte ends the token
+    /// that isn't a semicolon.
     #[inline(always)]
     fn may_go_on(&self) -> bool {
         if self.at >= self.known {
@@ -239,8 +241,8 @@ impl<'a> ByteReader<'a> {
         stop == b';' || is_token(stop)
     }
 
-    /// Looks at all bytes up to a window, if only a block of them is known, and the string may go on after the token at the
-    /// next byte: most strings that are rejected end before.
+    /// Looks at all bytes of a window, if only a block of them is known and the string may continue after the token at the
+    /// next byte. Most strings that are rejected end before.
     #[inline(always)]
     pub(crate) fn look_further(&mut self)
         ensures { self.new ≡ self.old }
@@ -262,7 +264,7 @@ impl<'a> ByteReader<'a> {
         }
     }
 
-    /// The number of bytes returned or skipped so far, including those counted before this reader.
+    /// Returns the number of bytes returned or skipped so far, including those counted before this reader.
     #[inline(always)]
     pub(crate) fn count(&self) -> u128
         ensures count { result ≡ self.now.count }
@@ -271,7 +273,7 @@ impl<'a> ByteReader<'a> {
         self.before + self.at as u128
     }
 
-    /// The position of the byte that was read last, in bytes from 0. `from` was the count at the start of the string.
+    /// Returns the position of the byte that was read last, in bytes from 0. `from` was the count at the start of the string.
     #[inline(always)]
     pub(crate) fn position(&self, from: u128) -> usize
         requires given { from < self.now.count }

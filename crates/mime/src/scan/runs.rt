@@ -1,8 +1,8 @@
-//! Runs of bytes that tokens and quoted text mostly have.
+//! The bytes at which a search in a token or in quoted text stops.
 
 use mime_search::{Class, Range};
 
-/// All but the bytes that tokens mostly have: letters, digits, hyphens and dots.
+/// All bytes except those that tokens mostly have: letters, digits, hyphens and dots.
 pub(crate) static COMMON_TOKEN_BYTES: Class = Class {
     fold: 0x20,
     folded: Range(b'a', b'z'),
@@ -11,7 +11,7 @@ pub(crate) static COMMON_TOKEN_BYTES: Class = Class {
     inside: false,
 };
 
-/// All but the bytes of quoted text in ASCII, and the tab.
+/// All bytes except those of quoted text in ASCII; but the tab, too.
 pub(crate) static QUOTED_TEXT: Class = Class {
     fold: 0,
     folded: Range(b'#', b'['),

@@ -13,7 +13,7 @@ const WORD: usize = 8;
 /// The byte that ends a part. UTF-8 has no such byte.
 const END: u8 = 0xff;
 
-/// The number whose lowest bytes are these, at most one, and whose next byte is `END`.
+/// Returns the number whose lowest bytes are these, at most one, and whose next byte is `END`.
 #[inline(always)]
 fn number_up_to_one(rest: &[u8]) -> u64
     requires { length rest.now < 2 }
@@ -26,7 +26,7 @@ fn number_up_to_one(rest: &[u8]) -> u64
     rest[0] as u64 + END as u64 * 0x100
 }
 
-/// The number whose lowest bytes are these, at most three, and whose next byte is `END`.
+/// Returns the number whose lowest bytes are these, at most three, and whose next byte is `END`.
 #[inline(always)]
 fn number_up_to_three(rest: &[u8]) -> u64
     requires { length rest.now < 4 }
@@ -40,7 +40,7 @@ fn number_up_to_three(rest: &[u8]) -> u64
     low as u64 + number_up_to_one(&rest[2..]) * 0x1_0000
 }
 
-/// The number whose lowest bytes are these, at most seven, and whose next byte is `END`.
+/// Returns the number whose lowest bytes are these, at most seven, and whose next byte is `END`.
 #[inline(always)]
 fn number_up_to_seven(rest: &[u8]) -> u64
     requires { length rest.now < WORD }
@@ -53,8 +53,8 @@ fn number_up_to_seven(rest: &[u8]) -> u64
     low as u64 + number_up_to_three(&rest[4..]) * 0x1_0000_0000
 }
 
-/// The last word of a part: its bytes after the whole words, `END`, and zeros. It is made as a number, whose lowest byte
-/// is the first: most hashers take a word as a number.
+/// Returns the last word of a part: its bytes after the whole words, `END`, and zeros. It is made as a number, whose lowest
+/// byte is the first: most hashers take a word as a number.
 #[inline(always)]
 fn end_word(rest: &[u8]) -> [u8; WORD]
     requires { length rest.now < WORD }

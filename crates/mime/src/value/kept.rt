@@ -3,7 +3,6 @@
 ghost use Rattle.std.specs.Prelude.{◌≡◌, ◌+◌, ◌-◌, ◌++◌, ◌<◌, if◌then◌else◌, ◌≤◌, ◌↔◌, IsFalse, IfOk, take, drop, length, slice_get, slice_range, string_bytes};
 ghost use Rattle.mime.specs.Bytes.{semicolon_byte};
 ghost use Rattle.mime.specs.Values.{lowered, is_charset};
-ghost use Rattle.mime.specs.Inner.Pairs.{cut_of, lowered_first, lowered_within};
 ghost use Rattle.mime.specs.Inner.Scanning.{HasPositions};
 ghost use Rattle.mime.specs.Inner.KeptText.{with_pairs_lowered, kept_positions, kept_text_of};
 
@@ -13,7 +12,7 @@ use crate::value::pairs::cut;
 use mime_search::{BLOCK, Suffix, eq_ignore_ascii_case};
 use std::alloc::{AllocError, Global};
 
-/// Whether there is an ASCII capital among bytes.
+/// Returns `true` if there is an ASCII capital among bytes.
 #[inline]
 pub(crate) fn has_capital(bytes: &[u8]) -> bool
     ensures { IsFalse result ↔ (lowered bytes.now ≡ bytes.now) }
@@ -26,7 +25,7 @@ pub(crate) fn has_capital(bytes: &[u8]) -> bool
     found
 }
 
-/// Whether a parameter's name is `charset`, ignoring ASCII case.
+/// Returns `true` if a parameter's name is `charset`, ignoring ASCII case.
 #[inline]
 fn names_charset(name: &str) -> bool
     ensures { result ≡ is_charset name.now }
@@ -58,7 +57,7 @@ fn lowercase_start(bytes: &mut [u8], len: usize)
     lowercase_range(bytes, len - BLOCK, len);
 }
 
-/// How many bytes of a value ignore case: all if its name is `charset`, else none.
+/// Returns how many bytes of a value ignore case: all of them if its name is `charset`, else none.
 #[inline(always)]
 fn low_len(name: &str, value: &str) -> usize
     ensures { result ≡ if is_charset name.now then length value.now else 0 }
@@ -88,7 +87,7 @@ pub(crate) fn lowercase_text(bytes: &mut [u8], text: &str, semicolon: usize, cou
     }
 }
 
-/// The kept text of a string with `count` pairs: only what ignores case is lowercased.
+/// Returns the kept text of a string with `count` pairs: only what ignores case is lowercased.
 #[inline(always)]
 fn keep_pairs(
     alloc: Global,
@@ -109,7 +108,7 @@ fn keep_pairs(
     Ok(unsafe { String::from_utf8_unchecked(bytes) })
 }
 
-/// The positions of the parts in the kept text: an empty parameter list is dropped.
+/// Returns the positions of the parts in the kept text: an empty parameter list is dropped.
 #[inline(always)]
 pub(crate) fn positions_in_kept(positions: Positions) -> Positions
     ensures { result ≡ kept_positions positions }
@@ -123,7 +122,7 @@ pub(crate) fn positions_in_kept(positions: Positions) -> Positions
     }
 }
 
-/// The kept text of an accepted string. An empty parameter list is dropped.
+/// Returns the kept text of an accepted string. An empty parameter list is dropped.
 #[inline(always)]
 pub(crate) fn keep(alloc: Global, text: &str, positions: Positions) -> Result<String, AllocError>
     requires { HasPositions text.now positions }

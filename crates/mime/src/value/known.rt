@@ -7,10 +7,9 @@ use crate::value::Mime;
 use std::alloc::{AllocError, Global};
 use std::marker::Model;
 
-/// A text that is known to be the kept text of a media type: an essence, which another media type has too, and parameters
-/// after it (RFC 7231, 3.1.1.1). Code that makes one has to be proved to make nothing else, so the text isn't read again.
-/// It is for the crates of this repository, as `mime_http`: what its maker proves is `IsKnown`, on a private page, and may
-/// change within 1.x.
+/// A text that is known to be the kept text of a media type: the essence of another media type, and parameters after it
+/// (RFC 7231, 3.1.1.1). It is proved of the code that makes one, so the text isn't read again. It is for the crates of
+/// this repository, such as `mime_http`: what has to be proved is `IsKnown`, in a private file, and may change within 1.x.
 ///
 /// `text/html; charset=utf-8` with 1 parameter is one, if `like` was read from `Text/HTML`. `text/html; charset=UTF-8`
 /// isn't, since the value of a charset is kept in lowercase.
@@ -41,12 +40,12 @@ impl<'a> KnownText<'a> {
     /// allocates once.
     ///
     /// # Errors
-    /// `AllocError` if memory runs out, which is only for a text of more than 40 bytes.
+    /// `AllocError` if memory runs out, which can happen only for a text of more than 40 bytes.
     #[inline(always)]
     pub fn into_mime(self, alloc: Global) -> Result<Mime, AllocError>
-        // The result is the value of the text,
+        // The result is the value of the text.
         ensures read { IfOk result (λ mime. Reads self.entry mime.media) }
-        // and only a long text needs memory.
+        // Only a long text needs memory.
         ensures short { length self.entry ≤ 40 → IsOk result }
     {
         let KnownText { like, text, count } = self;

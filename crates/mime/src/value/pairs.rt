@@ -2,8 +2,8 @@
 
 ghost use Rattle.std.specs.Iterator.{YieldsFirstBy, item_count, UpTo, at_most};
 ghost use Rattle.std.specs.Iterator.SizeHint.{IsWithinCount};
-ghost use Rattle.std.specs.Prelude.{ℕ, List, ◌≡◌, ◌≢◌, ◌↔◌, ◌<◌, ◌≤◌, ◌+◌, true, false, IsTrue, length, take, drop, slice_get, slice_index, IfSome, Some, None, option_map, codes};
-ghost use Rattle.std.specs.Str.{IsCharBoundary, bytes_eq};
+ghost use Rattle.std.specs.Prelude.{ℕ, List, ◌≡◌, ◌≢◌, ◌↔◌, ◌<◌, ◌≤◌, ◌+◌, true, false, IsTrue, length, take, drop, slice_get, IfSome, Some, None, option_map};
+ghost use Rattle.std.specs.Str.{IsCharBoundary};
 ghost use Rattle.mime_search.specs.Suffixes.{before_byte, after_byte, first_position};
 ghost use Rattle.mime.specs.Inner.Pairs.{cut_of, leading_spaces, without_spaces, cut_after_equals, has_equals, pairs_after, pair_seen};
 ghost use Rattle.mime.specs.Bytes.{quote_byte, semicolon_byte, equals_byte};
@@ -28,8 +28,8 @@ pub(crate) struct Pair<'a> {
     pub(crate) rest: Suffix<'a>,
 }
 
-/// The length in bytes of a quoted value's content, of which the first quote isn't the end. It isn't inlined: few values have a
-/// backslash before their first quote.
+/// Returns the length in bytes of a quoted string's content, whose first quote doesn't end it. It isn't inlined: few
+/// values have a backslash before their first quote.
 #[cold]
 #[inline(never)]
 fn content_len_past_pairs(text: &[u8]) -> usize
@@ -38,7 +38,7 @@ fn content_len_past_pairs(text: &[u8]) -> usize
     content_end(text, 0)
 }
 
-/// The length in bytes of a quoted value's content, up to its first unpaired quote or the end. `quote` is the
+/// Returns the length in bytes of a quoted string's content, up to its first unpaired quote or the end. `quote` is the
 /// position of the first quote, or the length if there is none.
 #[inline(always)]
 fn content_len(text: &[u8], quote: usize) -> usize
@@ -52,8 +52,8 @@ fn content_len(text: &[u8], quote: usize) -> usize
     content_len_past_pairs(text)
 }
 
-/// The number of spaces and tabs with which a byte string begins, counted by blocks. It isn't inlined: few
-/// lists begin with more than one.
+/// Returns the number of spaces and tabs with which a byte string begins, counted by blocks. It isn't inlined: few lists begin
+/// with more than one.
 #[cold]
 #[inline(never)]
 fn count_spaces(bytes: &[u8]) -> usize
@@ -62,7 +62,7 @@ fn count_spaces(bytes: &[u8]) -> usize
     first_stop(bytes, 0, &Class::of(b' ', b'\t').others())
 }
 
-/// The number of spaces and tabs with which the list begins.
+/// Returns the number of spaces and tabs with which the list begins.
 #[inline(always)]
 fn leading_spaces(list: &str) -> usize
     ensures count { result ≡ leading_spaces list.now }
@@ -79,7 +79,7 @@ fn leading_spaces(list: &str) -> usize
     count_spaces(bytes)
 }
 
-/// What follows the first semicolon, or an empty suffix. Most suffixes begin with it, or are empty.
+/// Returns what follows the first semicolon, or an empty suffix. Most suffixes begin with it, or are empty.
 #[inline(always)]
 fn after_semicolon<'a>(end: Suffix<'a>) -> Suffix<'a>
     ensures { result ≡ after_byte semicolon_byte end.entry }
@@ -93,7 +93,7 @@ fn after_semicolon<'a>(end: Suffix<'a>) -> Suffix<'a>
     end.split_at_first(b';').1
 }
 
-/// Cuts a quoted value's content off what follows the first quote: the content, and what follows the quote that closes it.
+/// Cuts a quoted string at the quote that closes it: returns the content, and what follows that quote.
 #[inline(always)]
 fn cut_content<'a>(text: &Suffix<'a>) -> (&'a str, Suffix<'a>)
     ensures content { result.0.now ≡ content_of text.now }
@@ -103,7 +103,7 @@ fn cut_content<'a>(text: &Suffix<'a>) -> (&'a str, Suffix<'a>)
     text.split_around(length)
 }
 
-/// The quoted or plain value that follows a name's equals sign. What follows the value isn't searched.
+/// Returns the quoted or plain value that follows a name's equals sign. What follows the value isn't searched.
 #[inline(always)]
 fn value_after<'a>(end: &Suffix<'a>) -> &'a str
     ensures { (list : ℕ) → (name : List ℕ) → result.now ≡ (cut_after_equals list name end.now).value }
@@ -114,7 +114,7 @@ fn value_after<'a>(end: &Suffix<'a>) -> &'a str
     end.split_at_first(b';').0
 }
 
-/// The pair of a name, with the quoted or plain value that follows its equals sign. `list` is the list's length in
+/// Returns the pair of a name, with the quoted or plain value that follows its equals sign. `list` is the list's length in
 /// bytes.
 #[inline(always)]
 fn cut_value<'a>(list: usize, name: &'a str, end: &Suffix<'a>) -> Pair<'a>
@@ -143,7 +143,7 @@ fn cut_value<'a>(list: usize, name: &'a str, end: &Suffix<'a>) -> Pair<'a>
     }
 }
 
-/// A list without the spaces with which it begins.
+/// Returns a list without the spaces with which it begins.
 #[inline(always)]
 fn without_spaces<'a>(list: &Suffix<'a>) -> Suffix<'a>
     ensures { result ≡ without_spaces list.now }
@@ -151,7 +151,7 @@ fn without_spaces<'a>(list: &Suffix<'a>) -> Suffix<'a>
     list.after(leading_spaces(list.text()))
 }
 
-/// Cuts the first name off a list, with the spaces before it: the name, and what follows its equals sign.
+/// Cuts the first name off a list, with the spaces before it: returns the name, and what follows its equals sign.
 #[inline(always)]
 fn cut_name<'a>(list: &Suffix<'a>) -> (&'a str, Suffix<'a>)
     ensures name { result.0.now ≡ before_byte equals_byte (without_spaces list.now) }
@@ -193,7 +193,7 @@ pub(crate) fn cut<'a>(list: &Suffix<'a>) -> Pair<'a>
     cut_value(list.len(), name, &rest)
 }
 
-/// Whether a key accepts a parameter's name.
+/// Returns `true` if a key accepts a parameter's name.
 #[inline(always)]
 fn is_accepted<K: ParamKey>(key: &K, name: &str) -> bool
     ensures { IsTrue result ↔ K.Accepts key.now name.now true }
@@ -204,7 +204,7 @@ fn is_accepted<K: ParamKey>(key: &K, name: &str) -> bool
     })
 }
 
-/// Whether a byte string has an equals sign. For a constant one the compiler knows it.
+/// Returns `true` if a byte string has an equals sign. For a constant one the compiler knows it.
 #[inline(always)]
 fn has_equals(bytes: &[u8]) -> bool
     ensures { result ≡ has_equals bytes.now }
@@ -221,12 +221,12 @@ fn has_equals(bytes: &[u8]) -> bool
 struct FirstName<'a> {
     name: &'a str,
     end: Suffix<'a>,
-    /// Whether the key accepts it that it was cut for.
+    /// Whether the key for which it was cut accepts it.
     is_accepted: bool,
 }
 
-/// Cuts the first name off a list for a key, with the spaces before it. If it's the only name, and the key has a text, no equals sign
-/// is searched: the byte is looked at where a name of that length ends, and there is no answer if the key doesn't accept the name.
+/// Cuts the first name off a list for a key, with the spaces before it. If it is the only name and the key has a text, no equals sign
+/// is searched: a name of that length is expected, and the result is `None` if the key doesn't accept the name.
 #[inline(always)]
 fn cut_name_for<'a, K: ParamKey>(list: &Suffix<'a>, is_only: bool, key: &K) -> Option<FirstName<'a>>
     ensures other { result ≡ None → IsTrue is_only × ¬ (K.Accepts key.now (cut_of list.now).name true) }
@@ -277,7 +277,7 @@ impl<'a> Model for Pairs<'a> {
 }
 
 impl<'a> Pairs<'a> {
-    /// The first `count` pairs after a string's semicolon, or no pair if it has no semicolon.
+    /// Returns the first `count` pairs after a string's semicolon, or no pair if it has no semicolon.
     #[inline(always)]
     pub(crate) fn of_text(text: &'a str, semicolon: Option<usize>, count: usize) -> Pairs<'a>
         requires { IfSome semicolon (λ at. slice_get text.now at ≡ Some semicolon_byte) }
@@ -295,7 +295,7 @@ impl<'a> Pairs<'a> {
         }
     }
 
-    /// Whether the only pair left is a charset, and the list begins with ` charset=`.
+    /// Returns `true` if the only pair left is a charset, and the list begins with ` charset=`.
     #[inline(always)]
     pub(crate) fn is_lone_charset(&self) -> bool
         ensures { IsTrue result → IsLoneCharset self.now }
@@ -303,7 +303,7 @@ impl<'a> Pairs<'a> {
         self.left == 1 && self.list.text().as_bytes().starts_with(b" charset=")
     }
 
-    /// The value of the first pair whose name a key accepts. If the last name isn't accepted, its value isn't searched
+    /// Returns the value of the first pair whose name a key accepts. If the last name isn't accepted, its value isn't searched
     /// for its end.
     #[inline(always)]
     pub(crate) fn first_accepted<K: ParamKey>(self, key: &K) -> Option<Name<'a>>

@@ -30,7 +30,7 @@ impl<'a> Model for Params<'a> {
 }
 
 impl<'a> Params<'a> {
-    /// The parameters of these pairs.
+    /// Returns the parameters of these pairs.
     pub(crate) fn new(pairs: Pairs<'a>) -> Params<'a>
         ensures { result ≡ items_of pairs.entry }
     {

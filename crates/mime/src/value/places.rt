@@ -12,12 +12,13 @@ pub(crate) struct Places {
     pub(crate) slash: usize,
     pub(crate) pair_count: usize,
     /// The plus before the suffix, or 0, which says that there is none.
-    // Last, where an error of `from_str` has its byte: LLVM writes a constant there in parts, unless it is 0 beside others.
+    // It is last, where an error of `from_str` has its byte: LLVM writes a constant there in parts, unless it is 0 beside
+    // others.
     pub(crate) plus: usize,
 }
 
 impl Places {
-    /// The positions, a word each, of a text whose essence ends at `end`: at the semicolon after it, or with the text.
+    /// Returns the positions, a word each, of a text whose essence ends at `end`: at the semicolon after it, or with the text.
     #[inline(always)]
     pub(crate) fn of(positions: Positions, end: usize) -> Places
         requires plus { positions.plus ≢ Some 0 }
@@ -31,7 +32,7 @@ impl Places {
         }
     }
 
-    /// The position of the plus before the suffix.
+    /// Returns the position of the plus before the suffix.
     #[inline(always)]
     pub(crate) fn plus(&self) -> Option<usize>
         ensures { result ≡ unless_zero self.now.plus }
@@ -39,7 +40,7 @@ impl Places {
         (self.plus != 0).then_some(self.plus)
     }
 
-    /// The position of the semicolon after the essence, which ends at `end`.
+    /// Returns the position of the semicolon after the essence, which ends at `end`.
     #[inline(always)]
     pub(crate) fn semicolon(&self, end: usize) -> Option<usize>
         ensures { result ≡ (positions_at self.now end).semicolon }

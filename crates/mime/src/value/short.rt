@@ -1,4 +1,4 @@
-//! A short kept text, which lies in the value itself: making, cloning and dropping it asks for no memory.
+//! A short kept text, which is stored in the value itself: to make, clone and drop it doesn't allocate.
 
 ghost use Rattle.std.specs.Prelude.{◌≡◌, ◌<◌, ◌≤◌, ◌-◌, IfSome, None, Some, IsUtf8, length, take, drop, slice_get, replicate};
 ghost use Rattle.mime_search.specs.Differences.{DifferAt};
@@ -35,7 +35,7 @@ impl Model for ShortText {
     ghost invariant = { λ it. (it.len ≤ 40) × IsUtf8 (take it.len it.bytes) × (drop it.len it.bytes ≡ replicate (40 - it.len) 0) };
 }
 
-/// The bytes of a text, with zeros after it.
+/// Returns the bytes of a text, with zeros after it.
 #[inline(always)]
 fn padded(text: &str) -> [u8; PADDED]
     requires { length text.now ≤ SHORT }
@@ -63,7 +63,7 @@ fn lowercase_pairs(block: &mut [u8; PADDED], text: &str, semicolon: usize, count
 }
 
 impl ShortText {
-    /// The text.
+    /// Returns the text.
     #[inline(always)]
     pub(crate) fn as_str(&self) -> &str
         ensures { result.now ≡ self.now }
@@ -72,7 +72,7 @@ impl ShortText {
         unsafe { str::from_utf8_unchecked(&self.bytes[..self.len as usize]) }
     }
 
-    /// A copy of it.
+    /// Returns a copy of it.
     #[inline(always)]
     pub(crate) fn copy(&self) -> ShortText
         ensures { result ≡ self.now }
@@ -83,7 +83,8 @@ impl ShortText {
         }
     }
 
-    /// The first position at which two texts differ, or `None` if they are the same. Zeros count after the end of a text.
+    /// Returns the first position at which two texts differ, or `None` if they are the same. Zeros count after the end of a
+    /// text.
     #[inline(always)]
     pub(crate) fn first_difference(&self, other: &ShortText) -> Option<usize>
         ensures same { result ≡ None → self.now ≡ other.now }
@@ -107,7 +108,7 @@ impl ShortText {
         }
     }
 
-    /// The first `len` bytes as a text.
+    /// Returns the first `len` bytes as a text.
     #[inline(always)]
     fn of(block: &[u8; PADDED], len: usize) -> ShortText
         requires short { len ≤ SHORT }
@@ -123,7 +124,7 @@ impl ShortText {
         }
     }
 
-    /// A text as it is.
+    /// Returns a text as it is.
     #[inline(always)]
     pub(crate) fn copied(text: &str) -> ShortText
         requires { length text.now ≤ SHORT }
@@ -137,19 +138,20 @@ impl ShortText {
         }
     }
 
-    /// A text in lowercase.
+    /// Returns a text in lowercase.
     #[inline(always)]
     fn lowercased(text: &str) -> ShortText
         requires { length text.now ≤ SHORT }
         ensures { result ≡ lowered text.now }
     {
         let mut bytes = padded(text);
-        // All of them at once: zeros stay zeros.
+        // All bytes are lowercased at once: zeros stay zeros.
         bytes.make_ascii_lowercase();
         ShortText::of(&bytes, text.len())
     }
 
-    /// The kept text of an accepted string of at most `SHORT` bytes without a parameter: an empty parameter list is dropped.
+    /// Returns the kept text of an accepted string of at most `SHORT` bytes without a parameter: an empty parameter list is
+    /// dropped.
     #[inline(always)]
     pub(crate) fn essence(text: &str, positions: Positions) -> ShortText
         requires accepted { HasPositions text.now positions }
@@ -161,7 +163,8 @@ impl ShortText {
         ShortText::lowercased(&text[..end])
     }
 
-    /// The kept text of an accepted string of at most `SHORT` bytes with a parameter: only what ignores case is lowercased.
+    /// Returns the kept text of an accepted string of at most `SHORT` bytes with a parameter: only what ignores case is
+    /// lowercased.
     #[inline(always)]
     pub(crate) fn with_pairs(text: &str, positions: Positions) -> ShortText
         requires accepted { HasPositions text.now positions }
@@ -172,14 +175,14 @@ impl ShortText {
         let Some(semicolon) = positions.semicolon else {
             unreachable!()
         };
-        // Lowercased where it is made, so that it isn't moved before it is kept.
+        // The block is lowercased where it is made, so that it isn't moved before it is kept.
         let mut block = [0; PADDED];
         block[..text.len()].copy_from_slice(text.as_bytes());
         lowercase_pairs(&mut block, text, semicolon, positions.pair_count);
         ShortText::of(&block, text.len())
     }
 
-    /// The kept text of an accepted string of at most `SHORT` bytes.
+    /// Returns the kept text of an accepted string of at most `SHORT` bytes.
     #[inline(always)]
     pub(crate) fn keep(text: &str, positions: Positions) -> ShortText
         requires accepted { HasPositions text.now positions }

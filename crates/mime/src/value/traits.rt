@@ -16,8 +16,8 @@ use std::cmp::Ordering;
 use std::fmt;
 use std::hash::{Hash, Hasher};
 
-/// Whether two values are equal, part by part. They may be written otherwise: `p=x` and `p="x"`. It isn't inlined: most
-/// calls of `eq` end before it.
+/// Returns `true` if two values are equal, part by part. They may be written otherwise: `p=x` and `p="x"`. It isn't inlined:
+/// most calls of `eq` end before it.
 #[cold]
 #[inline(never)]
 fn same_parts(first: &Mime, second: &Mime) -> bool
@@ -26,7 +26,7 @@ fn same_parts(first: &Mime, second: &Mime) -> bool
     first.essence_str() == second.essence_str() && first.pairs().eq(second.pairs())
 }
 
-/// How the parameters of two values compare. It isn't inlined, as `same_parts`.
+/// Compares the parameters of two values. It isn't inlined, like `same_parts`.
 #[inline(never)]
 fn order_pairs(first: &Mime, second: &Mime) -> Ordering
     ensures { result ≡ slice_cmp pair_cmp first.now.media.pairs second.now.media.pairs }
@@ -36,7 +36,7 @@ fn order_pairs(first: &Mime, second: &Mime) -> Ordering
     pairs.cmp(others)
 }
 
-/// How two values compare, if both lie in their `Mime`, and are the same or differ in their essences first.
+/// Compares two values, if both are stored in their `Mime`, and are the same or differ first in their essences.
 #[inline(always)]
 fn order_short(first: &Mime, second: &Mime) -> Option<Ordering>
     ensures { IfSome result (λ order. order ≡ media_cmp first.now.media second.now.media) }
@@ -68,7 +68,7 @@ impl PartialEq for Mime {
         ensures computed { result ≡ eq_by_cmp media_cmp self.now.media other.now.media }
         ensures same { IsTrue result ↔ Same self.now.media other.now.media }
     {
-        // An essence of another length is another one, and more parameters aren't the same: that is told without a look at the texts.
+        // Essences of different lengths differ, and so do lists of different lengths. This is found without a look at the texts.
         if self.essence_str().len() != other.essence_str().len() {
             return false;
         }

@@ -1,6 +1,6 @@
 -- Each answer is what it says.
 use Rattle.std.proofs.Common.{arith}
-use Rattle.mime_http.proofs.HttpLaws.{printed_is_read}
+use Rattle.mime_http.proofs.HandedOut.{printed_is_read}
 use Rattle.mime_c.specs.HeaderAnswers.{is_value, isnt_value, value_has_no_room}
 use Rattle.mime_c.proofs.HeaderRoom.{value_fits}
 use Rattle.mime_c.proofs.NoZero.{texts_come_back}

@@ -7,7 +7,7 @@ use Rattle.std.proofs.lemmas.List.{length-map, nil_from_length}
 use Rattle.mime.specs.Values.{MediaType, OwnedMedia}
 use Rattle.mime_http.specs.HttpList.{Header, IsHeader}
 use Rattle.mime_http.specs.Ranges.{AreInOrder}
-use Rattle.mime_http.proofs.Lists.{one_header}
+use Rattle.mime_http.proofs.HandedOut.{one_header}
 use Rattle.mime_c.specs.Strings.{written}
 use Rattle.mime_c.specs.HeaderAnswers.{HaveNoEntry, OrderIs, order_is, none_is_ordered, order_has_no_room, an_ordered_is_bad, order_has_no_memory}
 use Rattle.mime_c.proofs.mime_order.Goals as goal

@@ -1,8 +1,7 @@
 -- A search finds the first backslash.
 use Rattle.std.proofs.Common.{arith}
 use Rattle.std.proofs.lemmas.Bool.Decides.{nat_tests}
-use Rattle.mime_http.proofs.Contents.{unescaped_same}
-use Rattle.mime_http.proofs.Pieces.{next_mark}
+use Rattle.mime_http.proofs.HandedOut.{unescaped_same, next_mark}
 use Rattle.mime_c.proofs.parameter.has_backslash.Goals as goal
 
 pub returns : goal.returns

@@ -3,7 +3,7 @@ use Rattle.std.proofs.Common.{◌≡◌, ◌∙◌, ◌+◌, ◌==◌, ◌&&◌,
 use Rattle.std.specs.Prelude.{if◌then◌else◌}
 use Rattle.std.proofs.lemmas.List.{drop_more}
 use Rattle.mime.specs.Bytes.{backslash_byte}
-use Rattle.mime_http.proofs.Contents.{unescaped_from, unescaped_is}
+use Rattle.mime_http.proofs.HandedOut.{unescaped_from, unescaped_is}
 use Rattle.mime_c.proofs.Writing.{leaves-next}
 use Rattle.mime_c.proofs.parameter.put_unescaped.Goals as goal
 

@@ -1,7 +1,7 @@
 -- What the bytes that are left mean is left to write.
 use Rattle.std.proofs.Common.{◌≡◌, ◌≤◌, length, drop}
 use Rattle.mime_http.specs.Unescaped.{unescaped}
-use Rattle.mime_http.proofs.Contents.{unescaped_from}
+use Rattle.mime_http.proofs.HandedOut.{unescaped_from}
 use Rattle.mime_c.proofs.Writing.{Leaves}
 use Rattle.mime_c.proofs.parameter.put_unescaped.Given as goal
 
