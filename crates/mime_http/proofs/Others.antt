@@ -1,58 +1,64 @@
 -- Writing the parameters of other names, item by item.
-use Rattle.mime_http.proofs.Common.{Item, List, NameIs, [], ap, append-nil, append_assoc, arith, bytes_eq, bytes_eq-Decides, false_from_ne_true, flat_map-append, item_of, items_of, get_or, drop, length, length-append, length-map, nil_from_length, lowered, others, refl, subst, suc, sym, text_of_pair, text_of_pairs, ℕ, ◌++◌, ◌+◌, ◌∙◌, ◌∷◌, ◌≡◌, ◌≤◌, false, true}
+use Rattle.mime_http.proofs.Common.{Bool, Item, List, NameIs, [], ap, append-nil, append_assoc, ap₂, arith, bytes_eq, bytes_eq-Decides, false, false_from_ne_true, flat_map-append, if◌then◌else◌, items_of, length, length-append, lowered, map, not, others, refl, suc, sym, text_of_pair, text_of_pairs, true, ℕ, ◌++◌, ◌+◌, ◌∙◌, ◌∷◌, ◌≡◌, ◌≤◌}
+use Rattle.std.specs.Prelude.{Decides, filter}
 
--- the first item is that of the first pair,
-first_pair : (rest : List (List ℕ × List ℕ)) (item : Item) (next : List Item) → items_of rest ≡ item ∷ next
-    → (more : List (List ℕ × List ℕ)) × (rest ≡ (item.name, item.value) ∷ more) × (next ≡ items_of more) × (item.name_ignores_case ≡ true)
-first_pair [] item next is = absurd (omega (arith, ap length is))
-first_pair (pair ∷ more) item next is =
-    let seen : item_of pair ≡ item = ap (λ items. get_or items 0 item) is in
-    (more, (λ i. ((seen i).name, (seen i).value) ∷ more), sym (ap (drop 1) is), sym (ap (λ i. i.name_ignores_case) seen))
+-- whether an item is of a name,
+abbrev pub is_named : List ℕ → Item → Bool
+is_named name item = if item.name_ignores_case then bytes_eq (lowered item.name) (lowered name) else bytes_eq item.name name
 
--- of the pairs whose items are left, those of other names are still to be written after this text, and to be counted
+-- as that is decided
+name_decides : (name text : List ℕ) (flag : Bool)
+    → Decides (if flag then bytes_eq (lowered text) (lowered name) else bytes_eq text name) (NameIs text flag name)
+name_decides name text true = bytes_eq-Decides (lowered text) (lowered name)
+name_decides name text false = bytes_eq-Decides text name
+
+-- the pairs of items of other names
+abbrev pub other_items : List ℕ → List Item → List (List ℕ × List ℕ)
+other_items name items = map (λ item. (item.name, item.value)) (filter (λ item. not (is_named name item)) items)
+
+-- those of the items of pairs are the others
+others_of : (name : List ℕ) (pairs : List (List ℕ × List ℕ)) → other_items name (items_of pairs) ≡ others name pairs
+others_of name [] = refl
+others_of name (pair ∷ pairs) = grind (arith, others_of name pairs)
+
+-- of the items that are left, those of other names are still to be written after this text, and to be counted
 pub record Left (name whole text : List ℕ) (total count : ℕ) (items : List Item) : Type 0 where
-  pub rest : List (List ℕ × List ℕ)
-  pub same : items ≡ items_of rest
-  pub written : text ++ text_of_pairs (others name rest) ≡ whole
-  pub counted : count + length (others name rest) ≡ total
+  pub written : text ++ text_of_pairs (other_items name items) ≡ whole
+  pub counted : count + length (other_items name items) ≡ total
 
--- if no item is left, all is written and counted
-pub none_left : {name whole text : List ℕ} {total count : ℕ} {items : List Item} → Left name whole text total count items → items ≡ []
-    → (text ≡ whole) × (count ≡ total)
-none_left {name} {text = text} left ended =
-    let none : left.rest ≡ [] = nil_from_length _ (omega (arith, ap length left.same, ap length ended, length-map left.rest item_of)) in (
-      sym (append-nil text) ∙ (rw none at left.written),
-      omega (arith, ap (λ rest. length (others name rest)) none, left.counted),
-    )
+-- at first all are left,
+pub all_left : (name essence : List ℕ) (pairs : List (List ℕ × List ℕ)) {items : List Item} {text : List ℕ} → items ≡ items_of pairs
+    → text ≡ essence → Left name (essence ++ text_of_pairs (others name pairs)) text (length (others name pairs)) 0 items
+all_left name essence pairs are is =
+    let same = ap (other_items name) are ∙ others_of name pairs in
+    record { written = ap₂ (λ text ps. text ++ text_of_pairs ps) is same; counted = omega (arith, ap length same) }
 
 module _ {name whole text : List ℕ} {total count : ℕ} {items next : List Item} {item : Item}
     (left : Left name whole text total count items) (is : items ≡ item ∷ next) where
-  -- the next is of this name
+  -- an item of this name is left out,
   pub named_skipped : NameIs item.name item.name_ignores_case name → Left name whole text total count next
   named_skipped named =
-      let f = first_pair left.rest item next (sym left.same ∙ is) in
-      let test : bytes_eq (lowered item.name) (lowered name) ≡ true =
-      (bytes_eq-Decides _ _).1 (subst (λ flag. NameIs item.name flag name) f.3 named) in
-      record { rest = f.0; same = f.2; written = rw (f.1, test) at left.written; counted = rw (f.1, test) at left.counted }
+      let test : is_named name item ≡ true = (name_decides name item.name item.name_ignores_case).1 named in
+      record { written = rw (is, test) at left.written; counted = rw (is, test) at left.counted }
 
-  -- the next is of another, and is written
+  -- one of another is written,
   pub copied : ¬ (NameIs item.name item.name_ignores_case name)
       → (count + 1 ≤ total) × Left name whole (text ++ text_of_pair (item.name, item.value)) total (count + 1) next
   copied other =
-      let f = first_pair left.rest item next (sym left.same ∙ is) in
-      let pair : List ℕ × List ℕ = (item.name, item.value) in
-      let differ = subst (λ flag. ¬ (NameIs item.name flag name)) f.3 other in
-      let test : bytes_eq (lowered item.name) (lowered name) ≡ false =
-      false_from_ne_true _ (λ same. differ ((bytes_eq-Decides _ _).0 same)) in
-      let counted : count + suc (length (others name f.0)) ≡ total = rw (f.1, test) at left.counted in (
+      let test : is_named name item ≡ false =
+      false_from_ne_true _ (λ same. other ((name_decides name item.name item.name_ignores_case).0 same)) in
+      let counted : count + suc (length (other_items name next)) ≡ total = rw (is, test) at left.counted in (
         omega (arith, counted),
         record {
-          rest = f.0;
-          same = f.2;
-          written = append_assoc text (text_of_pair pair) _ ∙ (rw (f.1, test) at left.written);
+          written = append_assoc text (text_of_pair (item.name, item.value)) _ ∙ (rw (is, test) at left.written);
           counted = omega (arith, counted);
         },
       )
+
+-- and at last all is written and counted
+pub none_left : {name whole text : List ℕ} {total count : ℕ} {items : List Item} → Left name whole text total count items → items ≡ []
+    → (text ≡ whole) × (count ≡ total)
+none_left {text = text} left none = (sym (append-nil text) ∙ (rw none at left.written), omega (arith, rw none at left.counted))
 
 -- those of other names are no more than all
 pub others_within : (name : List ℕ) (pairs : List (List ℕ × List ℕ)) → length (others name pairs) ≤ length pairs

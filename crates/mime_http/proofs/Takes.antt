@@ -1,7 +1,8 @@
 -- What is taken of lines, piece by piece.
-use Rattle.mime_http.proofs.Common.{AreKept, AreSorted, AreSpaces, Bool, Header, HttpReads, IsHeader, IsHttpMediaType, IsPrinted, IsUtf8, List, MediaType, OnOk, Result, Takes, [], a_bad, a_range, ap, append-nil, append_assoc, cut, cut_after, drop, drop_more, drop_of_length-le, false, flat_map, get_or, if◌then◌else◌, length, lines_or_any, no_text, on_ok_weaker, refl, subst, sym, take, trimmed, true, ℕ, ◌++◌, ◌+◌, ◌-◌, ◌<◌, ◌∙◌, ◌∷◌, ◌≡◌, ◌≤◌}
+use Rattle.mime_http.proofs.Common.{AreKept, AreSorted, AreSpaces, Bool, Header, HttpReads, IsHeader, IsHttpMediaType, IsPrinted, IsUtf8, List, MediaType, OnOk, Outside, Result, Takes, [], a_bad, a_range, ap, append-nil, append_assoc, cut, cut_after, drop, drop_more, drop_of_length-le, false, flat_map, get_or, if◌then◌else◌, length, lines_or_any, no_text, on_ok_weaker, refl, subst, sym, take, trimmed, true, ℕ, ◌++◌, ◌+◌, ◌-◌, ◌<◌, ◌∙◌, ◌∷◌, ◌≡◌, ◌≤◌}
 use Rattle.mime_http.specs.HttpList.{blank}
 use Rattle.mime_http.proofs.Cuts.{are_cut, only_cut}
+use Rattle.mime_http.proofs.Pieces.{cut_at_end, end_on}
 use Rattle.mime_http.proofs.Trims.{trimmed_from_blank}
 
 -- two runs of texts are sorted one after the other
@@ -117,11 +118,11 @@ module _ {keeps_bad : Bool} where
         rest_left ([] ∷ []) (subst (AreLeft keeps_bad old now (cut line)) (ap cut (drop_more line from 0 within
         ∙ ap (λ b. b ∷ drop (from + 1) line) comma)) left) (takes_blank keeps_bad [] now refl)
 
-    module _ (end : ℕ) (is : cut (drop from line) ≡ take (end - from) (drop from line) ∷ cut_after (drop end line)) {new : Header}
+    module _ (end : ℕ) (is : end ≡ end_on Outside line from) {new : Header}
         (taken : Takes keeps_bad (take (end - from) (drop from line) ∷ []) now new) where
       -- after one that ends at a position, too,
       passed : AreLeft keeps_bad old new (cut line) (cut_after (drop end line))
-      passed = rest_left (take (end - from) (drop from line) ∷ []) (subst (AreLeft keeps_bad old now (cut line)) is left) taken
+      passed = rest_left (take (end - from) (drop from line) ∷ []) (subst (AreLeft keeps_bad old now (cut line)) (cut_at_end line from end is) left) taken
 
       -- after its comma,
       pub past_piece : end < length line → AreLeft keeps_bad old new (cut line) (cut (drop (end + 1) line))
@@ -132,5 +133,5 @@ module _ {keeps_bad : Bool} where
       past_last past = all_taken (subst (AreLeft keeps_bad old new (cut line)) (ap cut_after (drop_of_length-le line past)) passed)
 
     -- the first piece is white space if nothing is read of the line
-    pub blank_there : {piece : List ℕ} {rest : List (List ℕ)} → cut (drop from line) ≡ piece ∷ rest → AreSorted (cut line) [] [] → trimmed piece ≡ []
-    blank_there is sorted = is_blank (subst (λ pieces. AreSorted pieces [] []) is (left.nothing sorted))
+    pub blank_there : (end : ℕ) → end ≡ end_on Outside line from → AreSorted (cut line) [] [] → trimmed (take (end - from) (drop from line)) ≡ []
+    blank_there end is sorted = is_blank (subst (λ pieces. AreSorted pieces [] []) (cut_at_end line from end is) (left.nothing sorted))

@@ -1,11 +1,11 @@
 //! The cut of a header's line at its commas outside strings, and pieces without the white space around them.
 
-ghost use Rattle.std.specs.Prelude.{◌≡◌, ◌<◌, ◌≤◌, ◌+◌, ◌-◌, ◌∷◌, ℕ, true, length, take, drop, slice_index};
+ghost use Rattle.std.specs.Prelude.{◌≡◌, ◌<◌, ◌≤◌, ◌+◌, ℕ, true, length, drop, slice_index};
 ghost use Rattle.std.specs.Str.{IsAscii};
 ghost use Rattle.mime.specs.Bytes.{comma_byte, equals_byte, quote_byte};
 ghost use Rattle.mime.specs.Grammar.{is_space};
 ghost use Rattle.mime_http.specs.HttpList.{trim_start, trim_end};
-ghost use Rattle.mime_http.specs.LineCut.{Outside, Quoted, AreUnmarked, IsNextMark, cut_from, cut, cut_after};
+ghost use Rattle.mime_http.specs.LineCut.{Outside, Quoted, AreUnmarked, IsNextMark, piece_len};
 
 use mime_search::{BLOCK, Class, content_end, first_stop};
 use std::simd::prelude::*;
@@ -29,7 +29,7 @@ fn string_end(line: &[u8], from: usize) -> usize
     requires { from ≤ length line.now }
     ensures least { from ≤ result }
     ensures within { result ≤ length line.now }
-    ensures left { cut_from Outside (take result line.now) (drop result line.now) ≡ cut_from Quoted (take from line.now) (drop from line.now) }
+    ensures left { result + piece_len Outside (drop result line.now) ≡ from + piece_len Quoted (drop from line.now) }
 {
     let end = content_end(line, from);
     if end < line.len() { end + 1 } else { end }
@@ -42,7 +42,7 @@ fn quoted_piece_len(line: &[u8], quote: usize) -> usize
     requires within { quote ≤ length line.now }
     requires unmarked { AreUnmarked comma_byte quote_byte line.now 0 quote }
     ensures within { result ≤ length line.now }
-    ensures piece { cut line.now ≡ take result line.now ∷ cut_after (drop result line.now) }
+    ensures piece { result ≡ piece_len Outside line.now }
 {
     // An equals sign before the quote is looked at again.
     let mut at = quote;
@@ -77,7 +77,7 @@ pub(crate) fn piece_end(line: &[u8], from: usize) -> usize
     requires { from ≤ length line.now }
     ensures least { from ≤ result }
     ensures within { result ≤ length line.now }
-    ensures piece { cut (drop from line.now) ≡ take (result - from) (drop from line.now) ∷ cut_after (drop result line.now) }
+    ensures piece { result ≡ from + piece_len Outside (drop from line.now) }
 {
     let mark = first_stop(line, from, &Class::of(b',', b'"'));
     if mark < line.len() && line[mark] == b'"' {

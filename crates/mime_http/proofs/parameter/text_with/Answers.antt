@@ -1,8 +1,11 @@
 -- Each parameter is of the name, or is written.
 use Rattle.mime_http.proofs.Common.{NameIs, [], ap, append_assoc, arith, item_seen, others, rules, string_bytes, text_in, text_of_pairs, ◌++◌, ◌∙◌, ◌∷◌, ◌≡◌}
 use Rattle.mime_http.proofs.Forms.{kept_text}
-use Rattle.mime_http.proofs.Others.{none_left, named_skipped, copied, others_within}
+use Rattle.mime_http.proofs.Others.{all_left, none_left, named_skipped, copied, others_within}
 use Rattle.mime_http.proofs.parameter.text_with.Goals as goal
+
+pub loop-other-init : goal.loop-other-init
+loop-other-init c = all_left _ _ _ (search rules) (search rules)
 
 pub loop-other-preserved : goal.loop-other-preserved
 loop-other-preserved c =

@@ -31,4 +31,4 @@ returns-then-end-line-clause-taken c =
 pub returns-in_err-take_piece-clause-nothing : goal.returns-in_err-take_piece-clause-nothing
 returns-in_err-take_piece-clause-nothing c = λ sorted.
     absurd (true≢false (sym (c.in_err-take_piece.ensures.blank
-    (blank_there c.args.line.now c.loop-from.from c.loop-from.invariant.left c.piece_end-end.ensures.piece sorted))))
+    (blank_there c.args.line.now c.loop-from.from c.loop-from.invariant.left _ c.piece_end-end.ensures.piece sorted))))
