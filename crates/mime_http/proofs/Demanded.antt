@@ -1,5 +1,6 @@
 -- Counting the parameters that a range demands, and finding its weight, item by item.
-use Rattle.mime_http.proofs.Common.{Item, List, MediaType, None, Option, Some, [], arith, bytes_eq, codes, demanded, first_value, has, if◌then◌else◌, items_of, length, list_all, option_map, option_or, thousandths_of, unwrap_or, ℕ, ◌+◌, ◌∷◌, ◌≡◌}
+use Rattle.mime_http.proofs.Common.{IsFirstAccepted, Item, List, MediaType, None, Option, Some, [], arith, bytes_eq, bytes_eq-Decides, cases_Bool, list_any, name_seen, name_text, refl, sym, true, true≢false, unescaped, ⊎_elim, ◌&&◌, ◌++◌, ◌∙◌, codes, demanded, first_value, has, if◌then◌else◌, items_of, length, list_all, option_map, option_or, thousandths_of, unwrap_or, ℕ, ◌+◌, ◌∷◌, ◌≡◌}
+use Rattle.mime.specs.declared.name.Name.{Name}
 
 -- a count of parameters, and a weight
 abbrev pub Found : Type 0
@@ -34,3 +35,29 @@ found_after offer count weight (pair ∷ pairs) =
 -- from the first on
 pub found_of_all : (offer : MediaType) (pairs : List (List ℕ × List ℕ)) → found_from offer 0 None (items_of pairs) ≡ found_in offer pairs
 found_of_all offer pairs = grind (arith, found_after offer 0 None pairs)
+
+-- ---- what a look-up finds
+
+-- a test of an offer's items is one of its pairs
+pub has_item : (offer : MediaType) (name value : List ℕ)
+    → list_any (λ item. bytes_eq item.name name && bytes_eq (unescaped item.value) (unescaped value)) (items_of offer.pairs)
+    ≡ has offer (name, value)
+has_item offer name value = go offer.pairs
+  where
+    go : (pairs : List (List ℕ × List ℕ))
+        → list_any (λ item. bytes_eq item.name name && bytes_eq (unescaped item.value) (unescaped value)) (items_of pairs)
+        ≡ list_any (λ own. bytes_eq own.0 name && bytes_eq (unescaped own.1) (unescaped value)) pairs
+    go [] = refl
+    go (pair ∷ pairs) = grind (arith, go pairs)
+
+-- the value of the first parameter that is accepted is the first of that name
+pub first_is : (name : List ℕ) (found : Option Name) (pairs : List (List ℕ × List ℕ))
+    → IsFirstAccepted (λ text flag. text ≡ name) (items_of pairs) (option_map name_seen found)
+    → option_map name_text found ≡ first_value name pairs
+first_is name found [] is = grind (arith, is)
+first_is name found (pair ∷ pairs) is =
+    let test = bytes_eq-Decides pair.0 name in
+    ⊎_elim
+    (λ (yes : bytes_eq pair.0 name ≡ true). rw yes (grind (arith, is.0 (test.0 yes))))
+    (λ no. rw no (first_is name found pairs (is.1 (λ accepted. absurd (true≢false (sym (test.1 accepted) ∙ no))))))
+    (cases_Bool (bytes_eq pair.0 name))

@@ -25,10 +25,10 @@ best_is_first ranges offers (best ∷ others) are =
     let stands : (at : ℕ) → (best ≡ at) ⊎ ComesBefore ranks best at = λ at.
     ⊎_elim (λ some. first_or_before ranks best others are.best_first at ((are.all at).1 some))
     (λ none. inr (inl (grind (arith, nat_tests, none, weighs)))) (cases_lt 0 (rank_at ranks at).0) in
-    sym (best_is_found {all = ranks} {most = top} {best = Some best} (record {
-      above = λ at d inside. rw (get_or_default ranks at d lowest inside) (grind (arith, nat_tests, stands at));
-      first = λ _. (best, refl, record { within = within; there = refl; before = λ at less. grind (arith, less, stands at) });
-    }) weighs)
+    sym (best_is_found {all = ranks} {at = length ranks} {most = top} {best = Some best} (record {
+      above = λ at inside. grind (arith, nat_tests, stands at);
+      first = λ _. (best, refl, within, record { there = refl; before = λ at less. grind (arith, less, stands at) });
+    }) (omega arith) weighs)
 
 -- the best offer passes the test of the best: it weighs more than 0
 pub best_is_acceptable : BestIsAcceptable

@@ -86,11 +86,12 @@ string_left paired (b ∷ bytes) =
     grind (arith, nat_tests, next, string_left (awaits_next paired b) bytes)
 
 -- so it does at a position past the content
-pub string_closed : (line : List ℕ) (from to : ℕ) → to ≡ from + min (len_from false (drop from line) + 1) (length (drop from line))
-    → end_on Outside line to ≡ end_on Quoted line from
-string_closed line from to is =
+pub string_closed : (line : List ℕ) (from to : ℕ) → from ≤ length line → to ≡ min (from + len_from false (drop from line) + 1) (length line)
+    → to + piece_len Outside (drop to line) ≡ from + piece_len Quoted (drop from line)
+string_closed line from to within is =
     let n = min (len_from false (drop from line) + 1) (length (drop from line)) in
-    ap (end_on Outside line) is ∙ (ap (λ rest. from + n + piece_len Outside rest) (sym (drop-drop n from line)) ∙ (omega arith
+    ap (end_on Outside line) {y = from + n} (omega (arith, length-drop from line))
+    ∙ (ap (λ rest. from + n + piece_len Outside rest) (sym (drop-drop n from line)) ∙ (omega arith
     ∙ ap (λ n. from + n) (string_left false (drop from line))))
 
 -- ---- the next mark

@@ -37,19 +37,9 @@ trim_end-last [] b = grind arith
 trim_end-last (c ∷ bytes) b = grind (arith, trim_end-last bytes b, list_all-append is_space bytes (b ∷ []))
 
 -- the same, counted to the end
-last_trimmed : (piece : List ℕ) (end : ℕ) → 0 < end → end ≤ length piece → trim_end (take end piece)
+pub last_trimmed : (piece : List ℕ) (end : ℕ) → 0 < end → end ≤ length piece → trim_end (take end piece)
     ≡ (if is_space (get_or piece (end - 1) 0) then trim_end (take (end - 1) piece) else take end piece)
 last_trimmed piece end some within =
     let last : take (end - 1) piece ++ (get_or piece (end - 1) 0 ∷ []) ≡ take end piece =
     sym (take_more piece (end - 1) 0 (omega (arith, some, within))) ∙ ap (λ n. take n piece) (omega (arith, some)) in
     rw last at (trim_end-last (take (end - 1) piece) (get_or piece (end - 1) 0))
-
--- so white space before an end may be taken from it,
-pub end_at_space : (piece : List ℕ) (end : ℕ) → 0 < end → end ≤ length piece → is_space (get_or piece (end - 1) 0) ≡ true
-    → trim_end (take (end - 1) piece) ≡ trim_end (take end piece)
-end_at_space piece end some within white = sym (rw white at (last_trimmed piece end some within))
-
--- and at another byte nothing is left out
-pub end_at_other : (piece : List ℕ) (end : ℕ) → 0 < end → end ≤ length piece → is_space (get_or piece (end - 1) 0) ≡ false
-    → take end piece ≡ trim_end (take end piece)
-end_at_other piece end some within other = sym (rw other at (last_trimmed piece end some within))

@@ -25,6 +25,7 @@ fn next_outside(line: &[u8], from: usize) -> usize
 
 /// The position after the closing quote of the string that `from` is in, or the length.
 #[inline(always)]
+#[tactic(auto, using(crate::proofs::Pieces::string_closed))]
 fn string_end(line: &[u8], from: usize) -> usize
     requires { from ≤ length line.now }
     ensures least { from ≤ result }
@@ -154,6 +155,7 @@ pub(crate) fn is_short_ascii(line: &[u8]) -> bool
 
 /// A piece without the white space after it. It isn't inlined: most pieces end in no white space.
 #[inline(never)]
+#[tactic(auto, using(crate::proofs::Trims::last_trimmed))]
 fn trim_spaces_after(piece: &[u8]) -> &[u8]
     ensures { result.now ≡ trim_end piece.now }
 {

@@ -31,6 +31,7 @@ pub(crate) fn tenths(digit: u8) -> u16
 
 /// A weight in thousandths, as 500 for `0.5`. A string that is no weight counts as the number that it begins with, at most 1, and as 0
 /// without one: `.2` is 200, `2` is 1000 and `high` is 0, as in most libraries.
+#[tactic(auto, using(std::proofs::lemmas::Grind::common_steps, crate::proofs::Numbers::read_is))]
 pub(crate) fn thousandths(weight: &str) -> u16
     ensures { result ≡ thousandths_of weight.now }
 {
