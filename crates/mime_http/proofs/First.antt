@@ -1,8 +1,7 @@
 -- The best offer is the first in the order of all, and weighs more than 0.
 use Rattle.mime_http.proofs.Common.{AllPairs, BestIsAcceptable, BestIsFirst, Contains, List, MediaType, None, Rank, Some, [], and_parts, arith, cases_lt, get_or, get_or-map, get_or_default, inl, inr, length, length-map, map, merit, nat_lt, nat_tests, refl, slice_get-get_or, subst, suc, sym, true, zero, ℕ, ⊎_elim, ◌<◌, ◌∷◌, ◌≡◌, ◌⊎◌}
 use Rattle.std.proofs.lemmas.List.Quantifiers.{position-Some}
-use Rattle.mime_http.proofs.Highest.{best_is_found, is_best, none_is_best, lowest}
-use Rattle.mime_http.proofs.Order.{ComesBefore, rank_at, weighs_within}
+use Rattle.mime_http.proofs.{Highest.best_is_found, Highest.is_best, Highest.none_is_best, Highest.lowest, Order.ComesBefore, Order.rank_at, Order.weighs_within}
 
 -- the first in order is each that is in order, or comes before it
 first_or_before : (ranks : List Rank) (best : ℕ) (others : List ℕ) → AllPairs (ComesBefore ranks) (best ∷ others) → (at : ℕ)

@@ -1,13 +1,6 @@
 -- The offers that weigh more than 0, sorted, are in order.
-use Rattle.mime_http.proofs.Common.{All-contains, AllPairs, AreInOrder, Contains, IsDistinct, IsTotalOrder, List, MediaType, Ordering, Rank, Reverse, [], ap, arith, back_total, false, flip_args, get_or, get_or_past, cases_Bool, inl, inr, is_gt, is_lt, length, length-map, map, map-append, merit, nat_cmp, nat_cmp_total, nat_tests, ne_eqb, on, on_total, ordering_then, rank_cmp, subst, sym, then_cmp, then_total, true, ℕ, ⊎_elim, ◌++◌, ◌+◌, ◌<◌, ◌==◌, ◌∙◌, ◌∷◌, ◌≡◌, ◌≤◌, ◌⊎◌, Bool}
-use Rattle.std.specs.List.{All}
-use Rattle.std.specs.List.Sorted.{IsPermutation, IsSorted}
-use Rattle.std.proofs.lemmas.Bool.{cases_lt}
-use Rattle.std.proofs.lemmas.List.Elements.{All-map, All-push, Contains-append_left, Contains-append_right}
-use Rattle.std.proofs.lemmas.List.Quantifiers.{all_pairs_push}
-use Rattle.std.proofs.lemmas.List.Sorted.{ranks_by, sorted_far, All-permutation, IsPermutation-map, Contains-permutation}
-use Rattle.std.proofs.lemmas.Map.Keys.{IsDistinct-IsPermutation, IsDistinct-from_apart, apart_from_distinct}
-use Rattle.std.proofs.Math.ListN.{get_or-map}
+use Rattle.mime_http.proofs.Common.{All-contains, AllPairs, AreInOrder, Contains, IsDistinct, IsTotalOrder, List, MediaType, Ordering, Rank, Reverse, [], ap, arith, back_total, false, flip_args, get_or, get_or_past, cases_Bool, inl, inr, is_gt, is_lt, length, length-map, map, map-append, merit, nat_cmp, nat_cmp_total, nat_tests, ne_eqb, on, on_total, ordering_then, rank_cmp, subst, sym, then_cmp, then_total, true, ℕ, ⊎_elim, ◌++◌, ◌+◌, ◌<◌, ◌==◌, ◌∙◌, ◌∷◌, ◌≡◌, ◌≤◌, ◌⊎◌, Bool, All, cases_lt, All-map, All-push, Contains-append_left, Contains-append_right}
+use Rattle.std.{specs.List.Sorted.IsPermutation, specs.List.Sorted.IsSorted, proofs.lemmas.List.Quantifiers.all_pairs_push, proofs.lemmas.List.Sorted.ranks_by, proofs.lemmas.List.Sorted.sorted_far, proofs.lemmas.List.Sorted.All-permutation, proofs.lemmas.List.Sorted.IsPermutation-map, proofs.lemmas.List.Sorted.Contains-permutation, proofs.lemmas.Map.Keys.IsDistinct-IsPermutation, proofs.lemmas.Map.Keys.IsDistinct-from_apart, proofs.lemmas.Map.Keys.apart_from_distinct, proofs.Math.ListN.get_or-map}
 use Rattle.mime_http.proofs.Highest.{one_rank, lowest}
 
 -- the rank of an offer

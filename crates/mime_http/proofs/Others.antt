@@ -1,6 +1,5 @@
 -- Writing the parameters of other names, item by item.
-use Rattle.mime_http.proofs.Common.{Bool, Item, List, NameIs, [], ap, append-nil, append_assoc, ap₂, arith, bytes_eq, bytes_eq-Decides, false, false_from_ne_true, flat_map-append, if◌then◌else◌, items_of, length, length-append, lowered, map, not, others, refl, suc, sym, text_of_pair, text_of_pairs, true, ℕ, ◌++◌, ◌+◌, ◌∙◌, ◌∷◌, ◌≡◌, ◌≤◌}
-use Rattle.std.specs.Prelude.{Decides, filter}
+use Rattle.mime_http.proofs.Common.{Bool, Item, List, NameIs, [], ap, append-nil, append_assoc, ap₂, arith, bytes_eq, bytes_eq-Decides, false, false_from_ne_true, flat_map-append, if◌then◌else◌, items_of, length, length-append, lowered, map, not, others, refl, suc, sym, text_of_pair, text_of_pairs, true, ℕ, ◌++◌, ◌+◌, ◌∙◌, ◌∷◌, ◌≡◌, ◌≤◌, Decides, filter}
 
 -- whether an item is of a name,
 abbrev pub is_named : List ℕ → Item → Bool

@@ -1,10 +1,6 @@
 -- The closest range is what a fold over the ranges keeps, and none is closer.
-use Rattle.mime_http.proofs.Common.{and_parts, and_from, Bool, ClosestIsClosest, Contains, IsAtMost, List, MatchOption, MediaType, None, Option, Rank, Some, [], ap, arith, closeness, closest, cons_option, enumerate_from, false, filter_map, find, fold, is_le, is_lt, list_all, AllPass-from_list_all, All-contains, map, nat_tests, option_cmp, option_map, slice_get-get_or, Contains-get_or, unwrap_or, cases_lt, length, ◌<◌, ord_max, rank_cmp, refl, subst, suc, sym, true, true≢false, zero, ℕ, ⊎_elim, ◌∙◌, ◌∷◌, ◌≡◌, cond_both}
+use Rattle.mime_http.proofs.Common.{and_parts, and_from, Bool, ClosestIsClosest, Contains, IsAtMost, List, MatchOption, MediaType, None, Option, Rank, Some, [], ap, arith, closeness, closest, cons_option, enumerate_from, false, filter_map, find, fold, is_le, is_lt, list_all, AllPass-from_list_all, All-contains, map, nat_tests, option_cmp, option_map, slice_get-get_or, Contains-get_or, unwrap_or, cases_lt, length, ◌<◌, ord_max, rank_cmp, refl, subst, suc, sym, true, true≢false, zero, ℕ, ⊎_elim, ◌∙◌, ◌∷◌, ◌≡◌, cond_both, Contains-append_right, position_or_len, find_at, fails_before_first, passes_at_first}
 use Rattle.mime_http.proofs.Highest.{one_rank, up_to}
-use Rattle.std.proofs.lemmas.List.Elements.{Contains-append_right}
-use Rattle.std.specs.List.{position_or_len}
-use Rattle.std.proofs.lemmas.List.Folds.{find_at}
-use Rattle.std.proofs.lemmas.List.Sums.{fails_before_first, passes_at_first}
 
 -- ---- the highest of ranks
 

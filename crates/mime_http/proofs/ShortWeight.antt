@@ -1,9 +1,7 @@
 -- A media type whose kept text ends in a weight of one decimal, right after the essence, has no other parameter.
 use Rattle.mime_http.proofs.Common.{AreSpaces, HasBytesAt, List, MediaType, Reads, Some, SyntaxTree, [], ap, arith, drop, drop-append_seam, essence_of, final, is_ascii_digit, is_token_byte, length, length-append, listed, lowered_tree, one_reading, plain, read_number, refl, sym, text_from_reads, text_of, text_of_tail, true, value_of, ℕ, ◌*◌, ◌++◌, ◌+◌, ◌-◌, ◌∙◌, ◌∷◌, ◌≡◌}
 use Rattle.mime.proofs.ValueLemmas.KeptText.{text_of-essence}
-use Rattle.mime_http.proofs.Demanded.{found_in}
-use Rattle.mime_http.proofs.Numbers.{read_is}
-use Rattle.mime_http.proofs.Written.{lengths}
+use Rattle.mime_http.proofs.{Demanded.found_in, Numbers.read_is, Written.lengths}
 
 module _ (kept : List ℕ) (media : MediaType) (reads : Reads kept media) where
   -- a text that is read is its essence and the tail,

@@ -1,9 +1,7 @@
 -- What is taken of lines, piece by piece.
 use Rattle.mime_http.proofs.Common.{AreKept, AreSorted, AreSpaces, Bool, Header, HttpReads, IsHeader, IsHttpMediaType, IsPrinted, IsUtf8, List, MediaType, OnOk, Outside, Result, Takes, [], a_bad, a_range, ap, append-nil, append_assoc, cut, cut_after, drop, drop_more, drop_of_length-le, false, flat_map, get_or, if◌then◌else◌, length, lines_or_any, no_text, on_ok_weaker, refl, subst, sym, take, trimmed, true, ℕ, ◌++◌, ◌+◌, ◌-◌, ◌<◌, ◌∙◌, ◌∷◌, ◌≡◌, ◌≤◌}
 use Rattle.mime_http.specs.HttpList.{blank}
-use Rattle.mime_http.proofs.Cuts.{are_cut, only_cut}
-use Rattle.mime_http.proofs.Pieces.{cut_at_end, end_on}
-use Rattle.mime_http.proofs.Trims.{trimmed_from_blank}
+use Rattle.mime_http.proofs.{Cuts.are_cut, Cuts.only_cut, Pieces.cut_at_end, Pieces.end_on, Trims.trimmed_from_blank}
 
 -- two runs of texts are sorted one after the other
 pub sorted_both : {texts more : List (List ℕ)} {ranges others : List MediaType} {bad poor : List (List ℕ)} → AreSorted texts ranges bad

@@ -1,7 +1,6 @@
 -- A last byte that is no white space stays.
 use Rattle.mime_http.proofs.Common.{[], ap, arith, common_steps, false, get_or, is_space, length, nat_tests, nil_from_length, refl, sym, take_all, trim_end, ◌-◌, ◌∙◌, ◌≡◌}
-use Rattle.mime_http.proofs.Trims.{last_trimmed}
-use Rattle.mime_http.proofs.list.trim_end.Goals.{then-is_empty-via-then-is_empty, then-is_empty-via-else-is_empty+then-piece-gt32}
+use Rattle.mime_http.proofs.{Trims.last_trimmed, list.trim_end.Goals.then-is_empty-via-then-is_empty, list.trim_end.Goals.then-is_empty-via-else-is_empty+then-piece-gt32}
 use Rattle.mime_http.proofs.list.trim_end.Goals as goal
 
 pub returns-then-is_empty : goal.returns-then-is_empty

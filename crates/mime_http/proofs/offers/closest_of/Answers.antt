@@ -1,6 +1,5 @@
 -- The next range is the first of those that are left.
-use Rattle.mime_http.proofs.Common.{ap, arith, drop, get_or-map, length-map, map, sym, ◌+◌, ◌∙◌, ◌∷◌, ◌≡◌}
-use Rattle.std.proofs.lemmas.List.{drop_more}
+use Rattle.mime_http.proofs.Common.{ap, arith, drop, get_or-map, length-map, map, sym, ◌+◌, ◌∙◌, ◌∷◌, ◌≡◌, drop_more}
 use Rattle.mime_http.proofs.Picked.{closest_is_kept}
 use Rattle.mime_http.proofs.offers.closest_of.Goals as goal
 
