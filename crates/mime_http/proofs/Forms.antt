@@ -107,12 +107,7 @@ form_text name value =
     λ is. plain_text value (token_text value (token_from_test value is)) in
     grind (arith, same_test value, plain_text value)
 
--- a boundary is in a form without backslashes
-pub boundary_form : (bytes : List ℕ) → IsBoundary bytes → form_of bytes ≡ (if is_token_value bytes then Token else Quoted)
-boundary_form bytes is =
-    ap (λ plain. if is_token_value bytes then Token else (if plain then Quoted else Escaped)) (boundary_text bytes is)
-
 -- how a token and a boundary are written
 pub ruleset token_written = (safe_text, plain_text, token_text, token_from_test)
 
-pub ruleset boundary_written = (safe_text, plain_text, boundary_text, boundary_form)
+pub ruleset boundary_written = (safe_text, plain_text, boundary_text)

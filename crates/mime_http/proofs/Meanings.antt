@@ -11,18 +11,15 @@ Pairs = List (List ℕ × List ℕ)
 same_bytes : (bytes : List ℕ) → bytes_eq bytes bytes ≡ true
 same_bytes bytes = (bytes_eq-Decides bytes bytes).1 refl
 
--- the offer has each of its own parameters
-has_own : (offer : MediaType) → list_all (has offer) (demanded offer.pairs) ≡ true
-has_own offer =
-    list_all-from_AllPass (has offer) (demanded offer.pairs)
-    (All-filter (λ pair. not (bytes_eq pair.0 (codes "q"))) (λ pair. has offer pair ≡ true) offer.pairs (λ k d within.
-    let pair = get_or offer.pairs k d in
-    list_any_at (λ own. bytes_eq own.0 pair.0 && bytes_eq (unescaped own.1) (unescaped pair.1)) offer.pairs k d within
-    (and_from _ _ (same_bytes pair.0) (same_bytes (unescaped pair.1)))))
-
--- so a media type covers itself, but for a weight
+-- so a media type has each of its own parameters, and covers itself, but for a weight
 pub covers_itself : CoversItself
-covers_itself media = rw (has_own media, same_bytes media.essence) (grind (arith))
+covers_itself media =
+    let has_own = list_all-from_AllPass (has media) (demanded media.pairs)
+    (All-filter (λ pair. not (bytes_eq pair.0 (codes "q"))) (λ pair. has media pair ≡ true) media.pairs (λ k d within.
+    let pair = get_or media.pairs k d in
+    list_any_at (λ own. bytes_eq own.0 pair.0 && bytes_eq (unescaped own.1) (unescaped pair.1)) media.pairs k d within
+    (and_from _ _ (same_bytes pair.0) (same_bytes (unescaped pair.1))))) in
+    rw (has_own, same_bytes media.essence) (grind (arith))
 
 -- ---- what covers an offer is told by what both mean
 

@@ -68,10 +68,3 @@ others_within name (pair ∷ pairs) = grind (arith, others_within name pairs)
 pub pairs_within_text : (pairs : List (List ℕ × List ℕ)) → length pairs ≤ length (text_of_pairs pairs)
 pairs_within_text [] = omega arith
 pairs_within_text (pair ∷ pairs) = omega (arith, pairs_within_text pairs, length-append (text_of_pair pair) (text_of_pairs pairs))
-
--- and one more after all
-pub and_last : (essence : List ℕ) (pairs : List (List ℕ × List ℕ)) (pair : List ℕ × List ℕ)
-    → (essence ++ text_of_pairs pairs) ++ text_of_pair pair ≡ essence ++ text_of_pairs (pairs ++ (pair ∷ []))
-and_last essence pairs pair =
-    append_assoc essence (text_of_pairs pairs) (text_of_pair pair)
-    ∙ rw (flat_map-append text_of_pair pairs (pair ∷ []), append-nil (text_of_pair pair)) refl

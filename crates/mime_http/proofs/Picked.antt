@@ -64,17 +64,12 @@ found_top (rank ∷ ranks) =
 
 -- ---- of ranks that are there
 
--- the higher of two that may be there, before others
-kept_of_two : (x y : Option Rank) (ranks : List Rank)
-    → top_if_any (cons_option (ord_max (option_cmp rank_cmp) x y) ranks) ≡ top_if_any (cons_option x (cons_option y ranks))
-kept_of_two x y ranks = grind (arith)
-
 -- a fold keeps the highest of those that are there
 kept_is_top : {X : Type 0} (f : X → Option Rank) (first : Option Rank) (xs : List X)
     → fold (ord_max (option_cmp rank_cmp)) first (map f xs) ≡ top_if_any (cons_option first (filter_map f xs))
 kept_is_top f None [] = refl
 kept_is_top f (Some rank) [] = refl
-kept_is_top f first (x ∷ xs) = kept_is_top f (ord_max (option_cmp rank_cmp) first (f x)) xs ∙ kept_of_two first (f x) (filter_map f xs)
+kept_is_top f first (x ∷ xs) = kept_is_top f (ord_max (option_cmp rank_cmp) first (f x)) xs ∙ grind arith
 
 -- what holds of the results of a list holds of each result,
 all_filtered : {X Y : Type 0} (f : X → Option Y) (p : Y → Bool) (xs : List X)

@@ -1,45 +1,28 @@
 -- A media type whose kept text ends in a weight of one decimal, right after the essence, has no other parameter.
-use Rattle.mime_http.proofs.Common.{AreSpaces, HasBytesAt, List, MediaType, Reads, Some, SyntaxTree, [], ap, arith, drop, drop-append_seam, essence_of, final, is_ascii_digit, is_token_byte, length, length-append, listed, lowered_tree, one_reading, plain, read_number, refl, sym, text_from_reads, text_of, text_of_tail, true, value_of, ℕ, ◌*◌, ◌++◌, ◌+◌, ◌-◌, ◌∙◌, ◌∷◌, ◌≡◌}
+use Rattle.mime_http.proofs.Common.{AreSpaces, HasBytesAt, List, MediaType, Reads, Some, SyntaxTree, [], ap, ap₂, arith, drop, drop-append_seam, essence_of, final, is_ascii_digit, is_token_byte, length, length-append, listed, lowered_tree, one_reading, plain, read_number, refl, sym, text_from_reads, text_of, text_of_tail, true, value_of, ℕ, ◌*◌, ◌++◌, ◌+◌, ◌-◌, ◌∙◌, ◌∷◌, ◌≡◌}
 use Rattle.mime.proofs.ValueLemmas.KeptText.{text_of-essence}
 use Rattle.mime_http.proofs.{Demanded.found_in, Numbers.read_is, Written.lengths}
 
-module _ (kept : List ℕ) (media : MediaType) (reads : Reads kept media) where
-  -- a text that is read is its essence and the tail,
-  kept_is : kept ≡ essence_of reads.tree ++ text_of_tail reads.tree.tail
-  kept_is = sym reads.spelled ∙ text_of-essence reads.tree
-
-  -- where the tail follows the essence
-  after_is_tail : drop (length media.essence) kept ≡ text_of_tail reads.tree.tail
-  after_is_tail =
-      let tree = reads.tree in
-      let low = lowered_tree tree in
-      let same : length media.essence ≡ length (essence_of low) = ap (λ value. length value.essence) (sym reads.valued) in
-      let long : length media.essence ≡ length (essence_of tree) = same ∙ simp lengths in
-      ap (λ n. drop n kept) long ∙ (ap (drop (length (essence_of tree))) kept_is
-      ∙ drop-append_seam (essence_of tree) (text_of_tail tree.tail))
-
--- the tree with this weight in place of the parameters, after these spaces
-abbrev with_weight : SyntaxTree → List ℕ → ℕ → SyntaxTree
-with_weight tree n d = record { top = tree.top; sub = tree.sub; tail = listed (final n (plain (113 ∷ []) (48 ∷ 46 ∷ d ∷ []))) }
-
--- which is well formed as well, so the weight is the only parameter, since a text is read in one way
+-- The tree with the weight in place of the parameters is well formed as well, so the weight is the only parameter, since a text is read in
+-- one way,
 pub weight_alone : (media : MediaType) (rest n : List ℕ) (d : ℕ) → Reads media.kept media → rest ≡ drop (length media.essence) media.kept
     → rest ≡ 59 ∷ (n ++ (113 ∷ 61 ∷ 48 ∷ 46 ∷ d ∷ [])) → AreSpaces n → is_ascii_digit d ≡ true
     → media.pairs ≡ (113 ∷ [], 48 ∷ 46 ∷ d ∷ []) ∷ []
 unfolding is_token_byte
 weight_alone media rest n d reads after is spaces digit =
-    let tail : text_of_tail reads.tree.tail ≡ 59 ∷ (n ++ (113 ∷ 61 ∷ 48 ∷ 46 ∷ d ∷ [])) =
-    sym (after_is_tail media.kept media reads) ∙ (sym after ∙ is) in
-    let spelled : text_of (with_weight reads.tree n d) ≡ media.kept =
-    text_of-essence (with_weight reads.tree n d) ∙ (ap (λ t. essence_of reads.tree ++ t) (sym tail)
-    ∙ sym (kept_is media.kept media reads)) in
-    let again : Reads media.kept (value_of (with_weight reads.tree n d)) = record {
-      tree = with_weight reads.tree n d;
+    let tree = reads.tree in
+    let other : SyntaxTree = record tree { tail = listed (final n (plain (113 ∷ []) (48 ∷ 46 ∷ d ∷ []))) } in
+    let kept : media.kept ≡ essence_of tree ++ text_of_tail tree.tail = sym reads.spelled ∙ text_of-essence tree in
+    let same : length media.essence ≡ length (essence_of (lowered_tree tree)) = ap (λ value. length value.essence) (sym reads.valued) in
+    let long : length media.essence ≡ length (essence_of tree) = same ∙ simp lengths in
+    let tail = sym (ap₂ drop long kept ∙ drop-append_seam (essence_of tree) (text_of_tail tree.tail)) ∙ (sym after ∙ is) in
+    let again : Reads media.kept (value_of other) = record {
+      tree = other;
       well_formed = (reads.well_formed.0, reads.well_formed.1, (spaces, (refl, rw digit refl)));
-      spelled = spelled;
+      spelled = text_of-essence other ∙ (ap (λ t. essence_of tree ++ t) (sym tail) ∙ sym kept);
       valued = refl;
     } in
-    ap (λ value. value.pairs) (one_reading media.kept media (value_of (with_weight reads.tree n d)) reads again)
+    ap (λ value. value.pairs) (one_reading media.kept media (value_of other) reads again)
 
 -- so a range demands nothing else, and weighs these tenths, if the weight is written after this white space
 pub weight_of_one_decimal : (n : List ℕ) (d weight : ℕ) (offer media : MediaType) (rest : List ℕ) → AreSpaces n → Reads media.kept media

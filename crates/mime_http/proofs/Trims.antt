@@ -18,19 +18,6 @@ trimmed_start (b ∷ piece) all = let parts = and_parts (is_space b) _ all in rw
 pub trimmed_from_blank : (piece : List ℕ) → AreSpaces piece → trimmed piece ≡ []
 trimmed_from_blank piece all = ap trim_end (trimmed_start piece all)
 
--- What is left of ASCII is ASCII.
-ascii_start : (piece : List ℕ) → IsAscii piece → IsAscii (trim_start piece)
-ascii_start [] ascii = ascii
-ascii_start (b ∷ piece) ascii = cond_both (is_space b) _ _ IsAscii (λ white. ascii_start piece (λ i. ascii (suc i))) (λ other. ascii)
-
-ascii_end : (piece : List ℕ) → IsAscii piece → IsAscii (trim_end piece)
-ascii_end [] ascii = ascii
-ascii_end (b ∷ piece) ascii = cond_both (list_all is_space (b ∷ piece)) _ _ IsAscii (λ white. IsAscii-nil)
-    (λ other. IsAscii-cons b _ (ascii zero) (ascii_end piece (λ i. ascii (suc i))))
-
-pub ascii_trimmed : (piece : List ℕ) → IsAscii piece → IsAscii (trimmed piece)
-ascii_trimmed piece ascii = ascii_end (trim_start piece) (ascii_start piece ascii)
-
 -- a byte at the end is left out if it is white space, and else all bytes stay
 trim_end-last : (bytes : List ℕ) (b : ℕ) → trim_end (bytes ++ (b ∷ [])) ≡ (if is_space b then trim_end bytes else bytes ++ (b ∷ []))
 trim_end-last [] b = grind arith

@@ -127,16 +127,13 @@ all_others P name (first ∷ pairs) pair all last =
     cond_both (not (bytes_eq (lowered first.0) (lowered name))) _ _ (λ ps. AllByRecursion P (ps ++ (pair ∷ [])))
     (λ other. (all.0, rest)) (λ same. rest)
 
--- a pair in lowercase stays so,
-low_pair : (pair : List ℕ × List ℕ) → lowered_pair (lowered_pair pair) ≡ lowered_pair pair
-low_pair (name, value) = cc (lowered-lowered name, lowered_value-lowered name value)
-
--- so pairs of other names stay as they are, before the new one
+-- pairs of other names stay as they are, before the new one
 others_stay : (name : List ℕ) (pairs : List (List ℕ × List ℕ)) (pair : List ℕ × List ℕ)
     → map lowered_pair (others name (map lowered_pair pairs) ++ (pair ∷ []))
     ≡ others (lowered name) (map lowered_pair pairs) ++ (lowered_pair pair ∷ [])
 others_stay name [] pair = refl
-others_stay name (first ∷ pairs) pair = grind (arith, lowered-lowered name, low_pair first, others_stay name pairs pair)
+others_stay name (first ∷ pairs) pair = 
+    grind (arith, lowered-lowered name, lowered-lowered first.0, lowered_value-lowered first.0 first.1, others_stay name pairs pair)
 
 -- an essence with the parameters of other names and this one after it is read as the value with this one in place of those of its name
 pub with_pair_is_read : (text : List ℕ) (value : MediaType) (name content : List ℕ) → Reads text value → IsSafe value → IsToken name

@@ -89,7 +89,7 @@ impl Accept {
 
     /// Takes a piece of a line, which may be known to be ASCII: white space alone is nothing.
     #[inline(always)]
-    #[tactic(auto, using(crate::proofs::Trims::ascii_trimmed))]
+    #[tactic(auto, using(crate::proofs::Takes::ascii_trimmed))]
     fn take_piece(
         &mut self,
         alloc: Global,

@@ -1,6 +1,6 @@
 -- What is written is known to be read as the media type with the parameter.
-use Rattle.mime_http.proofs.Common.{AreHeaderBytes, Form, IfOk-weaker, IsSafe, IsToken, List, MediaType, Reads, [], ap, append_assoc, ap₂, arith, escaped, form_of, length, length-append, lowered, lowered-lowered, lowered_value, others, string_bytes, subst, sym, text_in, text_of_pairs, with_pair, ℕ, ◌++◌, ◌+◌, ◌∙◌, ◌∷◌, ◌≡◌, ◌≤◌}
-use Rattle.mime_http.proofs.{Contents.content_of_escaped, Forms.form_text, Others.and_last, Others.pairs_within_text, Written.with_pair_is_read}
+use Rattle.mime_http.proofs.Common.{AreHeaderBytes, Form, IfOk-weaker, IsSafe, IsToken, List, MediaType, Reads, [], ap, append-nil, flat_map-append, text_of_pair, append_assoc, ap₂, arith, escaped, form_of, length, length-append, lowered, lowered-lowered, lowered_value, others, refl, string_bytes, subst, sym, text_in, text_of_pairs, with_pair, ℕ, ◌++◌, ◌+◌, ◌∙◌, ◌∷◌, ◌≡◌, ◌≤◌}
+use Rattle.mime_http.proofs.{Contents.content_of_escaped, Forms.form_text, Others.pairs_within_text, Written.with_pair_is_read}
 use Rattle.mime_http.proofs.parameter.mime_with.Goals as goal
 
 -- the text has the parameters of other names, and this one
@@ -10,7 +10,7 @@ is_written : (media : MediaType) (name value text : List ℕ) (form : Form) → 
 is_written media name value text form fits made =
     let pairs = others name media.pairs in
     rw (made, fits, form_text name value)
-    (sym (append_assoc media.essence (text_of_pairs pairs) _) ∙ and_last media.essence pairs (name, escaped value))
+    (sym (rw (flat_map-append text_of_pair pairs ((name, escaped value) ∷ []), append-nil (text_of_pair (name, escaped value))) refl))
 
 -- so it has as many bytes as parameters, at least
 fits_text : (essence text : List ℕ) (pairs : List (List ℕ × List ℕ)) (pair : List ℕ × List ℕ)
