@@ -101,8 +101,11 @@ parts_are_read parts is_top is_sub safe = go parts.pairs safe
       tree = record { top = parts.top; sub = parts.sub; tail = listed (list_of pair pairs) };
       well_formed = (is_top, is_sub, well_formed_list pair pairs safe);
       spelled = ap (λ text. parts.top ++ (47 ∷ (parts.sub ++ text))) (text_of_all pair pairs);
-      valued = rw (lowered_all pair pairs, pairs_of_all (lowered_pair pair) (map lowered_pair pairs),
-          text_of_all (lowered_pair pair) (map lowered_pair pairs)) (simp append_assoc);
+      valued = rw (
+        lowered_all pair pairs,
+        pairs_of_all (lowered_pair pair) (map lowered_pair pairs),
+        text_of_all (lowered_pair pair) (map lowered_pair pairs),
+      ) (simp append_assoc);
     }
 
 -- and so are an essence and pairs
@@ -132,7 +135,7 @@ others_stay : (name : List ℕ) (pairs : List (List ℕ × List ℕ)) (pair : Li
     → map lowered_pair (others name (map lowered_pair pairs) ++ (pair ∷ []))
     ≡ others (lowered name) (map lowered_pair pairs) ++ (lowered_pair pair ∷ [])
 others_stay name [] pair = refl
-others_stay name (first ∷ pairs) pair = 
+others_stay name (first ∷ pairs) pair =
     grind (arith, lowered-lowered name, lowered-lowered first.0, lowered_value-lowered first.0 first.1, others_stay name pairs pair)
 
 -- an essence with the parameters of other names and this one after it is read as the value with this one in place of those of its name

@@ -3,19 +3,11 @@ use Rattle.mime_http.proofs.Common.{ap, arith, common_steps, length-drop, take_r
 use Rattle.mime_http.proofs.Pieces.{next_mark, piece_from, unmarked_from}
 use Rattle.mime_http.proofs.list.piece_end.Goals as goal
 
-pub quoted_piece_len-requires-clause-within : goal.quoted_piece_len-requires-clause-within
-quoted_piece_len-requires-clause-within c =
-    rw (take_rest c.args.line.now c.args.from) (omega (arith, length-drop c.args.from c.args.line.now, c.if-mark-line.true))
-
 pub quoted_piece_len-requires-clause-unmarked : goal.quoted_piece_len-requires-clause-unmarked
 quoted_piece_len-requires-clause-unmarked c =
     let line = c.args.line.now in
     let mark = next_mark _ 44 34 c.of.ensures line c.args.from c.first_stop-mark.result c.requires c.first_stop-mark.ensures.end in
     rw (take_rest line c.args.from) (unmarked_from line c.args.from c.first_stop-mark.result mark.least mark.unmarked)
-
-pub returns-then-line-mark-eq34-clause-piece : goal.returns-then-line-mark-eq34-clause-piece
-returns-then-line-mark-eq34-clause-piece c =
-    ap (λ n. c.args.from + n) (rw (take_rest c.args.line.now c.args.from) at c.quoted_piece_len.ensures.piece)
 
 pub returns-clause-piece : goal.returns-clause-piece
 returns-clause-piece c =

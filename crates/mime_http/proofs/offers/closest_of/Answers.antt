@@ -3,9 +3,6 @@ use Rattle.mime_http.proofs.Common.{ap, arith, drop, get_or-map, length-map, map
 use Rattle.mime_http.proofs.Picked.{closest_is_kept}
 use Rattle.mime_http.proofs.offers.closest_of.Goals as goal
 
-pub loop-at-init : goal.loop-at-init
-loop-at-init c = rw c.none-closest.ensures (closest_is_kept (map (λ range. range.media) c.args.ranges.now) c.args.offer.now.media)
-
 pub loop-at-preserved : goal.loop-at-preserved
 loop-at-preserved c =
     let at = c.loop-at.at in
