@@ -1,5 +1,5 @@
 -- A piece without the white space around it.
-use Rattle.mime_http.proofs.Common.{AreSpaces, IsAscii, IsAscii-cons, IsAscii-nil, List, [], and_from, and_parts, ap, arith, cond_both, false, get_or, if◌then◌else◌, is_space, length, list_all, list_all-append, refl, suc, sym, take, take_more, trim_end, trim_start, trimmed, true, zero, ℕ, ◌++◌, ◌-◌, ◌<◌, ◌∙◌, ◌∷◌, ◌≡◌, ◌≤◌}
+use Rattle.mime_http.proofs.Common.{AreSpaces, IsAscii, IsAscii-cons, IsAscii-nil, List, [], and_from, and_parts, ap, arith, cond_both, false, get_or, if◌then◌else◌, is_space, length, list_all, list_all-append, refl, suc, sym, take, take_all, take_more, trim_end, trim_start, trimmed, true, zero, ℕ, ◌++◌, ◌-◌, ◌<◌, ◌∙◌, ◌∷◌, ◌≡◌, ◌≤◌}
 
 -- Bytes are white space, and what is left without it.
 pub split_white : (bytes : List ℕ) → (white : List ℕ) × AreSpaces white × (bytes ≡ white ++ trim_start bytes)
@@ -30,3 +30,10 @@ last_trimmed piece end some within =
     let last : take (end - 1) piece ++ (get_or piece (end - 1) 0 ∷ []) ≡ take end piece =
     sym (take_more piece (end - 1) 0 (omega (arith, some, within))) ∙ ap (λ n. take n piece) (omega (arith, some)) in
     rw last at (trim_end-last (take (end - 1) piece) (get_or piece (end - 1) 0))
+
+-- so nothing is left out of bytes of which the last is no white space
+pub nothing_after : (piece : List ℕ) → (0 < length piece → is_space (get_or piece (length piece - 1) 0) ≡ false) → trim_end piece ≡ piece
+nothing_after [] other = refl
+nothing_after (b ∷ bytes) other =
+    rw (take_all (length bytes) bytes (omega arith), other (omega arith))
+    at (last_trimmed (b ∷ bytes) (suc (length bytes)) (omega arith) (omega arith))

@@ -168,6 +168,7 @@ fn trim_spaces_after(piece: &[u8]) -> &[u8]
 
 /// A piece without the white space after it.
 #[inline(always)]
+#[tactic(auto, using(crate::proofs::Trims::nothing_after))]
 pub(crate) fn trim_end(piece: &[u8]) -> &[u8]
     ensures { result.now ≡ trim_end piece.now }
 {
