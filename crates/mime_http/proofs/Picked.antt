@@ -5,7 +5,7 @@ use Rattle.mime_http.proofs.Highest.{one_rank, up_to}
 -- ---- the highest of ranks
 
 -- whether no other rank is above one
-abbrev is_top : List Rank → Rank → Bool
+abbrev pub is_top : List Rank → Rank → Bool
 is_top all one = list_all (λ other. is_le (rank_cmp other one)) all
 
 -- a rank is one of all, and none is above it
