@@ -34,11 +34,6 @@ has_by_meaning : (pairs : Pairs) (pair : List ℕ × List ℕ)
 has_by_meaning [] pair = refl
 has_by_meaning (own ∷ pairs) pair = grind (arith, has_by_meaning pairs pair)
 
--- as many are demanded,
-demanded_meant : (pairs : Pairs) → demanded (map meaning_of pairs) ≡ map meaning_of (demanded pairs)
-demanded_meant [] = refl
-demanded_meant (pair ∷ pairs) = grind (arith, demanded_meant pairs)
-
 -- and all that are demanded are there if it has what they mean
 all_by_meaning : (offer : MediaType) (pairs : Pairs)
     → list_all (has offer) (demanded pairs) ≡ list_all (has_meant (map meaning_of offer.pairs)) (demanded (map meaning_of pairs))
@@ -47,7 +42,8 @@ all_by_meaning offer (pair ∷ pairs) = grind (arith, has_by_meaning offer.pairs
 
 -- and as many are demanded
 count_by_meaning : (pairs : Pairs) → length (demanded pairs) ≡ length (demanded (map meaning_of pairs))
-count_by_meaning pairs = sym (ap length (demanded_meant pairs) ∙ length-map (demanded pairs) meaning_of)
+count_by_meaning [] = refl
+count_by_meaning (pair ∷ pairs) = grind (arith, count_by_meaning pairs)
 
 -- so a header says the same of media types that mean the same
 pub meaning_counts : MeaningCounts

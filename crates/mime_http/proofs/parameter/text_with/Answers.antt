@@ -1,6 +1,6 @@
 -- Each parameter is of the name, or is written.
 use Rattle.mime_http.proofs.Common.{NameIs, [], ap, append_assoc, arith, item_seen, others, rules, string_bytes, text_in, text_of_pairs, ◌++◌, ◌∙◌, ◌∷◌, ◌≡◌}
-use Rattle.mime_http.proofs.{Forms.kept_text, Others.all_left, Others.none_left, Others.named_skipped, Others.copied, Others.others_within}
+use Rattle.mime_http.proofs.{Forms.kept_text, Written.all_left, Written.none_left, Written.named_skipped, Written.copied, Written.others_within}
 use Rattle.mime_http.proofs.parameter.text_with.Goals as goal
 
 pub loop-other-init : goal.loop-other-init
