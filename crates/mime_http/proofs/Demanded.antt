@@ -1,5 +1,8 @@
--- Counting the parameters that a range demands, and finding its weight, item by item.
-use Rattle.mime_http.proofs.Common.{Item, List, MediaType, None, Option, Some, [], arith, bytes_eq, codes, demanded, first_value, has, if◌then◌else◌, items_of, length, list_all, option_map, option_or, thousandths_of, unwrap_or, ℕ, ◌+◌, ◌∷◌, ◌≡◌}
+-- What a range demands of an offer, and its weight: item by item, and by a kept text that ends in a weight of one decimal.
+use Rattle.mime_http.proofs.Common.{IsFirstAccepted, Item, List, MediaType, None, Option, Some, [], arith, bytes_eq, bytes_eq-Decides, cases_Bool, list_any, name_seen, name_text, refl, sym, true, true≢false, unescaped, ⊎_elim, ◌&&◌, ◌++◌, ◌∙◌, codes, demanded, first_value, has, if◌then◌else◌, items_of, length, list_all, option_map, option_or, thousandths_of, unwrap_or, ℕ, ◌+◌, ◌∷◌, ◌≡◌, AreSpaces, HasBytesAt, Reads, SyntaxTree, ap, ap₂, drop, drop-append_seam, essence_of, final, is_ascii_digit, is_token_byte, length-append, listed, lowered_tree, one_reading, plain, read_number, text_from_reads, text_of, text_of_tail, value_of, ◌*◌, ◌-◌}
+use Rattle.mime.specs.declared.name.Name.{Name}
+use Rattle.mime.proofs.HandedOut.{text_of-essence}
+use Rattle.mime_http.proofs.{Numbers.read_is, Written.lengths}
 
 -- a count of parameters, and a weight
 abbrev pub Found : Type 0
@@ -34,3 +37,62 @@ found_after offer count weight (pair ∷ pairs) =
 -- from the first on
 pub found_of_all : (offer : MediaType) (pairs : List (List ℕ × List ℕ)) → found_from offer 0 None (items_of pairs) ≡ found_in offer pairs
 found_of_all offer pairs = grind (arith, found_after offer 0 None pairs)
+
+-- ---- what a look-up finds
+
+-- a test of an offer's items is one of its pairs
+pub has_item : (offer : MediaType) (name value : List ℕ)
+    → list_any (λ item. bytes_eq item.name name && bytes_eq (unescaped item.value) (unescaped value)) (items_of offer.pairs)
+    ≡ has offer (name, value)
+has_item offer name value = go offer.pairs
+  where
+    go : (pairs : List (List ℕ × List ℕ))
+        → list_any (λ item. bytes_eq item.name name && bytes_eq (unescaped item.value) (unescaped value)) (items_of pairs)
+        ≡ list_any (λ own. bytes_eq own.0 name && bytes_eq (unescaped own.1) (unescaped value)) pairs
+    go [] = refl
+    go (pair ∷ pairs) = grind (arith, go pairs)
+
+-- the value of the first parameter that is accepted is the first of that name
+pub first_is : (name : List ℕ) (found : Option Name) (pairs : List (List ℕ × List ℕ))
+    → IsFirstAccepted (λ text flag. text ≡ name) (items_of pairs) (option_map name_seen found)
+    → option_map name_text found ≡ first_value name pairs
+first_is name found [] is = grind (arith, is)
+first_is name found (pair ∷ pairs) is =
+    let test = bytes_eq-Decides pair.0 name in
+    ⊎_elim
+    (λ (yes : bytes_eq pair.0 name ≡ true). rw yes (grind (arith, is.0 (test.0 yes))))
+    (λ no. rw no (first_is name found pairs (is.1 (λ accepted. absurd (true≢false (sym (test.1 accepted) ∙ no))))))
+    (cases_Bool (bytes_eq pair.0 name))
+
+-- ---- a weight of one decimal, right after the essence
+
+-- The tree with the weight in place of the parameters is well formed as well, so the weight is the only parameter, since a text is read in
+-- one way,
+pub weight_alone : (media : MediaType) (rest n : List ℕ) (d : ℕ) → Reads media.kept media → rest ≡ drop (length media.essence) media.kept
+    → rest ≡ 59 ∷ (n ++ (113 ∷ 61 ∷ 48 ∷ 46 ∷ d ∷ [])) → AreSpaces n → is_ascii_digit d ≡ true
+    → media.pairs ≡ (113 ∷ [], 48 ∷ 46 ∷ d ∷ []) ∷ []
+unfolding is_token_byte
+weight_alone media rest n d reads after is spaces digit =
+    let tree = reads.tree in
+    let other : SyntaxTree = record tree { tail = listed (final n (plain (113 ∷ []) (48 ∷ 46 ∷ d ∷ []))) } in
+    let kept : media.kept ≡ essence_of tree ++ text_of_tail tree.tail = sym reads.spelled ∙ text_of-essence tree in
+    let same : length media.essence ≡ length (essence_of (lowered_tree tree)) = ap (λ value. length value.essence) (sym reads.valued) in
+    let long : length media.essence ≡ length (essence_of tree) = same ∙ simp lengths in
+    let tail = sym (ap₂ drop long kept ∙ drop-append_seam (essence_of tree) (text_of_tail tree.tail)) ∙ (sym after ∙ is) in
+    let again : Reads media.kept (value_of other) = record {
+      tree = other;
+      well_formed = (reads.well_formed.0, reads.well_formed.1, (spaces, (refl, rw digit refl)));
+      spelled = text_of-essence other ∙ (ap (λ t. essence_of tree ++ t) (sym tail) ∙ sym kept);
+      valued = refl;
+    } in
+    ap (λ value. value.pairs) (one_reading media.kept media (value_of other) reads again)
+
+-- so a range demands nothing else, and weighs these tenths, if the weight is written after this white space
+pub weight_of_one_decimal : (n : List ℕ) (d weight : ℕ) (offer media : MediaType) (rest : List ℕ) → AreSpaces n → Reads media.kept media
+    → rest ≡ drop (length media.essence) media.kept → length rest ≡ 6 + length n
+    → HasBytesAt rest 0 (59 ∷ (n ++ (113 ∷ 61 ∷ 48 ∷ 46 ∷ d ∷ []))) → is_ascii_digit d ≡ true → weight ≡ 100 * (d - 48)
+    → Some (0, weight) ≡ found_in offer media.pairs
+weight_of_one_decimal n d weight offer media rest spaces reads after long bytes digit tenths =
+    let whole = text_from_reads rest _ (omega (arith, long, length-append n (113 ∷ 61 ∷ 48 ∷ 46 ∷ d ∷ []))) bytes in
+    let read : weight ≡ read_number (48 ∷ 46 ∷ d ∷ []) = rw digit (omega (arith, tenths)) in
+    rw (weight_alone media rest n d reads after whole spaces digit) (ap (λ weight. Some (0, weight)) (read ∙ read_is (48 ∷ 46 ∷ d ∷ [])))

@@ -1,8 +1,7 @@
 -- The kinds of a value's bytes, and the form in which it is written.
 use Rattle.mime_http.proofs.Common.{Escaped, IsBoundary, List, Token, [], ap, append_assoc, arith, bit_and, drop, drop-cons, escaped, false, form_of, get_or, if◌then◌else◌, is_plain, is_quoted_byte, is_quoted_text_byte, is_token_byte, is_token_value, kind_of, length, list_all, list_all-append, list_all-wider, nat_tests, prefix_len, prefix_len-le-length, prefix_len_stops, refl, suc, sym, take, take_more, text_in, text_of_pair, true, ℕ, ◌++◌, ◌+◌, ◌<◌, ◌∙◌, ◌∷◌, ◌≡◌, ◌≢◌, ◌≤◌}
 use Rattle.mime_http.specs.declared.quoted.Form.TheVariants.{Quoted}
-use Rattle.mime_http.proofs.Written.{token_from_test}
-use Rattle.mime_http.proofs.Contents.{boundary_text, plain_text, safe_text, token_byte_text, token_text}
+use Rattle.mime_http.proofs.{Written.token_from_test, Contents.boundary_text, Contents.plain_text, Contents.safe_text, Contents.token_byte_text, Contents.token_text}
 
 -- the kind of joined bytes
 pub kind_of-append : (xs ys : List ℕ) → kind_of (xs ++ ys) ≡ bit_and (kind_of xs) (kind_of ys)
@@ -108,12 +107,7 @@ form_text name value =
     λ is. plain_text value (token_text value (token_from_test value is)) in
     grind (arith, same_test value, plain_text value)
 
--- a boundary is in a form without backslashes
-pub boundary_form : (bytes : List ℕ) → IsBoundary bytes → form_of bytes ≡ (if is_token_value bytes then Token else Quoted)
-boundary_form bytes is =
-    ap (λ plain. if is_token_value bytes then Token else (if plain then Quoted else Escaped)) (boundary_text bytes is)
-
 -- how a token and a boundary are written
 pub ruleset token_written = (safe_text, plain_text, token_text, token_from_test)
 
-pub ruleset boundary_written = (safe_text, plain_text, boundary_text, boundary_form)
+pub ruleset boundary_written = (safe_text, plain_text, boundary_text)

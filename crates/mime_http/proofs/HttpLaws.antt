@@ -1,10 +1,6 @@
 -- The laws of a header's value: it is one media type, of which one text is printed, which is read as it.
-use Rattle.mime_http.proofs.Common.{IsPrinted, List, MediaType, OneHttpReading, OnePrintedText, PrintedIsRead, Reads, anew, ap, as_it_stands, subst, media_of, one_reading, sym, text_of_parts, trimmed, with_pairs, ℕ, ◌∙◌, ◌≡◌}
-use Rattle.mime.proofs.HandedOut.{kept_is_read}
-use Rattle.mime_http.specs.HttpMediaType.{HttpReads}
-use Rattle.mime_http.proofs.PlainIsHttp.{plain_is_http}
-use Rattle.mime_http.proofs.ReadAnew.{written_reads}
-use Rattle.mime_http.proofs.ReadForth.{http_is_answered}
+use Rattle.mime_http.proofs.Common.{IsPrinted, List, MediaType, OneHttpReading, OnePrintedText, PrintedIsRead, Reads, anew, ap, as_it_stands, subst, media_of, one_reading, sym, text_of_parts, trimmed, with_pairs, ℕ, ◌∙◌, ◌≡◌, kept_is_read, HttpReads}
+use Rattle.mime_http.proofs.{PlainIsHttp.plain_is_http, ReadAnew.written_reads, ReadForth.http_is_answered}
 
 -- two media types of a value, written anew, are the same
 pub same_anew : (value : List ℕ) (first second : MediaType) → HttpReads value first → HttpReads value second

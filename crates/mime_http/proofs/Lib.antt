@@ -5,7 +5,6 @@ pub mod Common
 pub mod Contents
 pub mod Cuts
 pub mod Demanded
-pub mod First
 pub mod Forms
 pub mod Highest
 pub mod HttpFacts
@@ -16,7 +15,6 @@ pub mod Meanings
 pub mod NegotiationFacts
 pub mod Numbers
 pub mod Order
-pub mod Others
 pub mod Picked
 pub mod Pieces
 pub mod PlainIsHttp
@@ -27,7 +25,6 @@ pub mod ReadBack
 pub mod ReadFaults
 pub mod ReadForth
 pub mod Runs
-pub mod ShortWeight
 pub mod Strangers
 pub mod Takes
 pub mod Trims

@@ -1,7 +1,5 @@
 -- A media type covers itself, and what covers an offer is told by what both mean.
-use Rattle.mime_http.proofs.Common.{arith, Bool, CoversItself, List, MeaningCounts, MediaType, [], and_from, ap, bytes_eq, bytes_eq-Decides, codes, demanded, has, length, list_all, list_any, map, meaning_of, not, refl, sym, true, unescaped, ℕ, ◌&&◌, ◌∙◌, ◌∷◌, ◌≡◌, length-map, list_all-from_AllPass, get_or}
-use Rattle.std.proofs.lemmas.List.Elements.{All-filter}
-use Rattle.std.proofs.lemmas.List.Folds.{list_any_at}
+use Rattle.mime_http.proofs.Common.{arith, Bool, CoversItself, List, MeaningCounts, MediaType, [], and_from, ap, bytes_eq, bytes_eq-Decides, codes, demanded, has, length, list_all, list_any, map, meaning_of, not, refl, sym, true, unescaped, ℕ, ◌&&◌, ◌∙◌, ◌∷◌, ◌≡◌, length-map, list_all-from_AllPass, get_or, All-filter, list_any_at}
 
 -- a list of parameters
 abbrev Pairs : Type 0
@@ -13,18 +11,15 @@ Pairs = List (List ℕ × List ℕ)
 same_bytes : (bytes : List ℕ) → bytes_eq bytes bytes ≡ true
 same_bytes bytes = (bytes_eq-Decides bytes bytes).1 refl
 
--- the offer has each of its own parameters
-has_own : (offer : MediaType) → list_all (has offer) (demanded offer.pairs) ≡ true
-has_own offer =
-    list_all-from_AllPass (has offer) (demanded offer.pairs)
-    (All-filter (λ pair. not (bytes_eq pair.0 (codes "q"))) (λ pair. has offer pair ≡ true) offer.pairs (λ k d within.
-    let pair = get_or offer.pairs k d in
-    list_any_at (λ own. bytes_eq own.0 pair.0 && bytes_eq (unescaped own.1) (unescaped pair.1)) offer.pairs k d within
-    (and_from _ _ (same_bytes pair.0) (same_bytes (unescaped pair.1)))))
-
--- so a media type covers itself, but for a weight
+-- so a media type has each of its own parameters, and covers itself, but for a weight
 pub covers_itself : CoversItself
-covers_itself media = rw (has_own media, same_bytes media.essence) (grind (arith))
+covers_itself media =
+    let has_own = list_all-from_AllPass (has media) (demanded media.pairs)
+    (All-filter (λ pair. not (bytes_eq pair.0 (codes "q"))) (λ pair. has media pair ≡ true) media.pairs (λ k d within.
+    let pair = get_or media.pairs k d in
+    list_any_at (λ own. bytes_eq own.0 pair.0 && bytes_eq (unescaped own.1) (unescaped pair.1)) media.pairs k d within
+    (and_from _ _ (same_bytes pair.0) (same_bytes (unescaped pair.1))))) in
+    rw (has_own, same_bytes media.essence) (grind (arith))
 
 -- ---- what covers an offer is told by what both mean
 
@@ -39,11 +34,6 @@ has_by_meaning : (pairs : Pairs) (pair : List ℕ × List ℕ)
 has_by_meaning [] pair = refl
 has_by_meaning (own ∷ pairs) pair = grind (arith, has_by_meaning pairs pair)
 
--- as many are demanded,
-demanded_meant : (pairs : Pairs) → demanded (map meaning_of pairs) ≡ map meaning_of (demanded pairs)
-demanded_meant [] = refl
-demanded_meant (pair ∷ pairs) = grind (arith, demanded_meant pairs)
-
 -- and all that are demanded are there if it has what they mean
 all_by_meaning : (offer : MediaType) (pairs : Pairs)
     → list_all (has offer) (demanded pairs) ≡ list_all (has_meant (map meaning_of offer.pairs)) (demanded (map meaning_of pairs))
@@ -52,7 +42,8 @@ all_by_meaning offer (pair ∷ pairs) = grind (arith, has_by_meaning offer.pairs
 
 -- and as many are demanded
 count_by_meaning : (pairs : Pairs) → length (demanded pairs) ≡ length (demanded (map meaning_of pairs))
-count_by_meaning pairs = sym (ap length (demanded_meant pairs) ∙ length-map (demanded pairs) meaning_of)
+count_by_meaning [] = refl
+count_by_meaning (pair ∷ pairs) = grind (arith, count_by_meaning pairs)
 
 -- so a header says the same of media types that mean the same
 pub meaning_counts : MeaningCounts

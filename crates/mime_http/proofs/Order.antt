@@ -1,14 +1,7 @@
--- The offers that weigh more than 0, sorted, are in order.
-use Rattle.mime_http.proofs.Common.{All-contains, AllPairs, AreInOrder, Contains, IsDistinct, IsTotalOrder, List, MediaType, Ordering, Rank, Reverse, [], ap, arith, back_total, false, flip_args, get_or, get_or_past, cases_Bool, inl, inr, is_gt, is_lt, length, length-map, map, map-append, merit, nat_cmp, nat_cmp_total, nat_tests, ne_eqb, on, on_total, ordering_then, rank_cmp, subst, sym, then_cmp, then_total, true, ℕ, ⊎_elim, ◌++◌, ◌+◌, ◌<◌, ◌==◌, ◌∙◌, ◌∷◌, ◌≡◌, ◌≤◌, ◌⊎◌, Bool}
-use Rattle.std.specs.List.{All}
-use Rattle.std.specs.List.Sorted.{IsPermutation, IsSorted}
-use Rattle.std.proofs.lemmas.Bool.{cases_lt}
-use Rattle.std.proofs.lemmas.List.Elements.{All-map, All-push, Contains-append_left, Contains-append_right}
-use Rattle.std.proofs.lemmas.List.Quantifiers.{all_pairs_push}
-use Rattle.std.proofs.lemmas.List.Sorted.{ranks_by, sorted_far, All-permutation, IsPermutation-map, Contains-permutation}
-use Rattle.std.proofs.lemmas.Map.Keys.{IsDistinct-IsPermutation, IsDistinct-from_apart, apart_from_distinct}
-use Rattle.std.proofs.Math.ListN.{get_or-map}
-use Rattle.mime_http.proofs.Highest.{one_rank, lowest}
+-- The offers that weigh more than 0, sorted, are in order, of which the first is the best.
+use Rattle.mime_http.proofs.Common.{All-contains, AllPairs, AreInOrder, Contains, IsDistinct, IsTotalOrder, List, MediaType, Ordering, Rank, Reverse, [], ap, arith, back_total, false, flip_args, get_or, get_or_past, cases_Bool, inl, inr, is_gt, is_lt, length, length-map, map, map-append, merit, nat_cmp, nat_cmp_total, nat_tests, ne_eqb, on, on_total, ordering_then, rank_cmp, subst, sym, then_cmp, then_total, true, ℕ, ⊎_elim, ◌++◌, ◌+◌, ◌<◌, ◌==◌, ◌∙◌, ◌∷◌, ◌≡◌, ◌≤◌, ◌⊎◌, Bool, All, cases_lt, All-map, All-push, Contains-append_left, Contains-append_right, BestIsAcceptable, BestIsFirst, None, Some, and_parts, get_or-map, get_or_default, nat_lt, refl, slice_get-get_or, suc, zero}
+use Rattle.std.{specs.List.Sorted.IsPermutation, specs.List.Sorted.IsSorted, proofs.lemmas.List.Quantifiers.all_pairs_push, proofs.lemmas.List.Sorted.ranks_by, proofs.lemmas.List.Sorted.sorted_far, proofs.lemmas.List.Sorted.All-permutation, proofs.lemmas.List.Sorted.IsPermutation-map, proofs.lemmas.List.Sorted.Contains-permutation, proofs.lemmas.Map.Keys.IsDistinct-IsPermutation, proofs.lemmas.Map.Keys.IsDistinct-from_apart, proofs.lemmas.Map.Keys.apart_from_distinct, proofs.Math.ListN.get_or-map as get_or-map_at, proofs.lemmas.List.Quantifiers.position-Some}
+use Rattle.mime_http.proofs.Highest.{best_is_found, is_best, lowest, none_is_best, one_rank}
 
 -- the rank of an offer
 abbrev pub rank_at : List Rank → ℕ → Rank
@@ -84,10 +77,6 @@ first_by x y i j low differ =
     ⊎_elim inl (λ no. inr (one_rank x y (grind (arith, nat_tests, low, no)), grind (arith, nat_tests, low, no, differ)))
     (cases_Bool (is_gt (rank_cmp x y)))
 
--- whether two offers have one position
-abbrev same_place : Reverse Rank × ℕ → Reverse Rank × ℕ → Bool
-same_place x y = x.1 == y.1
-
 module _ {ranks : List Rank} {at : ℕ} {found : List (Reverse Rank × ℕ)} (was : Ranked ranks at found) (sorted : List (Reverse Rank × ℕ))
     (moved : IsPermutation found sorted) where
   -- sorted offers have their ranks,
@@ -102,6 +91,7 @@ module _ {ranks : List Rank} {at : ℕ} {found : List (Reverse Rank × ℕ)} (wa
       let y = get_or sorted j d in
       let first = (stand i d (omega (arith, before, within))).0 in
       let second = (stand j d within).0 in
+      let same_place = λ (x y : Reverse Rank × ℕ). x.1 == y.1 in
       let distinct : IsDistinct same_place sorted =
       IsDistinct-IsPermutation same_place (λ x y. grind (arith, nat_tests)) found sorted moved (IsDistinct-from_apart same_place found
       (λ i j d before within. ne_eqb _ _ (λ same. absurd (omega (arith, same, was.apart i j d before within))))) in
@@ -117,8 +107,8 @@ pub are_in_order : (ranges offers : List MediaType) (at : ℕ) (found sorted : L
 are_in_order ranges offers at found sorted past was moved up = record {
   best_first = λ i j e before within.
       let d : Reverse Rank × ℕ = (record { 0 = lowest }, e) in
-      let first = get_or-map (λ offer. offer.1) sorted i d in
-      let second = get_or-map (λ offer. offer.1) sorted j d in
+      let first = get_or-map_at (λ offer. offer.1) sorted i d in
+      let second = get_or-map_at (λ offer. offer.1) sorted j d in
       rw (first, second) (in_turn was sorted moved up d i j before (omega (arith, within, length-map sorted (λ offer. offer.1))));
   all = λ i.
       let ranks = map (merit ranges) offers in
@@ -129,3 +119,44 @@ are_in_order ranges offers at found sorted past was moved up = record {
             (was.all i (omega (arith, weighs_within ranks i weighs, past, length-map offers (merit ranges))) weighs),
       );
 }
+
+-- ---- the best offer is the first, and weighs more than 0
+
+-- the first in order is each that is in order, or comes before it
+first_or_before : (ranks : List Rank) (best : ℕ) (others : List ℕ) → AllPairs (ComesBefore ranks) (best ∷ others) → (at : ℕ)
+    → Contains (best ∷ others) at → (best ≡ at) ⊎ ComesBefore ranks best at
+first_or_before ranks best others pairs at (zero, within, is) = inl is
+first_or_before ranks best others pairs at (suc k, within, is) =
+    inr (subst (ComesBefore ranks best) is (pairs 0 (suc k) at (omega arith) within))
+
+-- so the best offer is the first in order
+pub best_is_first : BestIsFirst
+best_is_first ranges offers [] are =
+    let ranks = map (merit ranges) offers in
+    sym (none_is_best ranks (λ at within. ⊎_elim (λ weighs. absurd (omega (arith, ((are.all at).1 weighs).1))) (λ none. omega (arith, none))
+    (cases_lt 0 (rank_at ranks at).0)))
+best_is_first ranges offers (best ∷ others) are =
+    let ranks = map (merit ranges) offers in
+    let top = rank_at ranks best in
+    let weighs : 0 < top.0 = (are.all best).0 (0, omega arith, refl) in
+    let within = weighs_within ranks best weighs in
+    let stands : (at : ℕ) → (best ≡ at) ⊎ ComesBefore ranks best at = λ at.
+    ⊎_elim (λ some. first_or_before ranks best others are.best_first at ((are.all at).1 some))
+    (λ none. inr (inl (grind (arith, nat_tests, none, weighs)))) (cases_lt 0 (rank_at ranks at).0) in
+    sym (best_is_found {all = ranks} {at = length ranks} {most = top} {best = Some best} (record {
+      above = λ at inside. grind (arith, nat_tests, stands at);
+      first = λ _. (best, refl, within, record { there = refl; before = λ at less. grind (arith, less, stands at) });
+    }) (omega arith) weighs)
+
+-- the best offer passes the test of the best: it weighs more than 0
+pub best_is_acceptable : BestIsAcceptable
+best_is_acceptable ranges offers at is =
+    let no_offer : MediaType = record { essence = []; slash = 0; plus = None; pairs = []; kept = [] } in
+    let all = map (merit ranges) offers in
+    let found = position-Some (is_best all) all at lowest is in
+    let within : at < length offers = omega (arith, found.0, length-map offers (merit ranges)) in
+    let weighs : nat_lt 0 (get_or all at lowest).0 ≡ true = (and_parts (nat_lt 0 _) _ found.1).0 in (
+      get_or offers at no_offer,
+      slice_get-get_or offers at no_offer within,
+      grind (arith, nat_tests, get_or-map (merit ranges) offers at no_offer lowest within, weighs),
+    )

@@ -1,15 +1,11 @@
 -- The closest range is what a fold over the ranges keeps, and none is closer.
-use Rattle.mime_http.proofs.Common.{and_parts, and_from, Bool, ClosestIsClosest, Contains, IsAtMost, List, MatchOption, MediaType, None, Option, Rank, Some, [], ap, arith, closeness, closest, cons_option, enumerate_from, false, filter_map, find, fold, is_le, is_lt, list_all, AllPass-from_list_all, All-contains, map, nat_tests, option_cmp, option_map, slice_get-get_or, Contains-get_or, unwrap_or, cases_lt, length, ◌<◌, ord_max, rank_cmp, refl, subst, suc, sym, true, true≢false, zero, ℕ, ⊎_elim, ◌∙◌, ◌∷◌, ◌≡◌, cond_both}
+use Rattle.mime_http.proofs.Common.{and_parts, and_from, Bool, ClosestIsClosest, Contains, IsAtMost, List, MatchOption, MediaType, None, Option, Rank, Some, [], ap, arith, closeness, closest, cons_option, enumerate_from, false, filter_map, find, fold, is_le, is_lt, list_all, AllPass-from_list_all, All-contains, map, nat_tests, option_cmp, option_map, slice_get-get_or, Contains-get_or, unwrap_or, cases_lt, length, ◌<◌, ord_max, rank_cmp, refl, subst, suc, sym, true, true≢false, zero, ℕ, ⊎_elim, ◌∙◌, ◌∷◌, ◌≡◌, cond_both, Contains-append_right, position_or_len, find_at, fails_before_first, passes_at_first}
 use Rattle.mime_http.proofs.Highest.{one_rank, up_to}
-use Rattle.std.proofs.lemmas.List.Elements.{Contains-append_right}
-use Rattle.std.specs.List.{position_or_len}
-use Rattle.std.proofs.lemmas.List.Folds.{find_at}
-use Rattle.std.proofs.lemmas.List.Sums.{fails_before_first, passes_at_first}
 
 -- ---- the highest of ranks
 
 -- whether no other rank is above one
-abbrev is_top : List Rank → Rank → Bool
+abbrev pub is_top : List Rank → Rank → Bool
 is_top all one = list_all (λ other. is_le (rank_cmp other one)) all
 
 -- a rank is one of all, and none is above it
@@ -68,17 +64,12 @@ found_top (rank ∷ ranks) =
 
 -- ---- of ranks that are there
 
--- the higher of two that may be there, before others
-kept_of_two : (x y : Option Rank) (ranks : List Rank)
-    → top_if_any (cons_option (ord_max (option_cmp rank_cmp) x y) ranks) ≡ top_if_any (cons_option x (cons_option y ranks))
-kept_of_two x y ranks = grind (arith)
-
 -- a fold keeps the highest of those that are there
 kept_is_top : {X : Type 0} (f : X → Option Rank) (first : Option Rank) (xs : List X)
     → fold (ord_max (option_cmp rank_cmp)) first (map f xs) ≡ top_if_any (cons_option first (filter_map f xs))
 kept_is_top f None [] = refl
 kept_is_top f (Some rank) [] = refl
-kept_is_top f first (x ∷ xs) = kept_is_top f (ord_max (option_cmp rank_cmp) first (f x)) xs ∙ kept_of_two first (f x) (filter_map f xs)
+kept_is_top f first (x ∷ xs) = kept_is_top f (ord_max (option_cmp rank_cmp) first (f x)) xs ∙ grind arith
 
 -- what holds of the results of a list holds of each result,
 all_filtered : {X Y : Type 0} (f : X → Option Y) (p : Y → Bool) (xs : List X)

@@ -1,10 +1,7 @@
 -- A range that covers none of the offers only moves the ranges after it by one position, which changes no comparison.
-use Rattle.mime_http.proofs.Common.{AllPairs, Contains, List, MediaType, None, Option, Rank, Some, StrangerChangesNothing, [], ap, arith, closeness, enumerate_from, fold, get_or, if◌then◌else◌, is_le, length, length-append, list_all, list_all-map, map, merit, nat_cmp, nat_lt, nat_tests, option_cmp, option_map, ord_max, ordering_then, position, position_from, position_from-zero, rank_cmp, refl, subst, sym, zero, ℕ, ◌++◌, ◌+◌, ◌-◌, ◌<◌, ◌↔◌, ◌∙◌, ◌∷◌, ◌≡◌, ◌≤◌}
+use Rattle.mime_http.proofs.Common.{cons_option, filter_map, find, AllPairs, Contains, List, MediaType, None, Option, Rank, Some, StrangerChangesNothing, [], ap, arith, closeness, enumerate_from, fold, get_or, if◌then◌else◌, is_le, length, length-append, list_all, list_all-map, map, merit, nat_cmp, nat_lt, nat_tests, option_cmp, option_map, ord_max, ordering_then, position, position_from, position_from-zero, rank_cmp, refl, subst, sym, zero, ℕ, ◌++◌, ◌+◌, ◌-◌, ◌<◌, ◌↔◌, ◌∙◌, ◌∷◌, ◌≡◌, ◌≤◌, Contains-append_right}
 use Rattle.std.proofs.Math.ListN.{get_or-map}
-use Rattle.std.proofs.lemmas.List.Elements.{Contains-append_right}
-use Rattle.mime_http.proofs.Highest.{is_best, lowest}
-use Rattle.mime_http.proofs.Order.{ComesBefore, rank_at}
-use Rattle.mime_http.proofs.Picked.{closest_is_kept}
+use Rattle.mime_http.proofs.{Highest.is_best, Highest.lowest, Order.ComesBefore, Order.rank_at, Picked.is_top}
 
 -- a rank with another last place
 abbrev moved : (ℕ → ℕ) → Rank → Rank
@@ -20,14 +17,19 @@ module _ (g : ℕ → ℕ) (same : (x y : ℕ) → nat_cmp (g x) (g y) ≡ nat_c
   same_order : (x y : Rank) → rank_cmp (moved g x) (moved g y) ≡ rank_cmp x y
   same_order x y = ap (ordering_then (ordering_then (ordering_then (nat_cmp x.0 y.0) (nat_cmp x.1 y.1)) (nat_cmp x.2 y.2))) (same x.3 y.3)
 
-  -- the higher of two is the same,
-  same_higher : (x y : Option Rank) → ord_max (option_cmp rank_cmp) (option_map (moved g) x) (option_map (moved g) y)
-      ≡ option_map (moved g) (ord_max (option_cmp rank_cmp) x y)
-  same_higher None y = grind (arith)
-  same_higher (Some x) None = refl
-  same_higher (Some x) (Some y) = grind (arith, same_order y x)
+  -- so is which is above all,
+  same_top : (all : List Rank) (one : Rank) → is_top (map (moved g) all) (moved g one) ≡ is_top all one
+  same_top all one =
+      list_all-map (λ other. is_le (rank_cmp other (moved g one))) (moved g) all
+      ∙ (λ i. list_all (λ other. is_le (same_order other one i)) all)
 
-  -- and so is the place of the best
+  -- the highest is found,
+  same_found : (all ranks : List Rank)
+      → find (is_top (map (moved g) all)) (map (moved g) ranks) ≡ option_map (moved g) (find (is_top all) ranks)
+  same_found all [] = refl
+  same_found all (one ∷ ranks) = rw (same_top all one) (grind (arith, same_found all ranks))
+
+  -- and the place of the best is the same
   same_best : (all : List Rank) → position (is_best (map (moved g) all)) (map (moved g) all) ≡ position (is_best all) all
   same_best all =
       position_from-zero (is_best (map (moved g) all)) (map (moved g) all) ∙ (place 0 all ∙ sym (position_from-zero (is_best all) all))
@@ -35,10 +37,7 @@ module _ (g : ℕ → ℕ) (same : (x y : ℕ) → nat_cmp (g x) (g y) ≡ nat_c
       place : (at : ℕ) (ranks : List Rank) → position_from (is_best (map (moved g) all)) at (map (moved g) ranks)
           ≡ position_from (is_best all) at ranks
       place at [] = refl
-      place at (one ∷ ranks) =
-          let top = list_all-map (λ other. is_le (rank_cmp other (moved g one))) (moved g) all
-          ∙ (λ i. list_all (λ other. is_le (same_order other one i)) all) in
-          rw top (ap (λ rest. if is_best all one then Some at else rest) (place (at + 1) ranks))
+      place at (one ∷ ranks) = rw (same_top all one) (ap (λ rest. if is_best all one then Some at else rest) (place (at + 1) ranks))
 
   module _ (all : List Rank) (none : moved g lowest ≡ lowest) where
     -- an offer ranks so,
@@ -55,43 +54,34 @@ module _ (g : ℕ → ℕ) (same : (x y : ℕ) → nat_cmp (g x) (g y) ≡ nat_c
 abbrev shifted : ℕ → ℕ → ℕ
 shifted k at = if nat_lt at k then at else at + 1
 
--- the closest of ranges from a position on, and of one before them
-abbrev closest_from : MediaType → Option Rank → ℕ → List MediaType → Option Rank
-closest_from offer first at ranges = fold (ord_max (option_cmp rank_cmp)) first (map (closeness offer) (enumerate_from at ranges))
+-- how closely ranges from a position on cover an offer, those that do
+abbrev ranks_from : MediaType → ℕ → List MediaType → List Rank
+ranks_from offer at ranges = filter_map (closeness offer) (enumerate_from at ranges)
 
 module _ (offer : MediaType) (k : ℕ) where
-  -- a range covers as closely at its new position,
-  next_covers : (range : MediaType) (at to : ℕ) (first : Option Rank) → shifted k at ≡ to
-      → ord_max (option_cmp rank_cmp) (option_map (moved (shifted k)) first) (closeness offer (to, range))
-      ≡ option_map (moved (shifted k)) (ord_max (option_cmp rank_cmp) first (closeness offer (at, range)))
-  next_covers range at to first there =
-      let higher = same_higher (shifted k) (λ x y. grind (arith, nat_tests)) first (closeness offer (at, range)) in
-      grind (arith, there, covers_so offer range (shifted k) at, higher)
+  -- a range before others covers as closely at its new position,
+  moved_first : (range : MediaType) (at to : ℕ) (rest : List Rank) → shifted k at ≡ to
+      → cons_option (closeness offer (to, range)) (map (moved (shifted k)) rest)
+      ≡ map (moved (shifted k)) (cons_option (closeness offer (at, range)) rest)
+  moved_first range at to rest there = rw (sym there, covers_so offer range (shifted k) at) (grind arith)
 
-  -- so the closest is the same with ranges one position later,
-  later : (at : ℕ) (first : Option Rank) (ranges : List MediaType) → k ≤ at
-      → closest_from offer (option_map (moved (shifted k)) first) (at + 1) ranges
-      ≡ option_map (moved (shifted k)) (closest_from offer first at ranges)
-  later at first [] after = refl
-  later at first (range ∷ ranges) after =
-      ap (λ first. closest_from offer first (at + 1 + 1) ranges) (next_covers range at (at + 1) first (grind (arith, nat_tests)))
-      ∙ later (at + 1) _ ranges (omega (arith, after))
+  -- so do ranges one position later,
+  later : (at : ℕ) (ranges : List MediaType) → k ≤ at → ranks_from offer (at + 1) ranges ≡ map (moved (shifted k)) (ranks_from offer at ranges)
+  later at [] after = refl
+  later at (range ∷ ranges) after =
+      ap (cons_option (closeness offer (at + 1, range))) (later (at + 1) ranges (omega (arith, after)))
+      ∙ moved_first range at (at + 1) _ (grind (arith, nat_tests))
 
   -- and with one that covers nothing before them
   one_more : (range : MediaType) (after : List MediaType) → closeness offer (0, range) ≡ None
-      → (at : ℕ) (first : Option Rank) (before : List MediaType) → k ≡ at + length before
-      → closest_from offer (option_map (moved (shifted k)) first) at (before ++ (range ∷ after))
-      ≡ option_map (moved (shifted k)) (closest_from offer first at (before ++ after))
-  one_more range after none at first [] long =
-      ap (λ first. closest_from offer first (at + 1) after) (ap (ord_max (option_cmp rank_cmp) _)
-      (covers_so offer range (λ _. at) 0 ∙ ap (option_map (moved (λ _. at))) none) ∙ grind (arith))
-      ∙ later at first after (omega (arith, long))
-  one_more range after none at first (other ∷ before) long =
-      ap (λ first. closest_from offer first (at + 1) (before ++ (range ∷ after)))
-      (next_covers other at at first (grind (arith, nat_tests, long)))
-      ∙ one_more range after none (at + 1) _ before (omega (arith, long))
-
--- ---- ranks of offers
+      → (at : ℕ) (before : List MediaType) → k ≡ at + length before
+      → ranks_from offer at (before ++ (range ∷ after)) ≡ map (moved (shifted k)) (ranks_from offer at (before ++ after))
+  one_more range after none at [] long =
+      ap (λ first. cons_option first (ranks_from offer (at + 1) after))
+      (covers_so offer range (λ _. at) 0 ∙ ap (option_map (moved (λ _. at))) none) ∙ later at after (omega (arith, long))
+  one_more range after none at (other ∷ before) long =
+      ap (cons_option (closeness offer (at, other))) (one_more range after none (at + 1) before (omega (arith, long)))
+      ∙ moved_first other at at _ (grind (arith, nat_tests, long))
 
 module _ (before after : List MediaType) (range : MediaType) where
   -- the ranges with it,
@@ -113,9 +103,10 @@ module _ (before after : List MediaType) (range : MediaType) where
   -- each offer ranks so,
   merit_so : (offer : MediaType) → closeness offer (0, range) ≡ None → merit with_it offer ≡ moved raised (merit (before ++ after) offer)
   merit_so offer none =
-      let kept = sym (closest_is_kept with_it offer)
-      ∙ (one_more offer (length before) range after none 0 None before (omega arith)
-      ∙ ap (option_map (moved (shifted (length before)))) (closest_is_kept (before ++ after) offer)) in
+      let g = shifted (length before) in
+      let old = ranks_from offer 0 (before ++ after) in
+      let kept = ap (λ all. find (is_top all) all) (one_more offer (length before) range after none 0 before (omega arith))
+      ∙ same_found g (λ x y. grind (arith, nat_tests)) old old in
       rw kept (grind (arith, nat_tests, length-append before after, length-append before (range ∷ after)))
 
   -- and so do all

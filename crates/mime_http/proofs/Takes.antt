@@ -1,8 +1,8 @@
 -- What is taken of lines, piece by piece.
-use Rattle.mime_http.proofs.Common.{AreKept, AreSorted, AreSpaces, Bool, Header, HttpReads, IsHeader, IsHttpMediaType, IsPrinted, IsUtf8, List, MediaType, OnOk, Result, Takes, [], a_bad, a_range, ap, append-nil, append_assoc, cut, cut_after, drop, drop_more, drop_of_length-le, false, flat_map, get_or, if◌then◌else◌, length, lines_or_any, no_text, on_ok_weaker, refl, subst, sym, take, trimmed, true, ℕ, ◌++◌, ◌+◌, ◌-◌, ◌<◌, ◌∙◌, ◌∷◌, ◌≡◌, ◌≤◌}
+use Rattle.mime_http.proofs.Common.{AreKept, AreSorted, AreSpaces, Bool, Header, HttpReads, IsHeader, IsHttpMediaType, IsPrinted, IsAscii, IsUtf8, List, MediaType, OnOk, Outside, Result, Takes, [], a_bad, a_range, ap, append-nil, append_assoc, cut, cut_after, arith, drop, drop-append_seam, drop_more, drop_of_length-le, false, flat_map, get_or, if◌then◌else◌, length, lines_or_any, no_text, on_ok_weaker, refl, subst, sym, take, take-append_seam, trimmed, true, ℕ, ◌++◌, ◌+◌, ◌-◌, ◌<◌, ◌∙◌, ◌∷◌, ◌≡◌, ◌≤◌}
 use Rattle.mime_http.specs.HttpList.{blank}
-use Rattle.mime_http.proofs.Cuts.{are_cut, only_cut}
-use Rattle.mime_http.proofs.Trims.{trimmed_from_blank}
+use Rattle.std.proofs.lemmas.Str.{IsAscii-drop, IsAscii-take}
+use Rattle.mime_http.proofs.{Around.white_around, Cuts.are_cut, Cuts.only_cut, Pieces.cut_at_end, Pieces.end_on, Trims.trimmed_from_blank}
 
 -- two runs of texts are sorted one after the other
 pub sorted_both : {texts more : List (List ℕ)} {ranges others : List MediaType} {bad poor : List (List ℕ)} → AreSorted texts ranges bad
@@ -15,11 +15,14 @@ sorted_both (a_bad text texts ranges bad some isnt rest) second = a_bad text _ _
 
 -- ---- a piece
 
--- what is kept of bad entries with one more
-more_kept : (keeps_bad : Bool) (bad old : List (List ℕ)) (entry : List ℕ) → old ≡ (if keeps_bad then bad else [])
-    → (if keeps_bad then old ++ (entry ∷ []) else old) ≡ (if keeps_bad then bad ++ (entry ∷ []) else [])
-more_kept true bad old entry is = ap (λ bad. bad ++ (entry ∷ [])) is
-more_kept false bad old entry is = is
+-- what is left of ASCII is ASCII
+pub ascii_trimmed : (piece : List ℕ) → IsAscii piece → IsAscii (trimmed piece)
+ascii_trimmed piece ascii =
+    let (before, after, first, last, same) = white_around piece in
+    let left = trimmed piece in
+    subst IsAscii (ap (λ bytes. take (length left) (drop (length before) bytes)) same
+    ∙ (ap (take (length left)) (drop-append_seam before (left ++ after)) ∙ take-append_seam left after))
+    (IsAscii-take (drop (length before) piece) (length left) (IsAscii-drop piece (length before) ascii))
 
 module _ (keeps_bad : Bool) (piece : List ℕ) (old : Header) where
   -- white space alone is nothing,
@@ -46,7 +49,7 @@ module _ (keeps_bad : Bool) (piece : List ℕ) (old : Header) where
       let sorted = sorted_both held.1 (a_bad piece [] [] [] not_blank isnt no_text) in
       let listed = subst (λ e. AreSorted (before ++ (piece ∷ [])) (old.ranges ++ []) (held.0 ++ (e ∷ []))) (sym trim) sorted in
       subst (AreKept keeps_bad (before ++ (piece ∷ []))) (sym is)
-      (held.0 ++ (entry ∷ []), rw (append-nil old.ranges) at listed, more_kept keeps_bad held.0 old.bad entry held.2))
+      (held.0 ++ (entry ∷ []), rw (append-nil old.ranges) at listed, grind (arith, held.2)))
 
 -- ---- texts of which nothing is read
 
@@ -76,11 +79,6 @@ pub record AreLeft (keeps_bad : Bool) (old now : Header) (all rest : List (List 
   pub takes : (new : Header) → Takes keeps_bad rest now new → Takes keeps_bad all old new
   pub nothing : AreSorted all [] [] → AreSorted rest [] []
 
--- of no bad entry none is kept
-none_kept : (keeps_bad : Bool) → nothing.bad ≡ (if keeps_bad then [] else [])
-none_kept true = refl
-none_kept false = refl
-
 module _ {keeps_bad : Bool} where
   -- at first all are left,
   pub all_left : {old : Header} {all : List (List ℕ)} → AreLeft keeps_bad old old all all
@@ -104,7 +102,7 @@ module _ {keeps_bad : Bool} where
   pub header_taken : (lines : List (List ℕ)) {now : Header} → AreLeft keeps_bad nothing now (flat_map cut (lines_or_any lines)) []
       → (header : Header) × IsHeader lines header × (now ≡ record header { bad = if keeps_bad then header.bad else [] })
   header_taken lines {now} left =
-      let held = all_taken left [] ([], no_text, none_kept keeps_bad) in (
+      let held = all_taken left [] ([], no_text, grind arith) in (
         record { ranges = now.ranges; bad = held.0 },
         record { pieces = flat_map cut (lines_or_any lines); cut = are_cut (lines_or_any lines); sorted = held.1 },
         λ i. record { ranges = now.ranges; bad = held.2 i },
@@ -117,11 +115,11 @@ module _ {keeps_bad : Bool} where
         rest_left ([] ∷ []) (subst (AreLeft keeps_bad old now (cut line)) (ap cut (drop_more line from 0 within
         ∙ ap (λ b. b ∷ drop (from + 1) line) comma)) left) (takes_blank keeps_bad [] now refl)
 
-    module _ (end : ℕ) (is : cut (drop from line) ≡ take (end - from) (drop from line) ∷ cut_after (drop end line)) {new : Header}
+    module _ (end : ℕ) (is : end ≡ end_on Outside line from) {new : Header}
         (taken : Takes keeps_bad (take (end - from) (drop from line) ∷ []) now new) where
       -- after one that ends at a position, too,
       passed : AreLeft keeps_bad old new (cut line) (cut_after (drop end line))
-      passed = rest_left (take (end - from) (drop from line) ∷ []) (subst (AreLeft keeps_bad old now (cut line)) is left) taken
+      passed = rest_left (take (end - from) (drop from line) ∷ []) (subst (AreLeft keeps_bad old now (cut line)) (cut_at_end line from end is) left) taken
 
       -- after its comma,
       pub past_piece : end < length line → AreLeft keeps_bad old new (cut line) (cut (drop (end + 1) line))
@@ -132,5 +130,5 @@ module _ {keeps_bad : Bool} where
       past_last past = all_taken (subst (AreLeft keeps_bad old new (cut line)) (ap cut_after (drop_of_length-le line past)) passed)
 
     -- the first piece is white space if nothing is read of the line
-    pub blank_there : {piece : List ℕ} {rest : List (List ℕ)} → cut (drop from line) ≡ piece ∷ rest → AreSorted (cut line) [] [] → trimmed piece ≡ []
-    blank_there is sorted = is_blank (subst (λ pieces. AreSorted pieces [] []) is (left.nothing sorted))
+    pub blank_there : (end : ℕ) → end ≡ end_on Outside line from → AreSorted (cut line) [] [] → trimmed (take (end - from) (drop from line)) ≡ []
+    blank_there end is sorted = is_blank (subst (λ pieces. AreSorted pieces [] []) (cut_at_end line from end is) (left.nothing sorted))

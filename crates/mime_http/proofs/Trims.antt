@@ -1,5 +1,5 @@
 -- A piece without the white space around it.
-use Rattle.mime_http.proofs.Common.{AreSpaces, IsAscii, IsAscii-cons, IsAscii-nil, List, [], and_from, and_parts, ap, arith, cond_both, false, get_or, if◌then◌else◌, is_space, length, list_all, list_all-append, refl, suc, sym, take, take_more, trim_end, trim_start, trimmed, true, zero, ℕ, ◌++◌, ◌-◌, ◌<◌, ◌∙◌, ◌∷◌, ◌≡◌, ◌≤◌}
+use Rattle.mime_http.proofs.Common.{AreSpaces, IsAscii, IsAscii-cons, IsAscii-nil, List, [], and_from, and_parts, ap, arith, cond_both, false, get_or, if◌then◌else◌, is_space, length, list_all, list_all-append, refl, suc, sym, take, take_all, take_more, trim_end, trim_start, trimmed, true, zero, ℕ, ◌++◌, ◌-◌, ◌<◌, ◌∙◌, ◌∷◌, ◌≡◌, ◌≤◌}
 
 -- Bytes are white space, and what is left without it.
 pub split_white : (bytes : List ℕ) → (white : List ℕ) × AreSpaces white × (bytes ≡ white ++ trim_start bytes)
@@ -18,38 +18,22 @@ trimmed_start (b ∷ piece) all = let parts = and_parts (is_space b) _ all in rw
 pub trimmed_from_blank : (piece : List ℕ) → AreSpaces piece → trimmed piece ≡ []
 trimmed_from_blank piece all = ap trim_end (trimmed_start piece all)
 
--- What is left of ASCII is ASCII.
-ascii_start : (piece : List ℕ) → IsAscii piece → IsAscii (trim_start piece)
-ascii_start [] ascii = ascii
-ascii_start (b ∷ piece) ascii = cond_both (is_space b) _ _ IsAscii (λ white. ascii_start piece (λ i. ascii (suc i))) (λ other. ascii)
-
-ascii_end : (piece : List ℕ) → IsAscii piece → IsAscii (trim_end piece)
-ascii_end [] ascii = ascii
-ascii_end (b ∷ piece) ascii = cond_both (list_all is_space (b ∷ piece)) _ _ IsAscii (λ white. IsAscii-nil)
-    (λ other. IsAscii-cons b _ (ascii zero) (ascii_end piece (λ i. ascii (suc i))))
-
-pub ascii_trimmed : (piece : List ℕ) → IsAscii piece → IsAscii (trimmed piece)
-ascii_trimmed piece ascii = ascii_end (trim_start piece) (ascii_start piece ascii)
-
 -- a byte at the end is left out if it is white space, and else all bytes stay
 trim_end-last : (bytes : List ℕ) (b : ℕ) → trim_end (bytes ++ (b ∷ [])) ≡ (if is_space b then trim_end bytes else bytes ++ (b ∷ []))
 trim_end-last [] b = grind arith
 trim_end-last (c ∷ bytes) b = grind (arith, trim_end-last bytes b, list_all-append is_space bytes (b ∷ []))
 
 -- the same, counted to the end
-last_trimmed : (piece : List ℕ) (end : ℕ) → 0 < end → end ≤ length piece → trim_end (take end piece)
+pub last_trimmed : (piece : List ℕ) (end : ℕ) → 0 < end → end ≤ length piece → trim_end (take end piece)
     ≡ (if is_space (get_or piece (end - 1) 0) then trim_end (take (end - 1) piece) else take end piece)
 last_trimmed piece end some within =
     let last : take (end - 1) piece ++ (get_or piece (end - 1) 0 ∷ []) ≡ take end piece =
     sym (take_more piece (end - 1) 0 (omega (arith, some, within))) ∙ ap (λ n. take n piece) (omega (arith, some)) in
     rw last at (trim_end-last (take (end - 1) piece) (get_or piece (end - 1) 0))
 
--- so white space before an end may be taken from it,
-pub end_at_space : (piece : List ℕ) (end : ℕ) → 0 < end → end ≤ length piece → is_space (get_or piece (end - 1) 0) ≡ true
-    → trim_end (take (end - 1) piece) ≡ trim_end (take end piece)
-end_at_space piece end some within white = sym (rw white at (last_trimmed piece end some within))
-
--- and at another byte nothing is left out
-pub end_at_other : (piece : List ℕ) (end : ℕ) → 0 < end → end ≤ length piece → is_space (get_or piece (end - 1) 0) ≡ false
-    → take end piece ≡ trim_end (take end piece)
-end_at_other piece end some within other = sym (rw other at (last_trimmed piece end some within))
+-- so nothing is left out of bytes of which the last is no white space
+pub nothing_after : (piece : List ℕ) → (0 < length piece → is_space (get_or piece (length piece - 1) 0) ≡ false) → trim_end piece ≡ piece
+nothing_after [] other = refl
+nothing_after (b ∷ bytes) other =
+    rw (take_all (length bytes) bytes (omega arith), other (omega arith))
+    at (last_trimmed (b ∷ bytes) (suc (length bytes)) (omega arith) (omega arith))

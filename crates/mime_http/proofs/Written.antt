@@ -1,5 +1,5 @@
--- What is written of parameters is read as them.
-use Rattle.mime_http.proofs.Common.{if◌then◌else◌, AllByRecursion, AreParameters, Bool, IsContent, IsParameter, IsSafe, IsSafePair, IsToken, IsToken-lowered, List, MediaType, Parameter, Parameters, Parts, Reads, [], ap, append-nil, append_assoc, arith, bytes_eq, cond_both, false, final, is_token_byte, is_token_value, length, length-append, length-lowered, list_all-lowered, listed, lowered, lowered-lowered, lowered_list, lowered_parameter, lowered_value, lowered_value-either, lowered_value-lowered, map, media_of, more, nat_tests, no_list, not, others, pair_of, pairs_of_list, pairs_of_tail, pairs_of_tail-lowered, plain, quoted, refl, subst, suc, sym, text_of_list, text_of_pair, text_of_pairs, text_of_parameter, text_of_parts, true, value_of, with_pair, with_pairs, ℕ, ◌++◌, ◌∙◌, ◌∷◌, ◌≡◌}
+-- What is written of parameters is read as them, and is written item by item.
+use Rattle.mime_http.proofs.Common.{if◌then◌else◌, AllByRecursion, AreParameters, Bool, IsContent, IsParameter, IsSafe, IsSafePair, IsToken, IsToken-lowered, List, MediaType, Parameter, Parameters, Parts, Reads, [], ap, append-nil, append_assoc, ap₂, arith, bytes_eq, cond_both, false, final, is_token_byte, is_token_value, length, length-append, length-lowered, list_all-lowered, listed, lowered, lowered-lowered, lowered_list, lowered_parameter, lowered_value, lowered_value-either, lowered_value-lowered, map, media_of, more, nat_tests, no_list, not, others, pair_of, pairs_of_list, pairs_of_tail, pairs_of_tail-lowered, plain, quoted, refl, subst, suc, sym, text_of_list, text_of_pair, text_of_pairs, text_of_parameter, text_of_parts, true, value_of, with_pair, with_pairs, ℕ, ◌++◌, ◌∙◌, ◌∷◌, ◌≡◌, Item, NameIs, bytes_eq-Decides, false_from_ne_true, flat_map-append, items_of, ◌+◌, ◌≤◌, Decides, filter}
 use Rattle.mime.proofs.HandedOut.{lowered_pair}
 
 -- the test for a token holds for tokens alone
@@ -43,61 +43,46 @@ length-pairs (pair ∷ pairs) =
     length-append (text_of_pair (lowered_pair pair)) _ ∙ simp (length-pair pair, length-pairs pairs)
     (sym (length-append (text_of_pair pair) (text_of_pairs pairs)))
 
--- a pair is written as a token or in quotes, and is read in lowercase
-record WritesOne (pair : List ℕ × List ℕ) : Type 0 where
-  parameter : Parameter
-  fine : IsParameter parameter
-  text : 59 ∷ 32 ∷ text_of_parameter parameter ≡ text_of_pair pair
-  low : 59 ∷ 32 ∷ text_of_parameter (lowered_parameter parameter) ≡ text_of_pair (lowered_pair pair)
-  has : pair_of (lowered_parameter parameter) ≡ lowered_pair pair
+-- the parameter of a pair: its value is a token, or in quotes
+abbrev parameter_of : List ℕ × List ℕ → Parameter
+parameter_of (name, value) = if is_token_value value then plain name value else quoted name value []
 
--- so it is if it is safe
-writes_one : (pair : List ℕ × List ℕ) → IsSafePair pair → WritesOne pair
-writes_one (name, value) (named, is) = go (is_token_value value) refl
-  where
-    go : (token : Bool) → is_token_value value ≡ token → WritesOne (name, value)
-    go true e = record {
-      parameter = plain name value;
-      fine = (named, token_from_test value e);
-      text = rw (e, append-nil value) refl;
-      low = rw (test-either name value ∙ e, append-nil (lowered_value name value)) refl;
-      has = refl;
-    }
-    go false e = record {
-      parameter = quoted name value [];
-      fine = (named, is, refl);
-      text = rw e refl;
-      low = rw (test-either name value ∙ e) refl;
-      has = refl;
-    }
+-- the list of the parameters of pairs, each after a space
+abbrev list_of : List ℕ × List ℕ → List (List ℕ × List ℕ) → Parameters
+list_of pair [] = final (32 ∷ []) (parameter_of pair)
+list_of pair (next ∷ pairs) = more (32 ∷ []) (parameter_of pair) (list_of next pairs)
 
--- one or more are written as a list
-record Writes (pairs : List (List ℕ × List ℕ)) : Type 0 where
-  list : Parameters
-  fine : AreParameters list
-  text : 59 ∷ text_of_list list ≡ text_of_pairs pairs
-  low : 59 ∷ text_of_list (lowered_list list) ≡ text_of_pairs (map lowered_pair pairs)
-  has : pairs_of_list (lowered_list list) ≡ map lowered_pair pairs
+-- they are well formed if the pairs are safe,
+well_formed_one : (pair : List ℕ × List ℕ) → IsSafePair pair → IsParameter (parameter_of pair)
+well_formed_one (name, value) (named, is) = cond_both (is_token_value value) _ _ IsParameter
+    (λ token. (named, token_from_test value token)) (λ other. (named, is, refl))
 
--- so they are if they are safe
-writes : (pair : List ℕ × List ℕ) (pairs : List (List ℕ × List ℕ)) → AllByRecursion IsSafePair (pair ∷ pairs) → Writes (pair ∷ pairs)
-writes pair [] (is, all) =
-    let one = writes_one pair is in record {
-      list = final (32 ∷ []) one.parameter;
-      fine = (refl, one.fine);
-      text = one.text ∙ sym (append-nil _);
-      low = one.low ∙ sym (append-nil _);
-      has = ap (λ p. p ∷ []) one.has;
-    }
-writes pair (next ∷ pairs) (is, all) =
-    let one = writes_one pair is in
-    let rest = writes next pairs all in record {
-      list = more (32 ∷ []) one.parameter rest.list;
-      fine = (refl, one.fine, rest.fine);
-      text = λ i. one.text i ++ rest.text i;
-      low = λ i. one.low i ++ rest.low i;
-      has = λ i. one.has i ∷ rest.has i;
-    }
+well_formed_list : (pair : List ℕ × List ℕ) (pairs : List (List ℕ × List ℕ)) → AllByRecursion IsSafePair (pair ∷ pairs)
+    → AreParameters (list_of pair pairs)
+well_formed_list pair [] (is, all) = (refl, well_formed_one pair is)
+well_formed_list pair (next ∷ pairs) (is, all) = (refl, well_formed_one pair is, well_formed_list next pairs all)
+
+-- are what is written of the pairs,
+text_of_one : (pair : List ℕ × List ℕ) → 59 ∷ 32 ∷ text_of_parameter (parameter_of pair) ≡ text_of_pair pair
+text_of_one (name, value) = grind (arith, append-nil value)
+
+text_of_all : (pair : List ℕ × List ℕ) (pairs : List (List ℕ × List ℕ)) → 59 ∷ text_of_list (list_of pair pairs) ≡ text_of_pairs (pair ∷ pairs)
+text_of_all pair [] = text_of_one pair ∙ sym (append-nil _)
+text_of_all pair (next ∷ pairs) = λ i. text_of_one pair i ++ text_of_all next pairs i
+
+-- in lowercase those of the pairs in lowercase,
+lowered_one : (pair : List ℕ × List ℕ) → lowered_parameter (parameter_of pair) ≡ parameter_of (lowered_pair pair)
+lowered_one (name, value) = grind (arith, test-either name value)
+
+lowered_all : (pair : List ℕ × List ℕ) (pairs : List (List ℕ × List ℕ))
+    → lowered_list (list_of pair pairs) ≡ list_of (lowered_pair pair) (map lowered_pair pairs)
+lowered_all pair [] = ap (final (32 ∷ [])) (lowered_one pair)
+lowered_all pair (next ∷ pairs) = ap₂ (more (32 ∷ [])) (lowered_one pair) (lowered_all next pairs)
+
+-- and read as the pairs
+pairs_of_all : (pair : List ℕ × List ℕ) (pairs : List (List ℕ × List ℕ)) → pairs_of_list (list_of pair pairs) ≡ pair ∷ pairs
+pairs_of_all (name, value) [] = grind arith
+pairs_of_all (name, value) (next ∷ pairs) = grind (arith, pairs_of_all next pairs)
 
 -- So a type, a subtype and pairs are read as they are written,
 pub parts_are_read : (parts : Parts) → IsToken parts.top → IsToken parts.sub → AllByRecursion IsSafePair parts.pairs
@@ -112,13 +97,16 @@ parts_are_read parts is_top is_sub safe = go parts.pairs safe
       spelled = refl;
       valued = rw (append-nil (lowered parts.top ++ (47 ∷ lowered parts.sub))) refl;
     }
-    go (pair ∷ pairs) safe =
-        let list = writes pair pairs safe in record {
-          tree = record { top = parts.top; sub = parts.sub; tail = listed list.list };
-          well_formed = (is_top, is_sub, list.fine);
-          spelled = ap (λ text. parts.top ++ (47 ∷ (parts.sub ++ text))) list.text;
-          valued = rw (list.has, list.low) (simp append_assoc);
-        }
+    go (pair ∷ pairs) safe = record {
+      tree = record { top = parts.top; sub = parts.sub; tail = listed (list_of pair pairs) };
+      well_formed = (is_top, is_sub, well_formed_list pair pairs safe);
+      spelled = ap (λ text. parts.top ++ (47 ∷ (parts.sub ++ text))) (text_of_all pair pairs);
+      valued = rw (
+        lowered_all pair pairs,
+        pairs_of_all (lowered_pair pair) (map lowered_pair pairs),
+        text_of_all (lowered_pair pair) (map lowered_pair pairs),
+      ) (simp append_assoc);
+    }
 
 -- and so are an essence and pairs
 written_is_read : (text : List ℕ) (value : MediaType) (pairs : List (List ℕ × List ℕ)) → Reads text value
@@ -142,16 +130,13 @@ all_others P name (first ∷ pairs) pair all last =
     cond_both (not (bytes_eq (lowered first.0) (lowered name))) _ _ (λ ps. AllByRecursion P (ps ++ (pair ∷ [])))
     (λ other. (all.0, rest)) (λ same. rest)
 
--- a pair in lowercase stays so,
-low_pair : (pair : List ℕ × List ℕ) → lowered_pair (lowered_pair pair) ≡ lowered_pair pair
-low_pair (name, value) = cc (lowered-lowered name, lowered_value-lowered name value)
-
--- so pairs of other names stay as they are, before the new one
+-- pairs of other names stay as they are, before the new one
 others_stay : (name : List ℕ) (pairs : List (List ℕ × List ℕ)) (pair : List ℕ × List ℕ)
     → map lowered_pair (others name (map lowered_pair pairs) ++ (pair ∷ []))
     ≡ others (lowered name) (map lowered_pair pairs) ++ (lowered_pair pair ∷ [])
 others_stay name [] pair = refl
-others_stay name (first ∷ pairs) pair = grind (arith, lowered-lowered name, low_pair first, others_stay name pairs pair)
+others_stay name (first ∷ pairs) pair =
+    grind (arith, lowered-lowered name, lowered-lowered first.0, lowered_value-lowered first.0 first.1, others_stay name pairs pair)
 
 -- an essence with the parameters of other names and this one after it is read as the value with this one in place of those of its name
 pub with_pair_is_read : (text : List ℕ) (value : MediaType) (name content : List ℕ) → Reads text value → IsSafe value → IsToken name
@@ -164,3 +149,73 @@ with_pair_is_read text value name content reads safe named is =
     subst (λ pairs. Reads (value.essence ++ text_of_pairs (others name value.pairs ++ ((name, content) ∷ []))) (with_pairs value pairs))
     (rw low (others_stay name (pairs_of_tail reads.tree.tail) (name, content)))
     (written_is_read text value _ reads (all_others IsSafePair name value.pairs (name, content) safe.pairs (named, is)))
+
+-- ---- those of other names, item by item
+
+-- whether an item is of a name,
+abbrev pub is_named : List ℕ → Item → Bool
+is_named name item = if item.name_ignores_case then bytes_eq (lowered item.name) (lowered name) else bytes_eq item.name name
+
+-- as that is decided
+name_decides : (name text : List ℕ) (flag : Bool)
+    → Decides (if flag then bytes_eq (lowered text) (lowered name) else bytes_eq text name) (NameIs text flag name)
+name_decides name text true = bytes_eq-Decides (lowered text) (lowered name)
+name_decides name text false = bytes_eq-Decides text name
+
+-- the pairs of items of other names
+abbrev pub other_items : List ℕ → List Item → List (List ℕ × List ℕ)
+other_items name items = map (λ item. (item.name, item.value)) (filter (λ item. not (is_named name item)) items)
+
+-- those of the items of pairs are the others
+others_of : (name : List ℕ) (pairs : List (List ℕ × List ℕ)) → other_items name (items_of pairs) ≡ others name pairs
+others_of name [] = refl
+others_of name (pair ∷ pairs) = grind (arith, others_of name pairs)
+
+-- of the items that are left, those of other names are still to be written after this text, and to be counted
+pub record Left (name whole text : List ℕ) (total count : ℕ) (items : List Item) : Type 0 where
+  pub written : text ++ text_of_pairs (other_items name items) ≡ whole
+  pub counted : count + length (other_items name items) ≡ total
+
+-- at first all are left,
+pub all_left : (name essence : List ℕ) (pairs : List (List ℕ × List ℕ)) {items : List Item} {text : List ℕ} → items ≡ items_of pairs
+    → text ≡ essence → Left name (essence ++ text_of_pairs (others name pairs)) text (length (others name pairs)) 0 items
+all_left name essence pairs are is =
+    let same = ap (other_items name) are ∙ others_of name pairs in
+    record { written = ap₂ (λ text ps. text ++ text_of_pairs ps) is same; counted = omega (arith, ap length same) }
+
+module _ {name whole text : List ℕ} {total count : ℕ} {items next : List Item} {item : Item}
+    (left : Left name whole text total count items) (is : items ≡ item ∷ next) where
+  -- an item of this name is left out,
+  pub named_skipped : NameIs item.name item.name_ignores_case name → Left name whole text total count next
+  named_skipped named =
+      let test : is_named name item ≡ true = (name_decides name item.name item.name_ignores_case).1 named in
+      record { written = rw (is, test) at left.written; counted = rw (is, test) at left.counted }
+
+  -- one of another is written,
+  pub copied : ¬ (NameIs item.name item.name_ignores_case name)
+      → (count + 1 ≤ total) × Left name whole (text ++ text_of_pair (item.name, item.value)) total (count + 1) next
+  copied other =
+      let test : is_named name item ≡ false =
+      false_from_ne_true _ (λ same. other ((name_decides name item.name item.name_ignores_case).0 same)) in
+      let counted : count + suc (length (other_items name next)) ≡ total = rw (is, test) at left.counted in (
+        omega (arith, counted),
+        record {
+          written = append_assoc text (text_of_pair (item.name, item.value)) _ ∙ (rw (is, test) at left.written);
+          counted = omega (arith, counted);
+        },
+      )
+
+-- and at last all is written and counted
+pub none_left : {name whole text : List ℕ} {total count : ℕ} {items : List Item} → Left name whole text total count items → items ≡ []
+    → (text ≡ whole) × (count ≡ total)
+none_left {text = text} left none = (sym (append-nil text) ∙ (rw none at left.written), omega (arith, rw none at left.counted))
+
+-- those of other names are no more than all
+pub others_within : (name : List ℕ) (pairs : List (List ℕ × List ℕ)) → length (others name pairs) ≤ length pairs
+others_within name [] = omega arith
+others_within name (pair ∷ pairs) = grind (arith, others_within name pairs)
+
+-- each parameter is written with a byte at least
+pub pairs_within_text : (pairs : List (List ℕ × List ℕ)) → length pairs ≤ length (text_of_pairs pairs)
+pairs_within_text [] = omega arith
+pairs_within_text (pair ∷ pairs) = omega (arith, pairs_within_text pairs, length-append (text_of_pair pair) (text_of_pairs pairs))

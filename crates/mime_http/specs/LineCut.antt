@@ -1,5 +1,5 @@
 -- Private: the places of a line, its cut as a function over them, and what is kept of its pieces.
-use Rattle.std.specs.Prelude.{◌≡◌, ◌<◌, ◌≤◌, ◌||◌, ℕ, Bool, true, false, List, [], ◌∷◌, ◌++◌, length, slice_index, if◌then◌else◌, ◌==◌}
+use Rattle.std.specs.Prelude.{◌≡◌, ◌<◌, ◌≤◌, ◌||◌, ℕ, zero, suc, Bool, true, false, List, [], ◌∷◌, ◌++◌, length, slice_index, if◌then◌else◌, ◌==◌}
 use Rattle.mime.specs.Bytes.{comma_byte, equals_byte, quote_byte, backslash_byte}
 use Rattle.mime_http.specs.HttpList.{AreSorted, Header}
 
@@ -36,6 +36,11 @@ cut_from place piece (b ∷ bytes) =
 
 abbrev pub cut : List ℕ → List (List ℕ)
 cut line = cut_from Outside [] line
+
+-- the number of bytes of the first piece, from a place on
+abbrev pub piece_len : At → List ℕ → ℕ
+piece_len place [] = zero
+piece_len place (b ∷ bytes) = if ends place b then zero else suc (piece_len (after place b) bytes)
 
 -- those after a comma
 abbrev pub cut_after : List ℕ → List (List ℕ)

@@ -90,7 +90,7 @@ impl Accept {
 
     /// Adds a piece of a line, which may be known to be ASCII, unless it is only white space.
     #[inline(always)]
-    #[tactic(auto, using(crate::proofs::Trims::ascii_trimmed))]
+    #[tactic(auto, using(crate::proofs::Takes::ascii_trimmed))]
     fn take_piece(
         &mut self,
         alloc: Global,

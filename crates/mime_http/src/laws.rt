@@ -81,13 +81,13 @@ pub fn written_is_meant()
 {}
 
 /// The best offer is acceptable: it weighs more than 0 (RFC 9110, 12.4.2).
-#[tactic(auto, using(crate::proofs::First::best_is_acceptable))]
+#[tactic(auto, using(crate::proofs::Order::best_is_acceptable))]
 pub fn best_is_acceptable()
     ensures { BestIsAcceptable }
 {}
 
 /// The best offer is the first in the order of all that weigh more than 0.
-#[tactic(auto, using(crate::proofs::First::best_is_first))]
+#[tactic(auto, using(crate::proofs::Order::best_is_first))]
 pub fn best_is_first()
     ensures { BestIsFirst }
 {}

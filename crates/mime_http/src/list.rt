@@ -1,11 +1,11 @@
 //! The cut of a header's line at its commas outside strings, and pieces without the white space around them.
 
-ghost use Rattle.std.specs.Prelude.{◌≡◌, ◌<◌, ◌≤◌, ◌+◌, ◌-◌, ◌∷◌, ℕ, true, length, take, drop, slice_index};
+ghost use Rattle.std.specs.Prelude.{◌≡◌, ◌<◌, ◌≤◌, ◌+◌, ℕ, true, length, drop, slice_index};
 ghost use Rattle.std.specs.Str.{IsAscii};
 ghost use Rattle.mime.specs.Bytes.{comma_byte, equals_byte, quote_byte};
 ghost use Rattle.mime.specs.Grammar.{is_space};
 ghost use Rattle.mime_http.specs.HttpList.{trim_start, trim_end};
-ghost use Rattle.mime_http.specs.LineCut.{Outside, Quoted, AreUnmarked, IsNextMark, cut_from, cut, cut_after};
+ghost use Rattle.mime_http.specs.LineCut.{Outside, Quoted, AreUnmarked, IsNextMark, piece_len};
 
 use mime_search::{Class, content_end, first_stop};
 use std::simd::prelude::*;
@@ -25,11 +25,12 @@ fn next_outside(line: &[u8], from: usize) -> usize
 
 /// Returns the position after the closing quote of the string that `from` is in, or the length.
 #[inline(always)]
+#[tactic(auto, using(crate::proofs::Pieces::string_closed))]
 fn string_end(line: &[u8], from: usize) -> usize
     requires { from ≤ length line.now }
     ensures least { from ≤ result }
     ensures within { result ≤ length line.now }
-    ensures left { cut_from Outside (take result line.now) (drop result line.now) ≡ cut_from Quoted (take from line.now) (drop from line.now) }
+    ensures left { result + piece_len Outside (drop result line.now) ≡ from + piece_len Quoted (drop from line.now) }
 {
     let end = content_end(line, from);
     if end < line.len() { end + 1 } else { end }
@@ -42,7 +43,7 @@ fn quoted_piece_len(line: &[u8], quote: usize) -> usize
     requires within { quote ≤ length line.now }
     requires unmarked { AreUnmarked comma_byte quote_byte line.now 0 quote }
     ensures within { result ≤ length line.now }
-    ensures piece { cut line.now ≡ take result line.now ∷ cut_after (drop result line.now) }
+    ensures piece { result ≡ piece_len Outside line.now }
 {
     // An equals sign before the quote is looked at again.
     let mut at = quote;
@@ -78,7 +79,7 @@ pub(crate) fn piece_end(line: &[u8], from: usize) -> usize
     requires { from ≤ length line.now }
     ensures least { from ≤ result }
     ensures within { result ≤ length line.now }
-    ensures piece { cut (drop from line.now) ≡ take (result - from) (drop from line.now) ∷ cut_after (drop result line.now) }
+    ensures piece { result ≡ from + piece_len Outside (drop from line.now) }
 {
     let mark = first_stop(line, from, &Class::of(b',', b'"'));
     if mark < line.len() && line[mark] == b'"' {
@@ -156,6 +157,7 @@ pub(crate) fn is_short_ascii(line: &[u8]) -> bool
 
 /// Returns a piece without the white space after it. It isn't inlined: most pieces end in no white space.
 #[inline(never)]
+#[tactic(auto, using(crate::proofs::Trims::last_trimmed))]
 fn trim_spaces_after(piece: &[u8]) -> &[u8]
     ensures { result.now ≡ trim_end piece.now }
 {
@@ -168,6 +170,7 @@ fn trim_spaces_after(piece: &[u8]) -> &[u8]
 
 /// Returns a piece without the white space after it.
 #[inline(always)]
+#[tactic(auto, using(crate::proofs::Trims::nothing_after))]
 pub(crate) fn trim_end(piece: &[u8]) -> &[u8]
     ensures { result.now ≡ trim_end piece.now }
 {

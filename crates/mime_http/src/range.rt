@@ -30,6 +30,7 @@ impl ParamKey for Exactly<'_> {
 }
 
 /// Returns the first value under a name, which is in lowercase.
+#[tactic(auto, using(crate::proofs::Demanded::first_is))]
 pub(crate) fn first_value<'a>(mime: &'a Mime, name: &str) -> Option<Name<'a>>
     ensures { option_map name_text result ≡ first_value name.now mime.now.media.pairs }
 {
@@ -105,6 +106,7 @@ pub(crate) fn named_parts(range: &Mime, essence: &str, type_: &str) -> Option<u8
 }
 
 /// Returns `true` if an offer has a parameter of this name, with a value that means the same.
+#[tactic(auto, using(crate::proofs::Demanded::has_item))]
 fn has(offer: &Mime, name: &str, value: &str) -> bool
     ensures { result ≡ has offer.now.media (name.now, value.now) }
 {

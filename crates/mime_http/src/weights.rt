@@ -31,6 +31,7 @@ pub(crate) fn tenths(digit: u8) -> u16
 
 /// Returns a weight in thousandths: 500 for `0.5`. A string that isn't a weight counts as the number with which it begins, at most 1,
 /// or as 0 if there is none: `.2` is 200, `2` is 1000 and `high` is 0, as in most libraries.
+#[tactic(auto, using(std::proofs::lemmas::Grind::common_steps, crate::proofs::Numbers::read_is))]
 pub(crate) fn thousandths(weight: &str) -> u16
     ensures { result ≡ thousandths_of weight.now }
 {

@@ -1,12 +1,7 @@
 -- Before a comma that is the first mark, or to the end.
-use Rattle.mime_http.proofs.Common.{common_steps, arith, get_or, length, length-drop, take_rest, ◌<◌, ◌≡◌}
-use Rattle.mime_http.proofs.Pieces.{next_mark, unmarked_from, piece_from, piece_of_len}
-use Rattle.mime_http.proofs.list.piece_end.Goals.{else-mark-line-via-then-mark-line+else-line-mark-eq34, else-mark-line-via-else-mark-line}
+use Rattle.mime_http.proofs.Common.{ap, arith, common_steps, length-drop, take_rest, ◌+◌}
+use Rattle.mime_http.proofs.Pieces.{next_mark, piece_from, unmarked_from}
 use Rattle.mime_http.proofs.list.piece_end.Goals as goal
-
-pub quoted_piece_len-requires-clause-within : goal.quoted_piece_len-requires-clause-within
-quoted_piece_len-requires-clause-within c =
-    rw (take_rest c.args.line.now c.args.from) (omega (arith, length-drop c.args.from c.args.line.now, c.if-mark-line.true))
 
 pub quoted_piece_len-requires-clause-unmarked : goal.quoted_piece_len-requires-clause-unmarked
 quoted_piece_len-requires-clause-unmarked c =
@@ -14,15 +9,7 @@ quoted_piece_len-requires-clause-unmarked c =
     let mark = next_mark _ 44 34 c.of.ensures line c.args.from c.first_stop-mark.result c.requires c.first_stop-mark.ensures.end in
     rw (take_rest line c.args.from) (unmarked_from line c.args.from c.first_stop-mark.result mark.least mark.unmarked)
 
-pub returns-then-line-mark-eq34-clause-piece : goal.returns-then-line-mark-eq34-clause-piece
-returns-then-line-mark-eq34-clause-piece c =
-    let line = c.args.line.now in
-    piece_of_len line c.args.from c.quoted_piece_len.result (rw (take_rest line c.args.from) at c.quoted_piece_len.ensures.piece)
-
 pub returns-clause-piece : goal.returns-clause-piece
 returns-clause-piece c =
-    let line = c.args.line.now in
-    let to = c.first_stop-mark.result in
-    let mark = next_mark _ 44 34 c.of.ensures line c.args.from to c.requires c.first_stop-mark.ensures.end in
-    let comma : to < length line → get_or line to 0 ≡ 44 = grind (arith, common_steps, mark.mark) in
-    piece_from line c.args.from to mark.least mark.within mark.unmarked comma
+    piece_from (next_mark _ 44 34 c.of.ensures c.args.line.now c.args.from c.first_stop-mark.result c.requires c.first_stop-mark.ensures.end)
+    (grind (arith, common_steps))

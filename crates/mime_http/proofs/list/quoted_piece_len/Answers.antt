@@ -1,7 +1,6 @@
 -- The bytes before the quote lead outside strings, each search goes on there, and a string is left at its end.
-use Rattle.mime_http.proofs.Common.{arith, common_steps, false, get_or, get_or_past, length, nat_tests, refl, ◌+◌, ◌-◌, ◌<◌, ◌==◌, ◌&&◌, ◌∙◌, ◌≡◌}
-use Rattle.mime_http.proofs.Pieces.{outside_at, outside_run, outside_byte, string_opens, ends_outside}
-use Rattle.mime_http.proofs.list.quoted_piece_len.Goals.{then-quote-gt0, else-quote-gt0}
+use Rattle.mime_http.proofs.Common.{arith, common_steps, false, get_or, get_or_past, length, nat_tests, refl, sym, ◌+◌, ◌-◌, ◌<◌, ◌==◌, ◌&&◌, ◌∙◌, ◌≡◌}
+use Rattle.mime_http.proofs.{Pieces.outside_at, Pieces.outside_run, Pieces.outside_byte, Pieces.string_opens, Pieces.ends_outside, list.quoted_piece_len.Goals.then-quote-gt0, list.quoted_piece_len.Goals.else-quote-gt0}
 use Rattle.mime_http.proofs.list.quoted_piece_len.Goals as goal
 
 pub loop-at-init : goal.loop-at-init
@@ -11,21 +10,21 @@ loop-at-init c =
     elim c.if-quote-gt0.branch [
       | then-quote-gt0 w ↦ rw w.at-is (record {
         within = omega (arith, c.requires.within);
-        left = outside_at line (quote - 1) (omega (arith, w.if-quote-gt0.true, c.requires.within))
+        left = outside_at line 0 (quote - 1) (omega arith) (omega (arith, w.if-quote-gt0.true, c.requires.within))
             (λ k from to. c.requires.unmarked k from (omega (arith, to)))
-            (grind (arith, nat_tests, c.requires.unmarked (quote - 1) (omega arith) (omega (arith, w.if-quote-gt0.true))));
+            (grind (arith, nat_tests, c.requires.unmarked (quote - 1) (omega arith) (omega (arith, w.if-quote-gt0.true)))) ∙ omega arith;
       })
       | else-quote-gt0 w ↦
           let first : c.if-quote-gt0.at ≡ 0 = omega (arith, w.at-is, w.if-quote-gt0.false) in
-          rw first (record { within = omega arith; left = refl })
+          rw first (record { within = omega arith; left = omega arith })
     ]
 
 pub returns-then-at-line-clause-piece : goal.returns-then-at-line-clause-piece
 returns-then-at-line-clause-piece c =
     let line = c.args.line.now in
     let next = c.next_outside-at in
-    ends_outside line next.result (grind (arith, common_steps))
-    (outside_run line c.loop-at.at next.result next.ensures.least next.ensures.within next.ensures.unmarked ∙ c.loop-at.invariant.left)
+    sym (ends_outside line next.result (grind (arith, common_steps)))
+    ∙ (outside_run next.ensures ∙ c.loop-at.invariant.left)
 
 pub loop-at-preserved-then-line-at-eq34 : goal.loop-at-preserved-then-line-at-eq34
 loop-at-preserved-then-line-at-eq34 c =
@@ -35,7 +34,7 @@ loop-at-preserved-then-line-at-eq34 c =
     record {
       within = c.string_end-at.ensures.within;
       left = c.string_end-at.ensures.left ∙ (string_opens line next.result c.if-at-line-2.true equals c.if-line-at-eq34.true
-          ∙ (outside_run line c.loop-at.at next.result next.ensures.least next.ensures.within next.ensures.unmarked
+          ∙ (outside_run next.ensures
           ∙ c.loop-at.invariant.left));
     }
 
@@ -49,6 +48,5 @@ loop-at-preserved c =
     grind (arith, common_steps, get_or_past line (next.result + 1) 0) in
     record {
       within = omega (arith, within);
-      left = outside_byte line next.result within comma no_string ∙ (outside_run line c.loop-at.at next.result
-          next.ensures.least next.ensures.within next.ensures.unmarked ∙ c.loop-at.invariant.left);
+      left = outside_byte line next.result within comma no_string ∙ (outside_run next.ensures ∙ c.loop-at.invariant.left);
     }

@@ -1,11 +1,11 @@
--- The piece so far is outside strings, and with what is left of the line it is cut as the line.
-use Rattle.mime_http.proofs.Common.{Outside, cut, cut_from, drop, length, take, ◌-◌, ◌≡◌, ◌≤◌}
+-- The piece so far is outside strings, and ends where the line's first does.
+use Rattle.mime_http.proofs.Common.{Outside, drop, length, piece_len, ◌+◌, ◌-◌, ◌≡◌, ◌≤◌}
 use Rattle.mime_http.proofs.list.quoted_piece_len.Given as goal
 
 abbrev pub invariant-loop-at : goal.invariant-loop-at
 invariant-loop-at l = record {
   within : l.at ≤ length l.line;
-  left : cut_from Outside (take l.at l.line) (drop l.at l.line) ≡ cut l.line;
+  left : l.at + piece_len Outside (drop l.at l.line) ≡ piece_len Outside l.line;
 }
 
 abbrev pub decreases-loop-at : goal.decreases-loop-at

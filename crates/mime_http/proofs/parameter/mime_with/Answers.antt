@@ -1,9 +1,6 @@
 -- What is written is known to be read as the media type with the parameter.
-use Rattle.mime_http.proofs.Common.{AreHeaderBytes, Form, IfOk-weaker, IsSafe, IsToken, List, MediaType, Reads, [], ap, append_assoc, ap₂, arith, escaped, form_of, length, length-append, lowered, lowered-lowered, lowered_value, others, string_bytes, subst, sym, text_in, text_of_pairs, with_pair, ℕ, ◌++◌, ◌+◌, ◌∙◌, ◌∷◌, ◌≡◌, ◌≤◌}
-use Rattle.mime_http.proofs.Contents.{content_of_escaped}
-use Rattle.mime_http.proofs.Forms.{form_text}
-use Rattle.mime_http.proofs.Others.{and_last, pairs_within_text}
-use Rattle.mime_http.proofs.Written.{with_pair_is_read}
+use Rattle.mime_http.proofs.Common.{AreHeaderBytes, Form, IfOk-weaker, IsSafe, IsToken, List, MediaType, Reads, [], ap, append-nil, flat_map-append, text_of_pair, append_assoc, ap₂, arith, escaped, form_of, length, length-append, lowered, lowered-lowered, lowered_value, others, refl, string_bytes, subst, sym, text_in, text_of_pairs, with_pair, ℕ, ◌++◌, ◌+◌, ◌∙◌, ◌∷◌, ◌≡◌, ◌≤◌}
+use Rattle.mime_http.proofs.{Contents.content_of_escaped, Forms.form_text, Written.pairs_within_text, Written.with_pair_is_read}
 use Rattle.mime_http.proofs.parameter.mime_with.Goals as goal
 
 -- the text has the parameters of other names, and this one
@@ -13,14 +10,7 @@ is_written : (media : MediaType) (name value text : List ℕ) (form : Form) → 
 is_written media name value text form fits made =
     let pairs = others name media.pairs in
     rw (made, fits, form_text name value)
-    (sym (append_assoc media.essence (text_of_pairs pairs) _) ∙ and_last media.essence pairs (name, escaped value))
-
--- so it has as many bytes as parameters, at least
-fits_text : (essence text : List ℕ) (pairs : List (List ℕ × List ℕ)) (pair : List ℕ × List ℕ)
-    → text ≡ essence ++ text_of_pairs (pairs ++ (pair ∷ [])) → length pairs + 1 ≤ length text
-fits_text essence text pairs pair is =
-    let all = pairs ++ (pair ∷ []) in
-    omega (arith, ap length is, length-append essence (text_of_pairs all), pairs_within_text all, length-append pairs (pair ∷ []))
+    (sym (rw (flat_map-append text_of_pair pairs ((name, escaped value) ∷ []), append-nil (text_of_pair (name, escaped value))) refl))
 
 -- what is written is read as the media type with the parameter
 is_read : (media : MediaType) (name value text : List ℕ) (form : Form) → form ≡ form_of value
@@ -33,7 +23,12 @@ is_read media name value text form fits made reads header named safe =
 pub overflow_add-count : goal.overflow_add-count
 overflow_add-count c =
     let is = is_written c.args.mime.now.media c.args.name.now c.args.value.now _ c.args.form c.requires.fits c.in_ok-text.ensures.text in
-    omega (arith, fits_text _ _ _ _ is, c.in_ok-text.ensures.count, c.len-more.ensures, c.len-more.type_inv)
+    let pairs = others c.args.name.now c.args.mime.now.media.pairs in
+    let pair : List ℕ × List ℕ = (c.args.name.now, escaped c.args.value.now) in
+    let all = pairs ++ (pair ∷ []) in
+    let within = pairs_within_text all in
+    omega (arith, ap length is, length-append c.args.mime.now.media.essence (text_of_pairs all), within, length-append pairs (pair ∷ []),
+    c.in_ok-text.ensures.count, c.len-more.ensures, c.len-more.type_inv)
 
 pub invariant_of-known : goal.invariant_of-known
 invariant_of-known c =

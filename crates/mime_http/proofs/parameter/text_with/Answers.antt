@@ -1,8 +1,10 @@
 -- Each parameter is of the name, or is written.
 use Rattle.mime_http.proofs.Common.{NameIs, [], ap, append_assoc, arith, item_seen, others, rules, string_bytes, text_in, text_of_pairs, ◌++◌, ◌∙◌, ◌∷◌, ◌≡◌}
-use Rattle.mime_http.proofs.Forms.{kept_text}
-use Rattle.mime_http.proofs.Others.{none_left, named_skipped, copied, others_within}
+use Rattle.mime_http.proofs.{Forms.kept_text, Written.all_left, Written.none_left, Written.named_skipped, Written.copied, Written.others_within}
 use Rattle.mime_http.proofs.parameter.text_with.Goals as goal
+
+pub loop-other-init : goal.loop-other-init
+loop-other-init c = all_left _ _ _ (search rules) (search rules)
 
 pub loop-other-preserved : goal.loop-other-preserved
 loop-other-preserved c =
@@ -22,23 +24,3 @@ overflow_add-count c =
     let differ : ¬ (NameIs c.in-Some.other.text.now c.in-Some.other.ignores_case c.args.name.now) = search rules in
     let within = others_within c.args.name.now c.args.mime.now.media.pairs in
     omega (arith, (copied c.loop-other.invariant first differ).0, within, c.param_count-most.ensures, c.param_count-most.type_inv)
-
-pub loop-other-preserved-then-name_eq_str : goal.loop-other-preserved-then-name_eq_str
-loop-other-preserved-then-name_eq_str c =
-    let first : c.loop-other.other-iterator ≡ item_seen (c.in-Some.other, c.in-Some.kept) ∷ c.next.new.self = search rules in
-    let same : NameIs c.in-Some.other.text.now c.in-Some.other.ignores_case c.args.name.now = search rules in
-    named_skipped c.loop-other.invariant first same
-
-pub returns-clause-text : goal.returns-clause-text
-returns-clause-text c =
-    let ended : c.loop-other.other-iterator ≡ [] = search rules in
-    let so_far = (none_left c.loop-other.invariant ended).0 in
-    let last = text_in c.args.form c.args.name.now c.args.value.now in
-    let pushed : string_bytes c.push_parameter-2.new.text ≡ string_bytes c.loop-other.text ++ last = search rules in
-    pushed ∙ ap (λ text. text ++ last) so_far
-    ∙ append_assoc c.args.mime.now.media.essence (text_of_pairs (others c.args.name.now c.args.mime.now.media.pairs)) last
-
-pub returns-clause-count : goal.returns-clause-count
-returns-clause-count c =
-    let ended : c.loop-other.other-iterator ≡ [] = search rules in
-    (none_left c.loop-other.invariant ended).1

@@ -1,6 +1,6 @@
 -- The parameters of other names so far were written.
 use Rattle.mime_http.proofs.Common.{length, others, string_bytes, text_of_pairs, ◌++◌}
-use Rattle.mime_http.proofs.Others.{Left}
+use Rattle.mime_http.proofs.Written.{Left}
 use Rattle.mime_http.proofs.parameter.text_with.Given as goal
 
 abbrev pub invariant-loop-other : goal.invariant-loop-other

@@ -1,7 +1,6 @@
 -- What was added so far, then the bytes that need no backslash or have it, and then what is written for the others, are the whole.
 use Rattle.mime_http.proofs.Common.{drop, escaped, false, get_or, is_plain, length, string_bytes, take, ◌++◌, ◌-◌, ◌<◌, ◌≡◌, ◌≤◌}
-use denote.Text.{Utf8}
-use denote.Shadow.{shadow}
+use denote.{Text.Utf8, Shadow.shadow}
 use Rattle.mime_http.proofs.quoted.push_escaped.Given as goal
 
 abbrev pub invariant-loop-run : goal.invariant-loop-run

@@ -9,5 +9,4 @@ invariant-loop-at l = record {
       take l.end l.bytes ++ unescaped_from l.is_paired (drop l.at l.bytes) ≡ take l.start l.fn.bytes ++ unescaped_from false
       (drop l.start l.fn.bytes);
   behind : l.end ≤ l.at;
-  long : length l.bytes ≡ length l.fn.bytes;
 }

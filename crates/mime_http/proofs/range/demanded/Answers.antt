@@ -1,6 +1,6 @@
 -- A weight that is written so is the only parameter.
 use Rattle.mime_http.proofs.Common.{HasBytesAt, [], arith, get_or, is_ascii_digit, rules, true, ◌∷◌, ◌≡◌, refl}
-use Rattle.mime_http.proofs.ShortWeight.{weight_of_one_decimal}
+use Rattle.mime_http.proofs.Demanded.{weight_of_one_decimal}
 use Rattle.mime_http.proofs.range.demanded.Goals as goal
 
 pub returns-in-59 : goal.returns-in-59

@@ -11,33 +11,3 @@ loop-name-init c =
       found = ap (found_from c.args.offer.now.media 0 None) items ∙ found_of_all c.args.offer.now.media pairs;
       room = omega (arith, ap length items, length-map pairs item_of, c.param_count-most.ensures);
     }
-
-pub returns-else-has : goal.returns-else-has
-returns-else-has c =
-    let first : c.loop-name.name-iterator ≡ item_seen (c.in-Some.name, c.in-Some.value) ∷ c.next.new.self = search rules in
-    let left = sym (ap (found_from c.args.offer.now.media c.loop-name.count _) first) ∙ c.loop-name.invariant.found in
-    grind (arith, common_steps, left)
-
-pub loop-name-preserved-then-eq : goal.loop-name-preserved-then-eq
-loop-name-preserved-then-eq c =
-    let first : c.loop-name.name-iterator ≡ item_seen (c.in-Some.name, c.in-Some.value) ∷ c.next.new.self = search rules in
-    let left = sym (ap (found_from c.args.offer.now.media c.loop-name.count _) first) ∙ c.loop-name.invariant.found in
-    record {
-      found = grind (arith, common_steps, left);
-      room = omega (arith, ap length first, c.loop-name.invariant.room);
-    }
-
-pub loop-name-preserved : goal.loop-name-preserved
-loop-name-preserved c =
-    let first : c.loop-name.name-iterator ≡ item_seen (c.in-Some.name, c.in-Some.value) ∷ c.next.new.self = search rules in
-    let left = sym (ap (found_from c.args.offer.now.media c.loop-name.count _) first) ∙ c.loop-name.invariant.found in
-    record {
-      found = grind (arith, common_steps, left);
-      room = omega (arith, ap length first, c.loop-name.invariant.room);
-    }
-
-pub returns : goal.returns
-returns c =
-    let ended : c.loop-name.name-iterator ≡ [] = search rules in
-    let left = sym (ap (found_from c.args.offer.now.media c.loop-name.count _) ended) ∙ c.loop-name.invariant.found in
-    grind (arith, c.weight_in.ensures, left)

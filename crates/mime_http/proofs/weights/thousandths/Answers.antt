@@ -3,9 +3,6 @@ use Rattle.mime_http.proofs.Common.{arith, common_steps}
 use Rattle.mime_http.proofs.Numbers.{read_is}
 use Rattle.mime_http.proofs.weights.thousandths.Goals as goal
 
-pub returns-in-46 : goal.returns-in-46
-returns-in-46 c = grind (arith, common_steps, read_is c.args.weight.now)
-
 pub returns-in-49-to-57 : goal.returns-in-49-to-57
 returns-in-49-to-57 c = grind (arith, common_steps, read_is c.args.weight.now)
 
@@ -14,6 +11,3 @@ returns-in_default-byte c = grind (arith, common_steps, read_is c.args.weight.no
 
 pub returns-in_default-byte-2 : goal.returns-in_default-byte-2
 returns-in_default-byte-2 c = grind (arith, common_steps, read_is c.args.weight.now)
-
-pub returns : goal.returns
-returns c = grind (arith, common_steps, read_is c.args.weight.now)

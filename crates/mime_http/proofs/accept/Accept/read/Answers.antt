@@ -1,7 +1,6 @@
 -- The next line's pieces come before those of the lines that are left.
 use Rattle.mime_http.proofs.Common.{Bool, Bor, Header, List, Takes, [], ap, arith, codes, common_steps, cut, drop_more, drop_of_length-le, flat_map, length, lines_or_any, map, nil_from_length, refl, subst, sym, true≢false, ℕ, ◌++◌, ◌∷◌, ◌≡◌, ◌≤◌}
-use Rattle.mime_http.proofs.Takes.{AreLeft, all_left, both_are_nothing, header_taken, nothing, pieces_of_nothing, rest_left}
-use Rattle.mime_http.proofs.accept.Accept.read.Goals.{then-is_empty+in_ok-take_line, else-is_empty}
+use Rattle.mime_http.proofs.{Takes.AreLeft, Takes.all_left, Takes.both_are_nothing, Takes.header_taken, Takes.nothing, Takes.pieces_of_nothing, Takes.rest_left, accept.Accept.read.Goals.then-is_empty+in_ok-take_line, accept.Accept.read.Goals.else-is_empty}
 use Rattle.mime_http.proofs.accept.Accept.read.Goals as goal
 
 -- the pieces of lines

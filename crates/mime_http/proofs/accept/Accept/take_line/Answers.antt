@@ -3,9 +3,6 @@ use Rattle.mime_http.proofs.Common.{arith, length, refl, sym, true≢false, ◌<
 use Rattle.mime_http.proofs.Takes.{all_left, blank_there, past_empty, past_last, past_piece}
 use Rattle.mime_http.proofs.accept.Accept.take_line.Goals as goal
 
-pub loop-from-init : goal.loop-from-init
-loop-from-init c = record { within = omega arith; left = all_left }
-
 pub loop-from-preserved-then-is_empty_piece : goal.loop-from-preserved-then-is_empty_piece
 loop-from-preserved-then-is_empty_piece c =
     let empty = c.if-is_empty_piece.ensures refl in
@@ -31,4 +28,4 @@ returns-then-end-line-clause-taken c =
 pub returns-in_err-take_piece-clause-nothing : goal.returns-in_err-take_piece-clause-nothing
 returns-in_err-take_piece-clause-nothing c = λ sorted.
     absurd (true≢false (sym (c.in_err-take_piece.ensures.blank
-    (blank_there c.args.line.now c.loop-from.from c.loop-from.invariant.left c.piece_end-end.ensures.piece sorted))))
+    (blank_there c.args.line.now c.loop-from.from c.loop-from.invariant.left _ c.piece_end-end.ensures.piece sorted))))
