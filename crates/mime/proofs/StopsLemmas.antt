@@ -9,7 +9,7 @@ use Rattle.std.specs.Int.Bits.{bit_or}
 use Rattle.mime_search.proofs.IgnoringCase.{at_byte}
 use Rattle.mime.specs.Bytes.{is_token_byte, is_quoted_byte, is_quoted_text_byte}
 use Rattle.mime.specs.Inner.ByteClasses.{is_token_except_plus}
-use Rattle.mime.specs.declared.scan.runs.TheConstants.{COMMON_TOKEN_BYTES, QUOTED_TEXT}
+use Rattle.mime.specs.declared.scan.runs.TheConstants.{TOKEN_STOPS, QUOTED_TEXT_STOPS}
 use Rattle.mime_search.specs.Classes.{is_outside_range, is_outside, is_stop}
 use Rattle.mime_search.specs.declared.class.Class.{Class}
 use Rattle.mime_search.specs.declared.class.Range.{Range}
@@ -33,12 +33,12 @@ in_ranges class wider one two three all b inside =
     ]
 
 -- a search for the end of common token bytes passes only token bytes other than the plus
-pub are_token_bytes : (b : ℕ) → not (is_stop COMMON_TOKEN_BYTES b) ≡ true → is_token_except_plus b ≡ true
+pub are_token_bytes : (b : ℕ) → not (is_stop TOKEN_STOPS b) ≡ true → is_token_except_plus b ≡ true
 unfolding is_token_byte
 are_token_bytes b go =
-    in_ranges COMMON_TOKEN_BYTES is_token_except_plus (omega arith) (omega arith) (omega arith) refl b (not-true _ go)
+    in_ranges TOKEN_STOPS is_token_except_plus (omega arith) (omega arith) (omega arith) refl b (not-true _ go)
 
 -- a search for the end of quoted text passes only bytes of quoted text
-pub are_quoted_text : (b : ℕ) → not (is_stop QUOTED_TEXT b) ≡ true → is_quoted_text_byte b ≡ true
+pub are_quoted_text : (b : ℕ) → not (is_stop QUOTED_TEXT_STOPS b) ≡ true → is_quoted_text_byte b ≡ true
 unfolding is_quoted_byte
-are_quoted_text b go = in_ranges QUOTED_TEXT is_quoted_text_byte (omega arith) (omega arith) (omega arith) refl b (not-true _ go)
+are_quoted_text b go = in_ranges QUOTED_TEXT_STOPS is_quoted_text_byte (omega arith) (omega arith) (omega arith) refl b (not-true _ go)

@@ -11,10 +11,10 @@ ghost use Rattle.mime.specs.declared.compare.Compared.TheVariants.{Equal, Differ
 
 use crate::bytes::is_space;
 use crate::name::constants::CHARSET;
-use crate::scan::{ByteReader, Positions, Verdict, parameters};
+use crate::scan::{ByteReader, Positions, Scanned, parameters};
 use crate::value::Mime;
 use crate::value::pairs::Pairs;
-use mime_search::{BLOCK, Suffix, eq_ignore_ascii_case, first_difference};
+use mime_search::{BLOCK, Rest, eq_ignore_ascii_case, first_difference_ignoring_case};
 
 /// Returns `true` if two strings are equal ignoring ASCII case.
 #[inline(always)]
@@ -96,10 +96,10 @@ fn has_list_of(mime: &Mime, s: &str) -> bool
     ensures { IsTrue result ↔ IsAcceptedAt s.now (length mime.now.media.essence) (length mime.now.media.pairs) }
 {
     let end = mime.essence_str().len();
-    let list = Suffix::of(s, end + 1);
+    let list = Rest::of(s, end + 1);
     let mut reader = ByteReader::new(list.text(), end as u128 + 1, usize::MAX);
     match parameters(&mut reader, mime.before_list()) {
-        Verdict::Accepted(positions) => has_shape(positions, end, mime.param_count()),
+        Scanned::Accepted(positions) => has_shape(positions, end, mime.param_count()),
         _ => false,
     }
 }
@@ -157,7 +157,7 @@ fn compare_texts(kept: &str, text: &str) -> Compared
     if kept.len().min(text.len()) < BLOCK {
         return Compared::Undecided;
     }
-    match first_difference(kept, text) {
+    match first_difference_ignoring_case(kept, text) {
         Some(at) if reaches_value(kept[at]) && reaches_value(text[at]) => Compared::Different,
         None if kept.len() == text.len() => Compared::Equal,
         _ => Compared::Undecided,

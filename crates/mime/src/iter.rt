@@ -8,7 +8,7 @@ ghost use Rattle.mime.specs.Runs.{IsNext};
 ghost use Rattle.mime.specs.Inner.BetweenCalls.{ReadsPiece, IsFound};
 
 use crate::bytes::is_token;
-use crate::scan::{ByteReader, NEAR, Positions, Verdict, scan_after, separators};
+use crate::scan::{ByteReader, NEAR, Positions, Scanned, scan_after, separators};
 use crate::value::Mime;
 use std::alloc::{AllocError, Global};
 use std::fmt;
@@ -93,7 +93,7 @@ fn read_piece<'a>(text: &'a str, first: u8, reader: &mut ByteReader<'_>) -> Read
     let verdict = scan_after(first, reader);
     let steps = reader.count();
     let positions = match verdict {
-        Verdict::Accepted(positions) => {
+        Scanned::Accepted(positions) => {
             return ReadPiece {
                 piece: text,
                 positions: Some(positions),
@@ -101,9 +101,9 @@ fn read_piece<'a>(text: &'a str, first: u8, reader: &mut ByteReader<'_>) -> Read
                 steps,
             };
         }
-        Verdict::Unfinished(_) => return ReadPiece::none(text, steps),
-        Verdict::Stopped(_) => None,
-        Verdict::Followed(positions, _) => Some(positions),
+        Scanned::Unfinished(_) => return ReadPiece::none(text, steps),
+        Scanned::Stopped(_) => None,
+        Scanned::Followed(positions, _) => Some(positions),
     };
     let end = reader.position(from);
     ReadPiece {

@@ -20,7 +20,7 @@ pub use crate::scan::fault::{FromStrError, ParseError};
 pub(crate) use crate::scan::reader::{ByteReader, NEAR};
 
 /// The parts of an accepted string: their positions, in bytes from 0, and the number of its parameters. In this order the byte of another
-/// variant of `Verdict` isn't beside a position, which would then be moved in two parts.
+/// variant of `Scanned` isn't beside a position, which would then be moved in two parts.
 #[derive(Clone, Copy)]
 pub(crate) struct Positions {
     /// The plus before the suffix.
@@ -34,7 +34,7 @@ pub(crate) struct Positions {
 
 /// What one pass over a string finds.
 #[derive(Clone, Copy)]
-pub(crate) enum Verdict {
+pub(crate) enum Scanned {
     /// It is accepted, and its parts have these positions.
     Accepted(Positions),
     /// It ends too early: this is missing.
@@ -137,43 +137,43 @@ fn subtype(reader: &mut ByteReader<'_>, from: u128) -> (Option<usize>, Option<u8
 
 /// Reads a parameter list, after its semicolon. `before` has the positions of the parts before it, and no pairs yet.
 #[inline(always)]
-pub(crate) fn parameters(reader: &mut ByteReader<'_>, before: Positions) -> Verdict
+pub(crate) fn parameters(reader: &mut ByteReader<'_>, before: Positions) -> Scanned
     requires { before.pair_count + length reader.old.left < 2 ^ 64 }
     ensures { ScansList before reader.old reader.new result }
 {
     let mut positions = before;
     loop {
         let Some(first) = spaces(reader) else {
-            return Verdict::Accepted(positions);
+            return Scanned::Accepted(positions);
         };
         if !is_token(first) {
-            return Verdict::Followed(positions, first);
+            return Scanned::Followed(positions, first);
         }
         match token(reader, true) {
-            None => return Verdict::Unfinished(ParseError::MissingEqual),
+            None => return Scanned::Unfinished(ParseError::MissingEqual),
             Some(b'=') => {}
-            Some(byte) => return Verdict::Stopped(byte),
+            Some(byte) => return Scanned::Stopped(byte),
         }
         let Some(first) = reader.next() else {
-            return Verdict::Unfinished(ParseError::MissingValue);
+            return Scanned::Unfinished(ParseError::MissingValue);
         };
         let stop = if first == b'"' {
             match content(reader) {
-                None => return Verdict::Unfinished(ParseError::MissingQuote),
+                None => return Scanned::Unfinished(ParseError::MissingQuote),
                 Some(b'"') => {}
-                Some(byte) => return Verdict::Stopped(byte),
+                Some(byte) => return Scanned::Stopped(byte),
             }
             spaces(reader)
         } else if is_token(first) {
             token(reader, true)
         } else {
-            return Verdict::Stopped(first);
+            return Scanned::Stopped(first);
         };
         positions.pair_count += 1;
         match stop {
-            None => return Verdict::Accepted(positions),
+            None => return Scanned::Accepted(positions),
             Some(b';') => {}
-            Some(byte) => return Verdict::Followed(positions, byte),
+            Some(byte) => return Scanned::Followed(positions, byte),
         }
     }
 }
@@ -195,25 +195,25 @@ pub(crate) fn separators(reader: &mut ByteReader<'_>) -> Option<u8>
 /// with.
 #[tactic(auto, using(crate::proofs::ScanLemmas::Passing::given_sum))]
 #[inline(always)]
-pub(crate) fn scan_after(first: u8, reader: &mut ByteReader<'_>) -> Verdict
+pub(crate) fn scan_after(first: u8, reader: &mut ByteReader<'_>) -> Scanned
     requires { 0 < reader.old.count }
     ensures { ScansAfter first reader.old reader.new result }
 {
     let from = reader.count() - 1;
     if !is_token(first) {
-        return Verdict::Stopped(first);
+        return Scanned::Stopped(first);
     }
     match token(reader, true) {
-        None => return Verdict::Unfinished(ParseError::MissingSlash),
+        None => return Scanned::Unfinished(ParseError::MissingSlash),
         Some(b'/') => {}
-        Some(byte) => return Verdict::Stopped(byte),
+        Some(byte) => return Scanned::Stopped(byte),
     }
     let slash = reader.position(from);
     let Some(first) = reader.next() else {
-        return Verdict::Unfinished(ParseError::MissingSubtype);
+        return Scanned::Unfinished(ParseError::MissingSubtype);
     };
     if !is_token(first) {
-        return Verdict::Stopped(first);
+        return Scanned::Stopped(first);
     }
     let (plus, stop) = subtype(reader, from);
     let mut positions = Positions {
@@ -223,9 +223,9 @@ pub(crate) fn scan_after(first: u8, reader: &mut ByteReader<'_>) -> Verdict
         pair_count: 0,
     };
     match stop {
-        None => return Verdict::Accepted(positions),
+        None => return Scanned::Accepted(positions),
         Some(b';') => {}
-        Some(byte) => return Verdict::Followed(positions, byte),
+        Some(byte) => return Scanned::Followed(positions, byte),
     }
     positions.semicolon = Some(reader.position(from));
     parameters(reader, positions)
@@ -233,11 +233,11 @@ pub(crate) fn scan_after(first: u8, reader: &mut ByteReader<'_>) -> Verdict
 
 /// Reads a string to its end, or up to and including the first byte that no media type continues with.
 #[inline(always)]
-pub(crate) fn scan(reader: &mut ByteReader<'_>) -> Verdict
+pub(crate) fn scan(reader: &mut ByteReader<'_>) -> Scanned
     ensures { Scans reader.old reader.new result }
 {
     match reader.next() {
-        None => Verdict::Unfinished(ParseError::MissingSlash),
+        None => Scanned::Unfinished(ParseError::MissingSlash),
         Some(first) => scan_after(first, reader),
     }
 }

@@ -21,7 +21,7 @@ mod short;
 mod traits;
 
 use crate::name::{Name, ParamKey};
-use crate::scan::{ByteReader, FromStrError, ParseError, Positions, Verdict, scan};
+use crate::scan::{ByteReader, FromStrError, ParseError, Positions, Scanned, scan};
 use crate::value::kept::{keep, positions_in_kept};
 pub use crate::value::known::KnownText;
 use crate::value::pairs::Pairs;
@@ -122,9 +122,9 @@ impl Mime {
         }
         let mut reader = ByteReader::by_blocks(s);
         let positions = match scan(&mut reader) {
-            Verdict::Accepted(positions) => positions,
-            Verdict::Unfinished(fault) => return Err(FromStrError::new(fault)),
-            Verdict::Stopped(byte) | Verdict::Followed(_, byte) => {
+            Scanned::Accepted(positions) => positions,
+            Scanned::Unfinished(fault) => return Err(FromStrError::new(fault)),
+            Scanned::Stopped(byte) | Scanned::Followed(_, byte) => {
                 let pos = reader.position(0);
                 return Err(FromStrError::new(ParseError::InvalidToken { pos, byte }));
             }

@@ -60,7 +60,7 @@ pub extern "C" fn mime_boundary(
 }
 
 /// Returns `true` if a byte is a backslash that begins a pair, after one or not.
-fn begins_pair(is_paired: bool, byte: u8) -> bool
+fn begins_quoted_pair(is_paired: bool, byte: u8) -> bool
     ensures { result ≡ (not is_paired && byte == backslash_byte) }
 {
     !is_paired && byte == b'\\'
@@ -86,7 +86,7 @@ fn put_unescaped(out: &mut [u8], value: &[u8]) -> usize
     let mut end = 0;
     let mut is_paired = false;
     for (at, &byte) in value.iter().enumerate() {
-        if begins_pair(is_paired, byte) {
+        if begins_quoted_pair(is_paired, byte) {
             is_paired = true;
             continue;
         }

@@ -201,7 +201,7 @@ pub fn may_delimit(bytes: &[u8], part: &[u8]) -> bool
     is_boundary(bytes) && !stand_in(bytes, part)
 }
 
-/// Returns `true` if bytes, which aren't none, stand in a part.
+/// Returns `true` if a part contains these bytes, of which there is at least one.
 fn stand_in(bytes: &[u8], part: &[u8]) -> bool
     ensures stand { IsTrue result → (before after : List ℕ) × (part.now ≡ before ++ (bytes.now ++ after)) }
     ensures none { result ≡ false → bytes.now ≢ [] → (before after : List ℕ) → part.now ≢ before ++ (bytes.now ++ after) }

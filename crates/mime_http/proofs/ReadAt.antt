@@ -2,7 +2,7 @@
 use Rattle.mime_http.proofs.Common.{Bool, InvalidToken, IsClosedAt, IsContent, List, None, ParseError, Some, State, [], IsStringFault, IsToken, Parts, after_semicolon, and_from, and_parts, answer_at, answer_at_end, answer_from, ap, append-nil, append_assoc, ap₂, arith, before_semicolon, before_type, cases_lt, drop, drop-drop, drop_more, drop_of_length-le, drop_split, false, fault_at, flat_map-append, get_or-drop, if◌then◌else◌, in_name, in_ranges, in_string, in_subtype, in_type, in_value, is_quoted_byte, is_quoted_text_byte, is_space, is_token_byte, is_token_value, length, length-drop, length-take-le, nat_tests, list_all, list_all-append, list_all-wider, next, no_byte, not, prefix_len, option_map, prefix_len_stops, quoted_pair, refl, rejected, run_end, slice_index, slice_range, subst, suc, sym, take, take-add, text_byte, text_of_pair, text_of_pairs, text_of_parts, true, unwrap_or, with_parameter, ℕ, ⊎_elim, ◌++◌, ◌+◌, ◌-◌, ◌<◌, ◌∙◌, ◌∷◌, ◌≡◌, ◌≢◌, ◌≤◌}
 use Rattle.std.proofs.lemmas.Bool.{not-true}
 use Rattle.mime_search.specs.Classes.{is_stop}
-use Rattle.mime_http.specs.declared.reader.TheConstants.{COMMON_TOKEN_BYTES, COMMON_TEXT_BYTES}
+use Rattle.mime_http.specs.declared.reader.TheConstants.{TOKEN_STOPS, TEXT_STOPS}
 use Rattle.mime_http.proofs.ReadBack.{content_more}
 use Rattle.mime_http.proofs.Runs.{EndsToken, name_begins, no_way, on_content, on_subtype, on_value, one_byte, subtype_ends, type_begins, value_ends, white_after, white_before, white_inside}
 
@@ -78,14 +78,14 @@ run_goes_on narrow class wider value from to is =
     omega (arith, is, here, wider_run narrow class wider bytes)
 
 -- the bytes that a search passes may stand in a token,
-pub are_token_bytes : (b : ℕ) → not (is_stop COMMON_TOKEN_BYTES b) ≡ true → is_token_byte b ≡ true
+pub are_token_bytes : (b : ℕ) → not (is_stop TOKEN_STOPS b) ≡ true → is_token_byte b ≡ true
 unfolding is_token_byte
-are_token_bytes b go = in_ranges COMMON_TOKEN_BYTES is_token_byte (omega arith) (omega arith) (omega arith) refl b (not-true _ go)
+are_token_bytes b go = in_ranges TOKEN_STOPS is_token_byte (omega arith) (omega arith) (omega arith) refl b (not-true _ go)
 
 -- and in quoted text
-pub are_text_bytes : (b : ℕ) → not (is_stop COMMON_TEXT_BYTES b) ≡ true → is_quoted_text_byte b ≡ true
+pub are_text_bytes : (b : ℕ) → not (is_stop TEXT_STOPS b) ≡ true → is_quoted_text_byte b ≡ true
 unfolding is_quoted_byte
-are_text_bytes b go = in_ranges COMMON_TEXT_BYTES is_quoted_text_byte (omega arith) (omega arith) (omega arith) refl b (not-true _ go)
+are_text_bytes b go = in_ranges TEXT_STOPS is_quoted_text_byte (omega arith) (omega arith) (omega arith) refl b (not-true _ go)
 
 -- bytes of quoted text are content
 pub text_content : (bytes : List ℕ) → list_all is_quoted_text_byte bytes ≡ true → IsContent bytes
@@ -144,11 +144,11 @@ token_ends value to stops =
 
 -- text after a byte of it
 pub text_after : (value : List ℕ) (at to : ℕ) → at < length value → is_quoted_text_byte (slice_index value at) ≡ true
-    → to ≡ run_end (λ b. not (is_stop COMMON_TEXT_BYTES b)) value (at + 1)
+    → to ≡ run_end (λ b. not (is_stop TEXT_STOPS b)) value (at + 1)
     → list_all is_quoted_text_byte (slice_range value at to) ≡ true
 text_after value at to within text is =
-    let run = run_is (λ b. not (is_stop COMMON_TEXT_BYTES b)) value (at + 1) to is in
-    let rest = list_all-wider (λ b. not (is_stop COMMON_TEXT_BYTES b)) is_quoted_text_byte are_text_bytes _ run.all in
+    let run = run_is (λ b. not (is_stop TEXT_STOPS b)) value (at + 1) to is in
+    let rest = list_all-wider (λ b. not (is_stop TEXT_STOPS b)) is_quoted_text_byte are_text_bytes _ run.all in
     ap (list_all is_quoted_text_byte) (parts_joined value at (at + 1) to (omega arith) run.least
     ∙ ap (λ first. first ++ slice_range value (at + 1) to) (one_part value at within))
     ∙ and_from (is_quoted_text_byte (slice_index value at)) _ text rest

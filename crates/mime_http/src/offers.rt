@@ -97,7 +97,7 @@ impl Closest {
         self.at = at;
     }
 
-    /// Returns what it is.
+    /// Returns the most specific range so far, if one covers the offer.
     #[inline(always)]
     fn found(self) -> Option<(u8, usize, u16, usize)>
         ensures { result ≡ self }

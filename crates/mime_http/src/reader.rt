@@ -11,7 +11,7 @@ use mime::{ParseError, is_quoted_byte, is_quoted_text_byte, is_token};
 use mime_search::{Class, Range, copy_bytes, first_stop_far};
 
 /// All but the letters, digits, hyphens and dots, which most bytes of tokens are.
-static COMMON_TOKEN_BYTES: Class = Class {
+static TOKEN_STOPS: Class = Class {
     fold: 0x20,
     folded: Range(b'a', b'z'),
     second: Range(b'0', b'9'),
@@ -20,7 +20,7 @@ static COMMON_TOKEN_BYTES: Class = Class {
 };
 
 /// All but the bytes of quoted text in ASCII, without the tab.
-static COMMON_TEXT_BYTES: Class = Class {
+static TEXT_STOPS: Class = Class {
     fold: 0,
     folded: Range(b'#', b'['),
     second: Range(b']', b'~'),
@@ -54,7 +54,7 @@ fn token_end(value: &[u8], from: usize) -> usize
     while at < value.len() && is_token(value[at]) {
         at += 1;
         if (at - from) % LONG == 0 {
-            at = first_stop_far(value, at, &COMMON_TOKEN_BYTES);
+            at = first_stop_far(value, at, &TOKEN_STOPS);
         }
     }
     at
@@ -93,7 +93,7 @@ fn fault_at(value: &[u8], pos: usize, missing: ParseError) -> ParseError
 }
 
 /// Returns the position after the byte that a backslash at a position pairs, or the fault.
-fn pair_end(value: &[u8], backslash: usize) -> Result<usize, ParseError>
+fn quoted_pair_end(value: &[u8], backslash: usize) -> Result<usize, ParseError>
     requires within { backslash < length value.now }
     requires first { slice_index value.now backslash ≡ backslash_byte }
     ensures { MatchResult result
@@ -119,7 +119,7 @@ fn text_end(value: &[u8], at: usize, from: usize) -> usize
 {
     let end = at + 1;
     if (end - from) % LONG == 0 {
-        return first_stop_far(value, end, &COMMON_TEXT_BYTES);
+        return first_stop_far(value, end, &TEXT_STOPS);
     }
     end
 }
@@ -136,7 +136,7 @@ fn string_end(value: &[u8], from: usize) -> Result<usize, ParseError>
             return Ok(at);
         }
         if byte == b'\\' {
-            at = match pair_end(value, at) {
+            at = match quoted_pair_end(value, at) {
                 Ok(end) => end,
                 Err(fault) => return Err(fault),
             };

@@ -4,4 +4,4 @@ pub mod Masks
 mod Quotes
 pub mod Searches
 pub mod FirstDifference
-pub mod Suffixes
+pub mod Rests

@@ -2,4 +2,4 @@
 pub mod Classes
 pub mod Quoted
 pub mod Differences
-pub mod Suffixes
+pub mod Rests

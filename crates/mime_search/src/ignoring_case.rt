@@ -55,7 +55,7 @@ fn difference_in_block(a: &[u8], b: &[u8]) -> Option<usize>
 /// Returns the first position at which two byte strings of at least a block differ ignoring ASCII case, if they do before one
 /// of them ends. The last block may overlap the one before.
 #[inline(always)]
-pub fn first_difference(a: &[u8], b: &[u8]) -> Option<usize>
+pub fn first_difference_ignoring_case(a: &[u8], b: &[u8]) -> Option<usize>
     requires room { BLOCK ≤ length a.now }
     requires other_room { BLOCK ≤ length b.now }
     ensures some { IfSome result (DifferFirstAt a.now b.now) }
@@ -112,7 +112,7 @@ fn eq_of_one_length(a: &[u8], b: &[u8]) -> bool
     ensures { IsTrue result ↔ (lowered a.now ≡ lowered b.now) }
 {
     if a.len() >= BLOCK {
-        return first_difference(a, b).is_none();
+        return first_difference_ignoring_case(a, b).is_none();
     }
     if a.len() >= 8 {
         return eq_at_both_ends(a, b, 8);

@@ -9,7 +9,7 @@ use crate::search::{first_stop, stops_from};
 
 /// Skips the quoted pair at this position, a backslash and a byte. A backslash that ends the text counts as one.
 #[inline(always)]
-fn after_pair(text: &[u8], from: usize) -> usize
+fn after_quoted_pair(text: &[u8], from: usize) -> usize
     requires within { from < length text.now }
     requires first { slice_index text.now from ≡ backslash }
     ensures more { from < result }
@@ -26,7 +26,7 @@ fn after_pair(text: &[u8], from: usize) -> usize
 /// Skips quoted pairs in a row, a backslash and a byte each, of which the first is at this position. A backslash that
 /// ends the text counts as one.
 #[inline(always)]
-fn after_pairs(text: &[u8], from: usize) -> usize
+fn after_quoted_pairs(text: &[u8], from: usize) -> usize
     requires within { from < length text.now }
     requires first { slice_index text.now from ≡ backslash }
     ensures more { from < result }
@@ -44,14 +44,14 @@ fn after_pairs(text: &[u8], from: usize) -> usize
             last += 2;
         }
     }
-    after_pair(text, last)
+    after_quoted_pair(text, last)
 }
 
 /// Skips the quoted pairs among `size` bytes from a position on, and the bytes between them: up to the first quote that isn't
 /// in a quoted pair, or to the end of these bytes, or of a quoted pair that ends after them. `stops` are the quotes and
 /// backslashes.
 #[inline(always)]
-fn after_pairs_among(text: &[u8], from: usize, size: usize, stops: u64) -> usize
+fn after_quoted_pairs_among(text: &[u8], from: usize, size: usize, stops: u64) -> usize
     requires few { size ≤ BLOCK }
     requires within { from + size ≤ length text.now }
     requires stops { stops ≡ mask_l (map (λ b. b == quote || b == backslash) (take size (drop from text.now))) }
@@ -69,7 +69,7 @@ fn after_pairs_among(text: &[u8], from: usize, size: usize, stops: u64) -> usize
             return stop;
         }
         if stop + 1 >= end {
-            return after_pair(text, stop);
+            return after_quoted_pair(text, stop);
         }
         at = stop + 2;
         left >>= passed + 2;
@@ -90,7 +90,7 @@ fn after_plain(text: &[u8], from: usize) -> usize
     if text.len() >= BLOCK {
         let (size, stops) = stops_from(text, from, &class);
         if stops != 0 {
-            return after_pairs_among(text, from, size, stops);
+            return after_quoted_pairs_among(text, from, size, stops);
         }
         at += size;
     }
@@ -110,7 +110,7 @@ pub fn content_end(text: &[u8], from: usize) -> usize
             return at;
         }
         if text[at] == b'\\' {
-            at = after_pairs(text, at);
+            at = after_quoted_pairs(text, at);
         } else {
             at = after_plain(text, at + 1);
         }

@@ -10,7 +10,7 @@ use Rattle.mime.specs.Inner.Remaining.{Remaining}
 use Rattle.mime.specs.Inner.Scanning.{positions_of, before_list, Judges, ScansList}
 use Rattle.mime.specs.Inner.ComparedText.{StartsWithEssence, positions_before_list}
 use Rattle.mime.specs.declared.scan.Positions.{Positions}
-use Rattle.mime.specs.declared.scan.Verdict.{Verdict}
+use Rattle.mime.specs.declared.scan.Scanned.{Scanned}
 use Rattle.mime.proofs.LowercaseLemmas.{lowered-lowered, last_plus-lowered, IsToken-case}
 use Rattle.mime_search.proofs.IgnoringCase.{length-lowered, lowered-drop}
 use Rattle.mime.proofs.ValueLemmas.KeptText.{length-before_list}
@@ -70,7 +70,7 @@ begun kept text value reads (there, same) =
 -- what the scanner says of the text is what it says of its list
 pub judged-by_list : (kept text : List ℕ) (value : MediaType) → Reads kept value → StartsWithEssence value.essence text
     → (before : Positions) → before ≡ positions_before_list value
-    → (old new : Remaining) (verdict : Verdict) → old.left ≡ drop (length value.essence + 1) text → old.count ≡ length value.essence + 1
+    → (old new : Remaining) (verdict : Scanned) → old.left ≡ drop (length value.essence + 1) text → old.count ≡ length value.essence + 1
     → ScansList before old new verdict → Judges text new.count verdict
 judged-by_list kept text value reads starts before is old new verdict left count scans =
     let head = begun kept text value reads starts in

@@ -19,8 +19,8 @@ use Rattle.mime.specs.Inner.Scanning.{HasPositions, StopsAt, Judges, Scans}
 use Rattle.mime.specs.Inner.BetweenCalls.{IsUnderWay, IsFirstPiece, ReadsPiece}
 use Rattle.mime.specs.declared.scan.fault.ParseError.{ParseError}
 use Rattle.mime.specs.declared.scan.Positions.{Positions}
-use Rattle.mime.specs.declared.scan.Verdict.{Verdict}
-use Rattle.mime.specs.declared.scan.Verdict.TheVariants.{Accepted, Unfinished}
+use Rattle.mime.specs.declared.scan.Scanned.{Scanned}
+use Rattle.mime.specs.declared.scan.Scanned.TheVariants.{Accepted, Unfinished}
 use Rattle.mime.proofs.GrammarLemmas.Characters.{following-low, prefix_ends_between_characters}
 use Rattle.mime.proofs.CutLemmas.Cuts.{empty-rejected, empty-cut, split-size, split-from_dead, cut_unique, takes-split, takes-viable, takes-empty}
 use Rattle.mime.proofs.GrammarLemmas.Begun.{in_type}
@@ -70,7 +70,7 @@ after_character (b ∷ bytes) (suc n) some past border none = (
 -- ---- the first piece of a text
 
 -- what the scanner found in a text that a reader counted on from somewhere
-pub judged-from_scan : (old new : Remaining) (text : List ℕ) (from steps : ℕ) (verdict : Verdict) → Scans old new verdict
+pub judged-from_scan : (old new : Remaining) (text : List ℕ) (from steps : ℕ) (verdict : Scanned) → Scans old new verdict
     → old.left ≡ text → old.count ≡ from → steps ≡ new.count → Judges text (steps - from) verdict
 judged-from_scan old new text from steps verdict scans left begin end = rw (left, begin, sym end) at scans.judged
 

@@ -7,7 +7,7 @@ use Rattle.mime.specs.Bytes.{is_token_byte, equals_byte, quote_byte, semicolon_b
 use Rattle.mime.specs.Values.{last_plus}
 use Rattle.mime.specs.Inner.Remaining.{Remaining}
 use Rattle.mime.specs.declared.scan.Positions.{Positions}
-use Rattle.mime.specs.declared.scan.Verdict.{Verdict}
+use Rattle.mime.specs.declared.scan.Scanned.{Scanned}
 use Rattle.mime.specs.Inner.Scanning.{Given, GivesFirst, Passes, positions_of, before_list, ScansList, Scans, PassesContent}
 use Rattle.mime.proofs.GrammarLemmas.Begun.{in_type, in_subtype, in_list, begun_list, walk-type, walk_from-subtype, ListState, in_spaces, in_name, in_value, in_quotes, after_quotes, BegunList, grow_state, grow_list, close, walk_by-step, walk_list-spaces, walk_list-name, walk_list-value, walk_list-open, walk_list-after_quotes}
 use Rattle.mime.proofs.ScanLemmas.Passing.{given_then, given_whole, given_sum}
@@ -55,7 +55,7 @@ pub essence_is : (slash : ℕ) (plus : Option ℕ) (top others : List ℕ) → s
 essence_is slash plus top others e f = rw (e, f)
 
 -- the answer on the list is the answer on the text
-pub scans_list : {old mid new : Remaining} {top sub : List ℕ} {before : Positions} {verdict : Verdict}
+pub scans_list : {old mid new : Remaining} {top sub : List ℕ} {before : Positions} {verdict : Scanned}
     → Reaches (in_type []) old mid None (in_list top sub begun_list) → before ≡ positions_of (before_list top sub)
     → ScansList before mid new verdict → Scans old new verdict
 scans_list {old} {mid} {top = top} {sub = sub} r e scans =

@@ -8,8 +8,8 @@ use Rattle.mime.specs.Inner.Remaining.{Remaining}
 use Rattle.mime.specs.Inner.Scanning.{Given, positions_of, HasPositions, StopsAt, Judges, before_list, ScansList, Scans}
 use Rattle.mime.specs.declared.scan.Positions.{Positions}
 use Rattle.mime.specs.declared.scan.fault.ParseError.{ParseError}
-use Rattle.mime.specs.declared.scan.Verdict.{Verdict}
-use Rattle.mime.specs.declared.scan.Verdict.TheVariants.{Accepted, Unfinished, Stopped, Followed}
+use Rattle.mime.specs.declared.scan.Scanned.{Scanned}
+use Rattle.mime.specs.declared.scan.Scanned.TheVariants.{Accepted, Unfinished, Stopped, Followed}
 use Rattle.mime.proofs.GrammarLemmas.Begun.{Begun, in_type, in_list, BegunList, begun_list, grow, grow_list, walk, walk_from, walk_list, with_closed, list_at_end, tree_of, lacking, lacking_list, walk_by-append_some, walk_from-in_list}
 use Rattle.mime.proofs.ScanLemmas.Passing.{given_then, given_whole}
 use Rattle.mime.proofs.GrammarLemmas.Readings.{accepted-from_walk, rejected-from_walk, walk-head}
@@ -60,7 +60,7 @@ list_byte r e = λ top sub. reaches_byte (r top sub) (ap (option_map (in_list to
 -- ---- a text that ends at a begun tree
 
 -- the verdict at a byte that can't follow, or at the end
-abbrev verdict_at : Option ℕ → Option Positions → ParseError → Verdict
+abbrev verdict_at : Option ℕ → Option Positions → ParseError → Scanned
 verdict_at None None fault = Unfinished fault
 verdict_at None (Some positions) fault = Accepted positions
 verdict_at (Some b) None fault = Stopped b

@@ -16,7 +16,7 @@ use Rattle.mime.specs.Values.{MediaType, lowered, lowered_parameter, lowered_lis
 use Rattle.mime.specs.HashLaws.{IsReadInUtf8, IsPrefixFree}
 use Rattle.mime.proofs.BytesLemmas.{list_all-parts, list_all-wider, is_other, AreTokenBytes-from_token, are_other-token}
 use Rattle.mime.proofs.LowercaseLemmas.{IsToken-lowered, list_all-lowered, lowered_value-either}
-use Rattle.mime_search.specs.Suffixes.{before_byte, after_byte}
+use Rattle.mime_search.specs.Rests.{before_byte, after_byte}
 use Rattle.mime.proofs.ValueLemmas.ListText.{ended, before_byte-run, after_byte-run}
 use Rattle.std.proofs.lemmas.Bool.{cases_lt}
 use Rattle.std.proofs.lemmas.Str.{encode_ascii}

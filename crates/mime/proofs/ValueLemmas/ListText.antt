@@ -10,7 +10,7 @@ use Rattle.mime.specs.Bytes.{is_token_byte, semicolon_byte, equals_byte, quote_b
 use Rattle.mime.specs.Grammar.{Parameter, plain, quoted, Parameters, blank, final, more, text_of_list, text_of_parameter, is_space, AreSpaces, AreTokenBytes, IsToken, IsContent, AreParameters, IsParameter}
 use Rattle.mime.specs.Values.{lowered, lowered_value, lowered_parameter, lowered_list, pair_of, pairs_of_list}
 use Rattle.mime.specs.Inner.Quoted.{content_len, content_of, after_content}
-use Rattle.mime_search.specs.Suffixes.{before_byte, after_byte}
+use Rattle.mime_search.specs.Rests.{before_byte, after_byte}
 use Rattle.mime.specs.Inner.Pairs.{PairCut, cut_after_equals, leading_spaces, without_spaces, cut_of, pairs_within, lowered_within}
 use Rattle.mime.proofs.ValueLemmas.Pairs.{content_len-content, lowered_within-first}
 use Rattle.mime.proofs.BytesLemmas.{semicolon_is_no_token, equals_is_no_token, quote_is_no_token, token_byte-not, token_byte-not_space, is_other, are_other-token, are_other, AreTokenBytes-from_token}

@@ -12,7 +12,7 @@ use Rattle.std.proofs.lemmas.List.{take_at, drop_at, drop-drop, take-append-drop
 use Rattle.std.proofs.lemmas.Bool.{and_parts, cases_Bool, cases_lt, cond-false, eqb-true, true≢false, cond_both}
 use Rattle.mime.specs.Bytes.{quote_byte, backslash_byte, equals_byte}
 use Rattle.mime.specs.Grammar.{IsContent, is_space}
-use Rattle.mime_search.specs.Suffixes.{first_position, before_byte, after_byte}
+use Rattle.mime_search.specs.Rests.{first_position, before_byte, after_byte}
 use Rattle.mime.specs.Inner.Quoted.{awaits_next, takes, takes_all, awaits_after, len_from, content_len}
 use Rattle.mime.proofs.GrammarLemmas.Content.{taken-closes_not, content-taken, content-awaits}
 use Rattle.mime.specs.Values.{lowered, lowered_value}

@@ -14,7 +14,7 @@ use Rattle.mime.proofs.ValueLemmas.KeptText.{media_of-kept}
 use Rattle.std.specs.List.{AllByRecursion}
 use Rattle.std.specs.Str.{IsCharBoundary, bytes_eq}
 use Rattle.std.proofs.lemmas.Str.{IsCharBoundary-end}
-use Rattle.mime_search.specs.Suffixes.{before_byte, after_byte}
+use Rattle.mime_search.specs.Rests.{before_byte, after_byte}
 use Rattle.mime.specs.Inner.Pairs.{PairCut, cut_of, cut_after_equals, without_spaces, pairs_within}
 use Rattle.mime.specs.Items.{items_of, IsLowItem, IsLowIf, IsFirstAccepted}
 use Rattle.mime.proofs.ValueLemmas.Pairs.{pairs_within-first, cut_of-part, cut_of-name, found-first}

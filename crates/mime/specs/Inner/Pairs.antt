@@ -2,7 +2,7 @@
 use Rattle.std.specs.Prelude.{ℕ, zero, suc, Bool, ◌+◌, ◌-◌, List, [], ◌∷◌, ◌++◌, length, take, drop, Option, None, Some, if◌then◌else◌, ◌==◌}
 use Rattle.std.specs.Borrow.{Bor}
 use Rattle.std.specs.List.{prefix_len, list_any}
-use Rattle.mime_search.specs.Suffixes.{before_byte, after_byte}
+use Rattle.mime_search.specs.Rests.{before_byte, after_byte}
 use Rattle.mime.specs.Bytes.{semicolon_byte, equals_byte, quote_byte}
 use Rattle.mime.specs.Grammar.{is_space}
 use Rattle.mime.specs.Inner.Quoted.{content_of, after_content}

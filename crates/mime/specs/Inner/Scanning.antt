@@ -7,8 +7,8 @@ use Rattle.mime.specs.Grammar.{blank, Tail, no_list, listed, SyntaxTree, text_of
 use Rattle.mime.specs.Values.{last_plus, pairs_of_tail, IsRejected}
 use Rattle.mime.specs.Faults.{IsViable, IsDeadAt, IsFault}
 use Rattle.mime.specs.declared.scan.Positions.{Positions}
-use Rattle.mime.specs.declared.scan.Verdict.{Verdict}
-use Rattle.mime.specs.declared.scan.Verdict.TheVariants.{Accepted, Unfinished, Stopped, Followed}
+use Rattle.mime.specs.declared.scan.Scanned.{Scanned}
+use Rattle.mime.specs.declared.scan.Scanned.TheVariants.{Accepted, Unfinished, Stopped, Followed}
 use Rattle.mime.specs.Inner.Remaining.{Remaining}
 use Rattle.mime.specs.Inner.Quoted.{IsOpenContent, continues}
 
@@ -64,19 +64,19 @@ StopsAt text count byte positions = (0 < count) × IsDeadAt text (count - 1) byt
     × MatchOption positions (IsRejected (take (count - 1) text)) (λ p. HasPositions (take (count - 1) text) p)
 
 -- what the scanner finds in a text, after it was given `count` bytes
-abbrev pub Judges : List ℕ → ℕ → Verdict → Type 0
+abbrev pub Judges : List ℕ → ℕ → Scanned → Type 0
 Judges text count (Accepted positions) = (count ≡ length text) × HasPositions text positions
 Judges text count (Unfinished fault) = (count ≡ length text) × IsFault text fault × IsViable text
 Judges text count (Stopped byte) = StopsAt text count byte None
 Judges text count (Followed positions byte) = StopsAt text count byte (Some positions)
 
 -- the scanner's answer, with the bytes that it took
-pub record Scans (old new : Remaining) (verdict : Verdict) : Type 0 where
+pub record Scans (old new : Remaining) (verdict : Scanned) : Type 0 where
   pub counted : old.count ≤ new.count
   pub judged : Judges old.left (new.count - old.count) verdict
 
 -- the scanner's answer on what a reader gave from this first byte on
-abbrev pub ScansAfter : ℕ → Remaining → Remaining → Verdict → Type 0
+abbrev pub ScansAfter : ℕ → Remaining → Remaining → Scanned → Type 0
 ScansAfter first old new verdict = (start : Remaining) → GivesFirst start old (Some first) → Scans start new verdict
 
 -- quoted content was passed, and the byte that ends it
@@ -96,7 +96,7 @@ abbrev pub before_list : List ℕ → List ℕ → SyntaxTree
 before_list top sub = record { top = top; sub = sub; tail = listed (blank []) }
 
 -- the scanner's answer on a parameter list is its answer on each text that the list ends
-abbrev pub ScansList : Positions → Remaining → Remaining → Verdict → Type 0
+abbrev pub ScansList : Positions → Remaining → Remaining → Scanned → Type 0
 ScansList before old new verdict =
     (start : Remaining) (top sub : List ℕ) → IsToken top → IsToken sub → before ≡ positions_of (before_list top sub)
     → Given start old (text_of (before_list top sub)) None → Scans start new verdict

@@ -8,7 +8,7 @@ ghost use Rattle.mime.specs.Inner.Scanning.{GivesFirst, Passing, Reaches};
 ghost use Rattle.mime_search.specs.Classes.{is_stop};
 
 use crate::bytes::{is_in_token, is_token};
-use crate::scan::runs::{COMMON_TOKEN_BYTES, QUOTED_TEXT};
+use crate::scan::runs::{TOKEN_STOPS, QUOTED_TEXT_STOPS};
 use mime_search::{BLOCK, Class, WINDOW, first_stop_far, stops_at_start, stops_in_window};
 use std::marker::Model;
 
@@ -123,7 +123,7 @@ impl<'a> ByteReader<'a> {
         ensures count { result.count ≡ 0 }
     {
         let text = text.as_bytes();
-        let (known, stops) = stops_at_start(text, &COMMON_TOKEN_BYTES);
+        let (known, stops) = stops_at_start(text, &TOKEN_STOPS);
         ByteReader {
             text,
             at: 0,
@@ -218,7 +218,7 @@ impl<'a> ByteReader<'a> {
         let stops = self.stops >> self.at;
         if stops == 0 {
             self.at = self.known;
-            self.skip_blocks(&COMMON_TOKEN_BYTES);
+            self.skip_blocks(&TOKEN_STOPS);
             return None;
         }
         let stop = self.at + stops.trailing_zeros() as usize;
@@ -249,7 +249,7 @@ impl<'a> ByteReader<'a> {
     {
         if self.known == BLOCK && self.known < self.text.len() && self.may_go_on() {
             let window = &self.text[..self.text.len().min(WINDOW)];
-            self.stops = stops_in_window(window, self.stops, &COMMON_TOKEN_BYTES);
+            self.stops = stops_in_window(window, self.stops, &TOKEN_STOPS);
             self.known = window.len();
         }
     }
@@ -260,7 +260,7 @@ impl<'a> ByteReader<'a> {
         ensures { Passing is_quoted_text_byte self.old self.new }
     {
         if self.at < self.known && self.text[self.at] != b'"' {
-            self.skip_blocks(&QUOTED_TEXT);
+            self.skip_blocks(&QUOTED_TEXT_STOPS);
         }
     }
 

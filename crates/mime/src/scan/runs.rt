@@ -3,7 +3,7 @@
 use mime_search::{Class, Range};
 
 /// All bytes except those that tokens mostly have: letters, digits, hyphens and dots.
-pub(crate) static COMMON_TOKEN_BYTES: Class = Class {
+pub(crate) static TOKEN_STOPS: Class = Class {
     fold: 0x20,
     folded: Range(b'a', b'z'),
     second: Range(b'0', b'9'),
@@ -12,7 +12,7 @@ pub(crate) static COMMON_TOKEN_BYTES: Class = Class {
 };
 
 /// All bytes except those of quoted text in ASCII; but the tab, too.
-pub(crate) static QUOTED_TEXT: Class = Class {
+pub(crate) static QUOTED_TEXT_STOPS: Class = Class {
     fold: 0,
     folded: Range(b'#', b'['),
     second: Range(b']', b'~'),

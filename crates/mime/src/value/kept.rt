@@ -9,7 +9,7 @@ ghost use Rattle.mime.specs.Inner.KeptText.{with_pairs_lowered, kept_positions, 
 use crate::name::constants::CHARSET;
 use crate::scan::Positions;
 use crate::value::pairs::cut;
-use mime_search::{BLOCK, Suffix, eq_ignore_ascii_case};
+use mime_search::{BLOCK, Rest, eq_ignore_ascii_case};
 use std::alloc::{AllocError, Global};
 
 /// Returns `true` if there is an ASCII capital among bytes.
@@ -75,7 +75,7 @@ pub(crate) fn lowercase_text(bytes: &mut [u8], text: &str, semicolon: usize, cou
     requires some { 0 < count }
     ensures { bytes.new ≡ with_pairs_lowered count semicolon text.now }
 {
-    let mut left = Suffix::of(text, semicolon + 1);
+    let mut left = Rest::of(text, semicolon + 1);
     let mut from = 0;
     for _ in 0..count {
         let start = bytes.len() - left.len();

@@ -4,7 +4,7 @@ ghost use Rattle.std.specs.Iterator.{YieldsFirstBy, item_count, UpTo, at_most};
 ghost use Rattle.std.specs.Iterator.SizeHint.{IsWithinCount};
 ghost use Rattle.std.specs.Prelude.{ℕ, List, ◌≡◌, ◌≢◌, ◌↔◌, ◌<◌, ◌≤◌, ◌+◌, true, false, IsTrue, length, take, drop, slice_get, IfSome, Some, None, option_map};
 ghost use Rattle.std.specs.Str.{IsCharBoundary};
-ghost use Rattle.mime_search.specs.Suffixes.{before_byte, after_byte, first_position};
+ghost use Rattle.mime_search.specs.Rests.{before_byte, after_byte, first_position};
 ghost use Rattle.mime.specs.Inner.Pairs.{cut_of, leading_spaces, without_spaces, cut_after_equals, has_equals, pairs_after, pair_seen};
 ghost use Rattle.mime.specs.Bytes.{quote_byte, semicolon_byte, equals_byte};
 ghost use Rattle.mime.specs.Inner.ComparedText.{IsLoneCharset};
@@ -14,7 +14,7 @@ ghost use Rattle.mime.specs.Items.{items_of, name_seen, IsLowIf, IsFirstAccepted
 
 use crate::name::constants::CHARSET;
 use crate::name::{Name, ParamKey};
-use mime_search::{Class, Suffix, content_end, first_stop};
+use mime_search::{Class, Rest, content_end, first_stop};
 use std::marker::Model;
 
 /// The first pair of a list, and the list after its semicolon.
@@ -25,14 +25,14 @@ pub(crate) struct Pair<'a> {
     pub(crate) value_start: usize,
     /// The value without its quotes.
     pub(crate) value: &'a str,
-    pub(crate) rest: Suffix<'a>,
+    pub(crate) rest: Rest<'a>,
 }
 
 /// Returns the length in bytes of a quoted string's content, whose first quote doesn't end it. It isn't inlined: few
 /// values have a backslash before their first quote.
 #[cold]
 #[inline(never)]
-fn content_len_past_pairs(text: &[u8]) -> usize
+fn content_len_past_quoted_pairs(text: &[u8]) -> usize
     ensures { result ≡ content_len text.now }
 {
     content_end(text, 0)
@@ -49,7 +49,7 @@ fn content_len(text: &[u8], quote: usize) -> usize
         // No backslash precedes it, so nothing pairs it.
         return quote;
     }
-    content_len_past_pairs(text)
+    content_len_past_quoted_pairs(text)
 }
 
 /// Returns the number of spaces and tabs with which a byte string begins, counted by blocks. It isn't inlined: few lists begin
@@ -79,9 +79,9 @@ fn leading_spaces(list: &str) -> usize
     count_spaces(bytes)
 }
 
-/// Returns what follows the first semicolon, or an empty suffix. Most suffixes begin with it, or are empty.
+/// Returns what follows the first semicolon, or an empty rest. Most rests begin with it, or are empty.
 #[inline(always)]
-fn after_semicolon<'a>(end: Suffix<'a>) -> Suffix<'a>
+fn after_semicolon<'a>(end: Rest<'a>) -> Rest<'a>
     ensures { result ≡ after_byte semicolon_byte end.entry }
 {
     if end.len() == 0 {
@@ -95,7 +95,7 @@ fn after_semicolon<'a>(end: Suffix<'a>) -> Suffix<'a>
 
 /// Cuts a quoted string at the quote that closes it: returns the content, and what follows that quote.
 #[inline(always)]
-fn cut_content<'a>(text: &Suffix<'a>) -> (&'a str, Suffix<'a>)
+fn cut_content<'a>(text: &Rest<'a>) -> (&'a str, Rest<'a>)
     ensures content { result.0.now ≡ content_of text.now }
     ensures after { result.1 ≡ after_content text.now }
 {
@@ -105,7 +105,7 @@ fn cut_content<'a>(text: &Suffix<'a>) -> (&'a str, Suffix<'a>)
 
 /// Returns the quoted or plain value that follows a name's equals sign. What follows the value isn't searched.
 #[inline(always)]
-fn value_after<'a>(end: &Suffix<'a>) -> &'a str
+fn value_after<'a>(end: &Rest<'a>) -> &'a str
     ensures { (list : ℕ) → (name : List ℕ) → result.now ≡ (cut_after_equals list name end.now).value }
 {
     if end.begins_with(b'"') {
@@ -117,7 +117,7 @@ fn value_after<'a>(end: &Suffix<'a>) -> &'a str
 /// Returns the pair of a name, with the quoted or plain value that follows its equals sign. `list` is the list's length in
 /// bytes.
 #[inline(always)]
-fn cut_value<'a>(list: usize, name: &'a str, end: &Suffix<'a>) -> Pair<'a>
+fn cut_value<'a>(list: usize, name: &'a str, end: &Rest<'a>) -> Pair<'a>
     requires { length end.now ≤ list }
     ensures name { result.name.now ≡ (cut_after_equals list name.entry.now end.now).name }
     ensures value_start { result.value_start ≡ (cut_after_equals list name.entry.now end.now).value_start }
@@ -145,7 +145,7 @@ fn cut_value<'a>(list: usize, name: &'a str, end: &Suffix<'a>) -> Pair<'a>
 
 /// Returns a list without the spaces with which it begins.
 #[inline(always)]
-fn without_spaces<'a>(list: &Suffix<'a>) -> Suffix<'a>
+fn without_spaces<'a>(list: &Rest<'a>) -> Rest<'a>
     ensures { result ≡ without_spaces list.now }
 {
     list.after(leading_spaces(list.text()))
@@ -153,7 +153,7 @@ fn without_spaces<'a>(list: &Suffix<'a>) -> Suffix<'a>
 
 /// Cuts the first name off a list, with the spaces before it: returns the name, and what follows its equals sign.
 #[inline(always)]
-fn cut_name<'a>(list: &Suffix<'a>) -> (&'a str, Suffix<'a>)
+fn cut_name<'a>(list: &Rest<'a>) -> (&'a str, Rest<'a>)
     ensures name { result.0.now ≡ before_byte equals_byte (without_spaces list.now) }
     ensures rest { result.1 ≡ after_byte equals_byte (without_spaces list.now) }
 {
@@ -163,7 +163,7 @@ fn cut_name<'a>(list: &Suffix<'a>) -> (&'a str, Suffix<'a>)
 /// Cuts a name of `size` bytes off a list that begins with it, if an equals sign follows so many bytes, or the list ends there. The
 /// name may have an equals sign itself.
 #[inline(always)]
-fn cut_name_of_size<'a>(list: &Suffix<'a>, size: usize) -> Option<(&'a str, Suffix<'a>)>
+fn cut_name_of_size<'a>(list: &Rest<'a>, size: usize) -> Option<(&'a str, Rest<'a>)>
     ensures other { result ≡ None → first_position equals_byte list.now ≢ size }
     ensures least { IfSome result (λ cut. first_position equals_byte list.now ≤ size) }
     ensures name { IfSome result (λ cut. cut.0.now ≡ take size list.now) }
@@ -183,7 +183,7 @@ fn cut_name_of_size<'a>(list: &Suffix<'a>, size: usize) -> Option<(&'a str, Suff
 /// Cuts the first pair off a list.
 #[tactic(auto, unfolding(crate::specs::Inner::Pairs::cut_of))]
 #[inline(always)]
-pub(crate) fn cut<'a>(list: &Suffix<'a>) -> Pair<'a>
+pub(crate) fn cut<'a>(list: &Rest<'a>) -> Pair<'a>
     ensures name { result.name.now ≡ (cut_of list.now).name }
     ensures value_start { result.value_start ≡ (cut_of list.now).value_start }
     ensures value { result.value.now ≡ (cut_of list.now).value }
@@ -220,7 +220,7 @@ fn has_equals(bytes: &[u8]) -> bool
 #[derive(Drop)]
 struct FirstName<'a> {
     name: &'a str,
-    end: Suffix<'a>,
+    end: Rest<'a>,
     /// Whether the key for which it was cut accepts it.
     is_accepted: bool,
 }
@@ -228,7 +228,7 @@ struct FirstName<'a> {
 /// Cuts the first name off a list for a key, with the spaces before it. If it is the only name and the key has a text, no equals sign
 /// is searched: a name of that length is expected, and the result is `None` if the key doesn't accept the name.
 #[inline(always)]
-fn cut_name_for<'a, K: ParamKey>(list: &Suffix<'a>, is_only: bool, key: &K) -> Option<FirstName<'a>>
+fn cut_name_for<'a, K: ParamKey>(list: &Rest<'a>, is_only: bool, key: &K) -> Option<FirstName<'a>>
     ensures other { result ≡ None → IsTrue is_only × ¬ (K.Accepts key.now (cut_of list.now).name true) }
     ensures name { IfSome result (λ first. first.name.now ≡ before_byte equals_byte (without_spaces list.now)) }
     ensures end { IfSome result (λ first. first.end ≡ after_byte equals_byte (without_spaces list.now)) }
@@ -262,7 +262,7 @@ fn cut_name_for<'a, K: ParamKey>(list: &Suffix<'a>, is_only: bool, key: &K) -> O
 #[derive(Drop)]
 pub(crate) struct Pairs<'a> {
     /// The list from the next pair on.
-    list: Suffix<'a>,
+    list: Rest<'a>,
     /// The number of pairs left.
     left: usize,
 }
@@ -285,11 +285,11 @@ impl<'a> Pairs<'a> {
     {
         match semicolon {
             None => Pairs {
-                list: Suffix::of(text, text.len()),
+                list: Rest::of(text, text.len()),
                 left: 0,
             },
             Some(at) => Pairs {
-                list: Suffix::of(text, at + 1),
+                list: Rest::of(text, at + 1),
                 left: count,
             },
         }

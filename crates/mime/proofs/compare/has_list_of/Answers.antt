@@ -4,8 +4,8 @@ use Rattle.mime.specs.Bytes.{semicolon_byte}
 use Rattle.mime.specs.Values.{IsRejected}
 use Rattle.mime.specs.Inner.Scanning.{Judges}
 use Rattle.mime.specs.declared.scan.Positions.{Positions}
-use Rattle.mime.specs.declared.scan.Verdict.{Verdict}
-use Rattle.mime.specs.declared.scan.Verdict.TheVariants.{Accepted, Unfinished, Stopped, Followed}
+use Rattle.mime.specs.declared.scan.Scanned.{Scanned}
+use Rattle.mime.specs.declared.scan.Scanned.TheVariants.{Accepted, Unfinished, Stopped, Followed}
 use Rattle.mime.proofs.BytesLemmas.{boundary_after}
 use Rattle.mime.proofs.ValueLemmas.Reading.{accepted-from_positions, one_positions, rejected-from_fault}
 use Rattle.mime.proofs.GrammarLemmas.Viability.{rejected-at_dead}
@@ -13,7 +13,7 @@ use Rattle.mime.proofs.CompareLemmas.Essences.{judged-by_list}
 use Rattle.mime.proofs.compare.has_list_of.Goals as goal
 
 -- a text that isn't judged to be accepted is rejected
-rejected-not_accepted : (text : List ℕ) (count : ℕ) (verdict : Verdict) → Judges text count verdict
+rejected-not_accepted : (text : List ℕ) (count : ℕ) (verdict : Scanned) → Judges text count verdict
     → ((positions : Positions) → verdict ≢ Accepted positions) → IsRejected text
 rejected-not_accepted text count (Accepted positions) judged other = absurd (other positions refl)
 rejected-not_accepted text count (Unfinished fault) judged other = rejected-from_fault _ _ judged.1

@@ -4,5 +4,5 @@ use Rattle.mime_search.proofs.ignoring_case.eq_of_one_length.Goals as goal
 
 pub returns-then-a-ge-BLOCK : goal.returns-then-a-ge-BLOCK
 returns-then-a-ge-BLOCK c =
-    none_found c.args.a.now c.args.b.now c.first_difference.result c.is_none.result c.is_none.ensures c.requires.same_length
-    c.first_difference.ensures.some c.first_difference.ensures.none
+    none_found c.args.a.now c.args.b.now c.first_difference_ignoring_case.result c.is_none.result c.is_none.ensures c.requires.same_length
+    c.first_difference_ignoring_case.ensures.some c.first_difference_ignoring_case.ensures.none

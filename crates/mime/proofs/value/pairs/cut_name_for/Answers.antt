@@ -1,7 +1,7 @@
 -- A name that is the key's text but for case is as long as that text: it is the name that was cut.
 use Rattle.std.proofs.Common.{◌≡◌, ℕ, ◌+◌, ◌≤◌, false, List, ◌∙◌, true, sym, ap, subst, true≢false, take, drop, length}
 use Rattle.mime.specs.Bytes.{equals_byte}
-use Rattle.mime_search.specs.Suffixes.{before_byte, after_byte, first_position}
+use Rattle.mime_search.specs.Rests.{before_byte, after_byte, first_position}
 use Rattle.mime.specs.Inner.Pairs.{has_equals}
 use Rattle.mime.proofs.ValueLemmas.Pairs.{cut_of-name, first_equals-named, has_equals-named, first_equals-taken}
 use Rattle.mime.specs.Values.{lowered}

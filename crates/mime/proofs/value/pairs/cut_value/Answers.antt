@@ -2,7 +2,7 @@
 use Rattle.std.proofs.Common.{rules, refl, ◌≡◌, ◌-◌, ℕ, List, [], ◌∷◌, length, get_or, drop, arith}
 use Rattle.std.proofs.lemmas.Option.{get_or_from_slice_get}
 use Rattle.mime.specs.Bytes.{quote_byte, semicolon_byte}
-use Rattle.mime_search.specs.Suffixes.{after_byte}
+use Rattle.mime_search.specs.Rests.{after_byte}
 use Rattle.mime.specs.Inner.Pairs.{cut_after_equals}
 use Rattle.mime.specs.Inner.Quoted.{content_of, after_content}
 use Rattle.mime.proofs.value.pairs.cut_value.Goals as goal

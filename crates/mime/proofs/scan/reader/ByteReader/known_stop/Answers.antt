@@ -3,7 +3,7 @@ use Rattle.std.proofs.Common.{◌+◌, ◌/◌, ◌^◌, not, get_or, Some, subs
 use lib.Count.{count_trailing_zeros}
 use Rattle.mime_search.specs.Classes.{is_stop}
 use Rattle.mime.specs.Inner.Scanning.{Passing, Reaches}
-use Rattle.mime.specs.declared.scan.runs.TheConstants.{COMMON_TOKEN_BYTES}
+use Rattle.mime.specs.declared.scan.runs.TheConstants.{TOKEN_STOPS}
 use Rattle.mime.proofs.StopsLemmas.{are_token_bytes}
 use Rattle.mime_search.proofs.Masks.{known-none, known-few, known-some}
 use Rattle.mime.proofs.ScanLemmas.Passing.{reader_at, passing_skip, reaches_then, reaches_skip, reaches_wider}
@@ -15,13 +15,13 @@ bounds-self-inside-stop c =
     omega (
       arith,
       keeps.there,
-      known-few (is_stop COMMON_TOKEN_BYTES) _ _ _ _ keeps.mask keeps.there keeps.few c.if-self.false c.if-stops-eq0.false,
+      known-few (is_stop TOKEN_STOPS) _ _ _ _ keeps.mask keeps.there keeps.few c.if-self.false c.if-stops-eq0.false,
     )
 
 pub invariant_of-self-2 : goal.invariant_of-self-2
 invariant_of-self-2 c =
     let keeps = c.self.invariant in
-    let near = known-few (is_stop COMMON_TOKEN_BYTES) _ _ _ _ keeps.mask keeps.there keeps.few c.if-self.false c.if-stops-eq0.false in
+    let near = known-few (is_stop TOKEN_STOPS) _ _ _ _ keeps.mask keeps.there keeps.few c.if-self.false c.if-stops-eq0.false in
     record {
       within = omega (arith, keeps.there, near);
       fits = keeps.fits;
@@ -36,11 +36,11 @@ returns c =
     let keeps = c.self.invariant in
     let text = inside.text.now in
     let stop = inside.at + count_trailing_zeros 64 (inside.stops / 2 ^ inside.at) in
-    let near = known-few (is_stop COMMON_TOKEN_BYTES) _ _ _ _ keeps.mask keeps.there keeps.few c.if-self.false c.if-stops-eq0.false in
-    let first = known-some (is_stop COMMON_TOKEN_BYTES) text _ _ _ keeps.mask keeps.there keeps.few c.if-self.false c.if-stops-eq0.false in
+    let near = known-few (is_stop TOKEN_STOPS) _ _ _ _ keeps.mask keeps.there keeps.few c.if-self.false c.if-stops-eq0.false in
+    let first = known-some (is_stop TOKEN_STOPS) text _ _ _ keeps.mask keeps.there keeps.few c.if-self.false c.if-stops-eq0.false in
     reaches_wider are_token_bytes
     (subst
-    (λ old. Reaches (λ b. not (is_stop COMMON_TOKEN_BYTES b)) old (reader_at text (stop + 1) inside.before) (Some (get_or text stop 0)))
+    (λ old. Reaches (λ b. not (is_stop TOKEN_STOPS b)) old (reader_at text (stop + 1) inside.before) (Some (get_or text stop 0)))
     c.self.view_is
     (reaches_skip _ text inside.at stop inside.before (omega (arith, near, keeps.there)) (omega arith) (omega (arith, first))))
 
@@ -49,9 +49,9 @@ returns-then-stops-eq0 c =
     let inside = c.self.inside in
     let keeps = c.self.invariant in
     let text = inside.text.now in
-    let all = known-none (is_stop COMMON_TOKEN_BYTES) text _ _ _ keeps.mask keeps.there keeps.few c.if-self.false c.if-stops-eq0.true in
+    let all = known-none (is_stop TOKEN_STOPS) text _ _ _ keeps.mask keeps.there keeps.few c.if-self.false c.if-stops-eq0.true in
     reaches_wider are_token_bytes
     (reaches_then
-    (subst (λ old. Passing (λ b. not (is_stop COMMON_TOKEN_BYTES b)) old (reader_at text inside.known inside.before)) c.self.view_is
+    (subst (λ old. Passing (λ b. not (is_stop TOKEN_STOPS b)) old (reader_at text inside.known inside.before)) c.self.view_is
     (passing_skip _ text inside.at inside.known inside.before keeps.within (omega (arith, c.if-self.false)) all))
     c.skip_blocks.ensures)

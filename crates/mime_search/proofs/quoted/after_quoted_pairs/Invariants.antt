@@ -1,7 +1,7 @@
 -- A pair is at the position, and what is left ends where it did.
 use Rattle.std.proofs.Common.{◌≡◌, ◌≤◌, ◌<◌, ◌+◌, ◌-◌, false, length, drop, get_or}
 use Rattle.mime_search.specs.Quoted.{backslash, len_from}
-use Rattle.mime_search.proofs.quoted.after_pairs.Given as goal
+use Rattle.mime_search.proofs.quoted.after_quoted_pairs.Given as goal
 
 abbrev pub invariant-loop-last : goal.invariant-loop-last
 invariant-loop-last l = record {

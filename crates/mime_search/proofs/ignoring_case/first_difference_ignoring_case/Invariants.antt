@@ -1,7 +1,7 @@
 -- The blocks so far are equal ignoring ASCII case.
 use Rattle.std.proofs.Common.{◌≡◌, ◌+◌, ◌-◌, ◌<◌, take}
 use Rattle.mime_search.specs.Differences.{lowered}
-use Rattle.mime_search.proofs.ignoring_case.first_difference.Given as goal
+use Rattle.mime_search.proofs.ignoring_case.first_difference_ignoring_case.Given as goal
 
 abbrev pub invariant-loop-from : goal.invariant-loop-from
 invariant-loop-from l = record {

@@ -3,7 +3,7 @@ use Rattle.std.proofs.Common.{◌≡◌, ◌≤◌, ◌+◌, ◌-◌, false, map
 use Rattle.std.specs.Prelude.{◌==◌, ◌||◌}
 use Rattle.std.specs.Simd.Lanes.{mask_l}
 use Rattle.mime_search.specs.Quoted.{quote, backslash, len_from}
-use Rattle.mime_search.proofs.quoted.after_pairs_among.Given as goal
+use Rattle.mime_search.proofs.quoted.after_quoted_pairs_among.Given as goal
 
 abbrev pub invariant-loop-left : goal.invariant-loop-left
 invariant-loop-left l = record {

@@ -1,8 +1,8 @@
-//! The search for a byte in a suffix of a string, a block of bytes at a time.
+//! The search for a byte in the rest of a string, a block of bytes at a time.
 
 ghost use Rattle.std.specs.Prelude.{◌≡◌, ◌+◌, ◌<◌, ◌≤◌, ◌↔◌, IsTrue, Some, length, take, drop, slice_index, slice_get};
 ghost use Rattle.std.specs.Str.{IsCharBoundary};
-ghost use Rattle.mime_search.specs.Suffixes.{first_position, before_byte, after_byte};
+ghost use Rattle.mime_search.specs.Rests.{first_position, before_byte, after_byte};
 
 use crate::class::{BLOCK, Class};
 use crate::search::{first_stop, first_stop_at_end, stops_in_block};
@@ -35,39 +35,39 @@ fn position_by_one(text: &[u8], byte: u8) -> usize
     position
 }
 
-/// A suffix of a string, together with the string: if the suffix is shorter than a block, the string's last block is
+/// The rest of a string, together with the string: if the rest is shorter than a block, the string's last block is
 /// searched instead, without a loop.
 #[derive(Drop)]
-pub struct Suffix<'a> {
+pub struct Rest<'a> {
     whole: &'a str,
     text: &'a str,
 }
 
-impl<'a> Model for Suffix<'a> {
+impl<'a> Model for Rest<'a> {
     ghost use Rattle.std.specs.Prelude.{List, ℕ};
-    ghost use Rattle.mime_search.specs.Suffixes.{IsSuffixOf};
+    ghost use Rattle.mime_search.specs.Rests.{IsRestOf};
 
     ghost Value = { List ℕ };
 
     ghost view = { λ end. end.text.now };
 
-    ghost invariant = { λ end. IsSuffixOf end.text.now end.whole.now };
+    ghost invariant = { λ end. IsRestOf end.text.now end.whole.now };
 }
 
-impl<'a> Suffix<'a> {
-    /// Returns the suffix of a string from this position on.
+impl<'a> Rest<'a> {
+    /// Returns the rest of a string from this position on.
     #[inline(always)]
-    pub fn of(whole: &'a str, from: usize) -> Suffix<'a>
+    pub fn of(whole: &'a str, from: usize) -> Rest<'a>
         requires { IsCharBoundary whole.now from }
         ensures { result ≡ drop from whole.entry.now }
     {
-        Suffix {
+        Rest {
             whole,
             text: &whole[from..],
         }
     }
 
-    /// Returns the suffix itself.
+    /// Returns the rest itself.
     #[inline(always)]
     pub fn text(&self) -> &'a str
         ensures { result.now ≡ self.now }
@@ -92,19 +92,19 @@ impl<'a> Suffix<'a> {
         !self.text.is_empty() && self.text.as_bytes()[0] == byte
     }
 
-    /// Returns its own suffix from this position on.
+    /// Returns the rest of it from this position on.
     #[inline(always)]
-    pub fn after(&self, from: usize) -> Suffix<'a>
+    pub fn after(&self, from: usize) -> Rest<'a>
         requires { IsCharBoundary self.now from }
         ensures { result ≡ drop from self.now }
     {
-        Suffix {
+        Rest {
             whole: self.whole,
             text: &self.text[from..],
         }
     }
 
-    /// Returns the first position of a byte, counted from 0 in the suffix, or the suffix's length if it doesn't occur.
+    /// Returns the first position of a byte, counted from 0 in the rest, or the rest's length if it doesn't occur.
     #[inline(always)]
     pub fn position_of(&self, byte: u8) -> usize
         ensures { result ≡ first_position byte self.now }
@@ -126,9 +126,9 @@ impl<'a> Suffix<'a> {
         first_stop_at_end(whole, from, &class) - from
     }
 
-    /// Splits at the ASCII byte at `position`, which is dropped. At the end, returns the whole suffix and an empty one.
+    /// Splits at the ASCII byte at `position`, which is dropped. At the end, returns the whole rest and an empty one.
     #[inline(always)]
-    pub fn split_around(&self, position: usize) -> (&'a str, Suffix<'a>)
+    pub fn split_around(&self, position: usize) -> (&'a str, Rest<'a>)
         requires within { position ≤ length self.now }
         requires ascii { position < length self.now → slice_index self.now position < 128 }
         ensures before { result.0.now ≡ take position self.now }
@@ -139,10 +139,10 @@ impl<'a> Suffix<'a> {
         (&text[..position], self.after(position + dropped))
     }
 
-    /// Splits at the first `byte`, which must be ASCII and is dropped. If it doesn't occur, returns the whole suffix
+    /// Splits at the first `byte`, which must be ASCII and is dropped. If it doesn't occur, returns the whole rest
     /// and an empty one.
     #[inline(always)]
-    pub fn split_at_first(&self, byte: u8) -> (&'a str, Suffix<'a>)
+    pub fn split_at_first(&self, byte: u8) -> (&'a str, Rest<'a>)
         requires ascii { byte < 128 }
         ensures before { result.0.now ≡ before_byte byte self.now }
         ensures after { result.1 ≡ after_byte byte self.now }

@@ -5,7 +5,7 @@ use Rattle.std.proofs.lemmas.Bool.Decides.{nat_tests}
 use Rattle.std.proofs.Common.{false}
 use Rattle.mime_search.specs.Quoted.{len_from}
 use Rattle.mime_search.proofs.Quotes.{is_mark, first_mark, no_mark, later_marks, search_past_pair}
-use Rattle.mime_search.proofs.quoted.after_pairs_among.Goals as goal
+use Rattle.mime_search.proofs.quoted.after_quoted_pairs_among.Goals as goal
 use lib.Count.{count_trailing_zeros}
 
 pub bounds-text-stop : goal.bounds-text-stop
@@ -22,15 +22,15 @@ returns-then-text-stop-eq34-clause-left c =
     (omega (arith, now.within, c.requires.within)) (omega (arith, now.least, c.requires.few)) now.bits c.loop-left-test.true in
     first.left ∙ now.left
 
-pub after_pair-requires-clause-within : goal.after_pair-requires-clause-within
-after_pair-requires-clause-within c =
+pub after_quoted_pair-requires-clause-within : goal.after_quoted_pair-requires-clause-within
+after_quoted_pair-requires-clause-within c =
     let now = c.loop-left.invariant in
     let first = first_mark c.args.text.now c.loop-left.at (c.args.from + c.args.size - c.loop-left.at) _
     (omega (arith, now.within, c.requires.within)) (omega (arith, now.least, c.requires.few)) now.bits c.loop-left-test.true in
     omega (arith, first.within, now.within, c.requires.within)
 
-pub after_pair-requires-clause-first : goal.after_pair-requires-clause-first
-after_pair-requires-clause-first c =
+pub after_quoted_pair-requires-clause-first : goal.after_quoted_pair-requires-clause-first
+after_quoted_pair-requires-clause-first c =
     let now = c.loop-left.invariant in
     let first = first_mark c.args.text.now c.loop-left.at (c.args.from + c.args.size - c.loop-left.at) _
     (omega (arith, now.within, c.requires.within)) (omega (arith, now.least, c.requires.few)) now.bits c.loop-left-test.true in
@@ -41,7 +41,7 @@ returns-then-stop-end-clause-left c =
     let now = c.loop-left.invariant in
     let first = first_mark c.args.text.now c.loop-left.at (c.args.from + c.args.size - c.loop-left.at) _
     (omega (arith, now.within, c.requires.within)) (omega (arith, now.least, c.requires.few)) now.bits c.loop-left-test.true in
-    c.after_pair.ensures.left ∙ first.left ∙ now.left
+    c.after_quoted_pair.ensures.left ∙ first.left ∙ now.left
 
 pub loop-left-preserved : goal.loop-left-preserved
 loop-left-preserved c =

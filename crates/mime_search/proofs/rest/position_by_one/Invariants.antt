@@ -1,7 +1,7 @@
 -- What is left has the first position where the whole does.
 use Rattle.std.proofs.Common.{◌≡◌, ◌+◌, ◌-◌, length, drop}
-use Rattle.mime_search.specs.Suffixes.{first_position}
-use Rattle.mime_search.proofs.suffix.position_by_one.Given as goal
+use Rattle.mime_search.specs.Rests.{first_position}
+use Rattle.mime_search.proofs.rest.position_by_one.Given as goal
 
 abbrev pub invariant-loop-position : goal.invariant-loop-position
 invariant-loop-position l = l.position + first_position l.byte (drop l.position l.text) ≡ first_position l.byte l.text

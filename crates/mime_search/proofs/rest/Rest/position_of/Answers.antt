@@ -1,9 +1,9 @@
--- The suffix is searched from its first block on, or the string's last block.
+-- The rest is searched from its first block on, or the string's last block.
 use Rattle.std.proofs.Common.{◌≡◌, ◌-◌, length, drop, ◌∙◌, ap, sym, arith}
 use Rattle.mime_search.specs.Classes.{is_stop}
 use Rattle.mime_search.proofs.Searches.{no_stop, a_stop, first_stop-position}
-use Rattle.mime_search.specs.Suffixes.{first_position}
-use Rattle.mime_search.proofs.suffix.Suffix.position_of.Goals as goal
+use Rattle.mime_search.specs.Rests.{first_position}
+use Rattle.mime_search.proofs.rest.Rest.position_of.Goals as goal
 
 pub returns-then-stops-eq0 : goal.returns-then-stops-eq0
 returns-then-stops-eq0 c =
@@ -30,11 +30,11 @@ returns c =
     let whole = c.as_bytes-whole.result.now in
     let text = c.as_bytes-text.result.now in
     let whole_is = c.as_bytes-whole.ensures.value in
-    let suffix = (λ i. drop (length (whole_is i) - length (c.as_bytes-text.ensures.value i)) (whole_is i))
+    let rest = (λ i. drop (length (whole_is i) - length (c.as_bytes-text.ensures.value i)) (whole_is i))
     ∙ sym c.self.invariant ∙ c.self.view_is in
     omega (
       arith,
       c.first_stop_at_end.ensures,
       first_stop-position c.of-class.result c.args.byte c.of-class.ensures whole (length whole - length text),
-      ap (first_position c.args.byte) suffix,
+      ap (first_position c.args.byte) rest,
     )

@@ -1,4 +1,4 @@
--- Private: where a byte first occurs in a text, and what a suffix of a text is.
+-- Private: where a byte first occurs in a text, and what the rest of a text is.
 use Rattle.std.specs.Prelude.{◌≡◌, ℕ, ◌+◌, ◌-◌, List, length, take, drop, ◌==◌}
 use Rattle.std.specs.List.{position_or_len}
 
@@ -14,5 +14,5 @@ abbrev pub after_byte : ℕ → List ℕ → List ℕ
 after_byte byte text = drop (first_position byte text + 1) text
 
 -- the first list is the second without some of its first bytes
-abbrev pub IsSuffixOf : List ℕ → List ℕ → Type 0
-IsSuffixOf end whole = end ≡ drop (length whole - length end) whole
+abbrev pub IsRestOf : List ℕ → List ℕ → Type 0
+IsRestOf end whole = end ≡ drop (length whole - length end) whole

@@ -3,7 +3,7 @@ use Rattle.std.proofs.Common.{length, ap, arith, subst, inl, inr}
 use Rattle.std.proofs.lemmas.Bool.{cases_lt, lt-ltb, le-ltb}
 use Rattle.std.proofs.lemmas.Str.{IsCharBoundary-after_ascii, IsCharBoundary-end}
 use Rattle.std.specs.Str.{IsUtf8, IsCharBoundary}
-use Rattle.mime_search.proofs.suffix.Suffix.split_around.Goals as goal
+use Rattle.mime_search.proofs.rest.Rest.split_around.Goals as goal
 
 pub after-requires : goal.after-requires
 after-requires c =

@@ -1,7 +1,7 @@
 -- A pair that another follows was passed, or three, and at last the last of them.
 use Rattle.std.proofs.Common.{◌∙◌, ◌+◌, ◌≤◌, length, arith}
 use Rattle.mime_search.proofs.Quotes.{search_past_pair, search_past_three}
-use Rattle.mime_search.proofs.quoted.after_pairs.Goals as goal
+use Rattle.mime_search.proofs.quoted.after_quoted_pairs.Goals as goal
 
 pub loop-last-preserved-then-text-last-eq92-3 : goal.loop-last-preserved-then-text-last-eq92-3
 loop-last-preserved-then-text-last-eq92-3 c =
@@ -31,4 +31,4 @@ loop-last-preserved c =
     }
 
 pub returns-clause-left : goal.returns-clause-left
-returns-clause-left c = c.after_pair.ensures.left ∙ c.loop-last.invariant.left
+returns-clause-left c = c.after_quoted_pair.ensures.left ∙ c.loop-last.invariant.left

@@ -3,8 +3,8 @@ use Rattle.std.proofs.Common.{arith}
 use Rattle.std.specs.Prelude.{◌==◌, not}
 use Rattle.std.proofs.lemmas.List.Sums.{prefix_len-le-length}
 use Rattle.std.proofs.lemmas.Option.{get_or_from_slice_get}
-use Rattle.mime_search.proofs.Suffixes.{slice_get-first_position}
-use Rattle.mime_search.proofs.suffix.Suffix.split_at_first.Goals as goal
+use Rattle.mime_search.proofs.Rests.{slice_get-first_position}
+use Rattle.mime_search.proofs.rest.Rest.split_at_first.Goals as goal
 
 pub split_around-requires-clause-within : goal.split_around-requires-clause-within
 split_around-requires-clause-within c =
