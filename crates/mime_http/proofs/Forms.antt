@@ -1,5 +1,5 @@
 -- The kinds of a value's bytes, and the form in which it is written.
-use Rattle.mime_http.proofs.Common.{Escaped, IsBoundary, List, Token, [], ap, append_assoc, arith, bit_and, drop, drop-cons, escaped, false, form_of, get_or, if◌then◌else◌, is_plain, is_quoted_byte, is_quoted_text_byte, is_token_byte, is_token_value, kind_of, length, list_all, list_all-append, list_all-wider, nat_tests, prefix_len, prefix_len-le-length, prefix_len_stops, refl, suc, sym, take, take_more, text_in, text_of_pair, true, ℕ, ◌++◌, ◌+◌, ◌<◌, ◌∙◌, ◌∷◌, ◌≡◌, ◌≢◌, ◌≤◌}
+use Rattle.mime_http.proofs.Common.{List, Token, [], ap, append_assoc, arith, bit_and, drop, drop-cons, escaped, false, form_of, get_or, if◌then◌else◌, is_plain, is_quoted_byte, is_quoted_text_byte, is_token_byte, is_token_value, kind_of, length, list_all, list_all-append, list_all-wider, nat_tests, prefix_len, prefix_len-le-length, prefix_len_stops, refl, suc, sym, take, take_more, text_in, text_of_pair, true, ℕ, ◌++◌, ◌+◌, ◌<◌, ◌∙◌, ◌∷◌, ◌≡◌, ◌≢◌, ◌≤◌}
 use Rattle.mime_http.specs.declared.quoted.Form.TheVariants.{Quoted}
 use Rattle.mime_http.proofs.{Written.token_from_test, Contents.boundary_text, Contents.plain_text, Contents.safe_text, Contents.token_byte_text, Contents.token_text}
 

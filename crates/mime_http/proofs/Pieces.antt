@@ -1,5 +1,5 @@
 -- A line's first piece: bytes without a mark go on with it, and a comma outside strings ends it.
-use Rattle.mime_http.proofs.Common.{AreUnmarked, At, after, Bool, List, Outside, [], ap, append-nil, append_assoc, ap₂, arith, cond, cut, cut_after, cut_from, drop, drop-drop, drop_more, drop_of_length-le, eq-eqb, false, get_or, get_or-drop, get_or_past, is_mark, length, length-drop, min, nat_tests, not, prefix_len, prefix_len-le-length, refl, subst, suc, sym, take, true, zero, ℕ, ◌&&◌, ◌++◌, ◌+◌, ◌-◌, ◌<◌, ◌==◌, ◌∙◌, ◌∷◌, ◌≡◌, ◌≤◌, Equals, Paired, IsNextMark, IsNextOutside, piece_len, position_or_len, fails_before_first, passes_at_first}
+use Rattle.mime_http.proofs.Common.{AreUnmarked, At, after, Bool, List, Outside, [], ap, append-nil, append_assoc, ap₂, arith, cond, cut, cut_after, cut_from, drop, drop-drop, drop_more, eq-eqb, false, get_or, get_or-drop, get_or_past, is_mark, length, length-drop, min, nat_tests, not, prefix_len, prefix_len-le-length, refl, suc, sym, take, true, zero, ℕ, ◌&&◌, ◌++◌, ◌+◌, ◌-◌, ◌<◌, ◌==◌, ◌∙◌, ◌∷◌, ◌≡◌, ◌≤◌, Equals, Paired, IsNextMark, IsNextOutside, piece_len, position_or_len, fails_before_first, passes_at_first}
 use Rattle.mime_search.{specs.Classes.is_stop, specs.Classes.end_of_run, specs.Quoted.awaits_next, specs.Quoted.len_from, specs.declared.class.Class.Class}
 use Rattle.mime_http.specs.LineCut.{Quoted}
 

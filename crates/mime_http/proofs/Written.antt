@@ -193,17 +193,15 @@ module _ {name whole text : List ℕ} {total count : ℕ} {items next : List Ite
 
   -- one of another is written,
   pub copied : ¬ (NameIs item.name item.name_ignores_case name)
-      → (count + 1 ≤ total) × Left name whole (text ++ text_of_pair (item.name, item.value)) total (count + 1) next
+      → Left name whole (text ++ text_of_pair (item.name, item.value)) total (count + 1) next
   copied other =
       let test : is_named name item ≡ false =
       false_from_ne_true _ (λ same. other ((name_decides name item.name item.name_ignores_case).0 same)) in
-      let counted : count + suc (length (other_items name next)) ≡ total = rw (is, test) at left.counted in (
-        omega (arith, counted),
-        record {
-          written = append_assoc text (text_of_pair (item.name, item.value)) _ ∙ (rw (is, test) at left.written);
-          counted = omega (arith, counted);
-        },
-      )
+      let counted : count + suc (length (other_items name next)) ≡ total = rw (is, test) at left.counted in
+      record {
+        written = append_assoc text (text_of_pair (item.name, item.value)) _ ∙ (rw (is, test) at left.written);
+        counted = omega (arith, counted);
+      }
 
 -- and at last all is written and counted
 pub none_left : {name whole text : List ℕ} {total count : ℕ} {items : List Item} → Left name whole text total count items → items ≡ []

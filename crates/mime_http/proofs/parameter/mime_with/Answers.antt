@@ -1,5 +1,5 @@
 -- What is written is known to be read as the media type with the parameter.
-use Rattle.mime_http.proofs.Common.{AreHeaderBytes, Form, IfOk-weaker, IsSafe, IsToken, List, MediaType, Reads, [], ap, append-nil, flat_map-append, text_of_pair, append_assoc, ap₂, arith, escaped, form_of, length, length-append, lowered, lowered-lowered, lowered_value, others, refl, string_bytes, subst, sym, text_in, text_of_pairs, with_pair, ℕ, ◌++◌, ◌+◌, ◌∙◌, ◌∷◌, ◌≡◌, ◌≤◌}
+use Rattle.mime_http.proofs.Common.{AreHeaderBytes, Form, IfOk-weaker, IsSafe, IsToken, List, MediaType, Reads, [], ap, append-nil, flat_map-append, text_of_pair, ap₂, arith, escaped, form_of, length, length-append, lowered, lowered-lowered, lowered_value, others, refl, string_bytes, subst, sym, text_in, text_of_pairs, with_pair, ℕ, ◌++◌, ◌+◌, ◌∙◌, ◌∷◌, ◌≡◌}
 use Rattle.mime_http.proofs.{Contents.content_of_escaped, Forms.form_text, Written.pairs_within_text, Written.with_pair_is_read}
 use Rattle.mime_http.proofs.parameter.mime_with.Goals as goal
 
@@ -27,8 +27,16 @@ overflow_add-count c =
     let pair : List ℕ × List ℕ = (c.args.name.now, escaped c.args.value.now) in
     let all = pairs ++ (pair ∷ []) in
     let within = pairs_within_text all in
-    omega (arith, ap length is, length-append c.args.mime.now.media.essence (text_of_pairs all), within, length-append pairs (pair ∷ []),
-    c.in_ok-text.ensures.count, c.len-more.ensures, c.len-more.type_inv)
+    omega (
+      arith,
+      ap length is,
+      length-append c.args.mime.now.media.essence (text_of_pairs all),
+      within,
+      length-append pairs (pair ∷ []),
+      c.in_ok-text.ensures.count,
+      c.len-more.ensures,
+      c.len-more.type_inv,
+    )
 
 pub invariant_of-known : goal.invariant_of-known
 invariant_of-known c =
