@@ -1,5 +1,5 @@
 -- The kinds of a value's bytes, and the form in which it is written.
-use Rattle.mime_http.proofs.Common.{Escaped, IsBoundary, List, Token, [], ap, append_assoc, arith, bit_and, drop, drop-cons, escaped, false, form_of, get_or, if◌then◌else◌, is_plain, is_quoted_byte, is_quoted_text_byte, is_token_byte, is_token_value, kind_of, length, list_all, list_all-append, list_all-wider, nat_tests, prefix_len, prefix_len-le-length, prefix_len_stops, refl, suc, sym, take, take_more, text_in, text_of_pair, true, ℕ, ◌++◌, ◌+◌, ◌<◌, ◌∙◌, ◌∷◌, ◌≡◌, ◌≢◌, ◌≤◌}
+use Rattle.mime_http.proofs.Common.{Form, append-nil, flat_map-append, text_of_pairs, List, Token, [], ap, append_assoc, arith, bit_and, drop, drop-cons, escaped, false, form_of, get_or, if◌then◌else◌, is_plain, is_quoted_byte, is_quoted_text_byte, is_token_byte, is_token_value, kind_of, length, list_all, list_all-append, list_all-wider, nat_tests, prefix_len, prefix_len-le-length, prefix_len_stops, refl, suc, sym, take, take_more, text_in, text_of_pair, true, ℕ, ◌++◌, ◌+◌, ◌<◌, ◌∙◌, ◌∷◌, ◌≡◌, ◌≢◌, ◌≤◌}
 use Rattle.mime_http.specs.declared.quoted.Form.TheVariants.{Quoted}
 use Rattle.mime_http.proofs.{Written.token_from_test, Contents.boundary_text, Contents.plain_text, Contents.safe_text, Contents.token_byte_text, Contents.token_text}
 
@@ -106,6 +106,13 @@ form_text name value =
     let token : is_token_value value ≡ true → escaped value ≡ value =
     λ is. plain_text value (token_text value (token_from_test value is)) in
     grind (arith, same_test value, plain_text value)
+
+-- so one more is written after all
+pub last_written : (name value essence text : List ℕ) (pairs : List (List ℕ × List ℕ)) (form : Form) → text ≡ essence ++ text_of_pairs pairs
+    → form ≡ form_of value → text ++ text_in form name value ≡ essence ++ text_of_pairs (pairs ++ ((name, escaped value) ∷ []))
+last_written name value essence text pairs form is fits =
+    rw (is, fits, form_text name value, flat_map-append text_of_pair pairs ((name, escaped value) ∷ []),
+    append-nil (text_of_pair (name, escaped value))) (append_assoc essence (text_of_pairs pairs) (text_of_pair (name, escaped value)))
 
 -- how a token and a boundary are written
 pub ruleset token_written = (safe_text, plain_text, token_text, token_from_test)

@@ -1,5 +1,5 @@
 -- The highest of ranks and its first place, and which of all is the best.
-use Rattle.mime_http.proofs.Common.{AllPass-from_list_all, Bool, cases_Bool, cases_lt, ⊎_elim, Equal, List, None, Option, Rank, Some, [], and_from, ap, arith, false, false_from_ne_true, get_or, get_or-map, get_or_default, get_or_past, is_gt, is_le, length, length-map, list_all, list_all-from_AllPass, map, nat_lt, nat_tests, and_parts, position, if◌then◌else◌, rank_cmp, refl, subst, sym, true, ℕ, ◌&&◌, ◌+◌, ◌<◌, ◌∙◌, ◌∷◌, ◌≡◌, ◌≤◌, position_or_len_is}
+use Rattle.mime_http.proofs.Common.{AllPass-from_list_all, Bool, cases_Bool, cases_lt, ⊎_elim, Equal, List, None, Option, Rank, Some, and_from, ap, arith, false, false_from_ne_true, get_or, get_or-map, get_or_default, get_or_past, is_gt, is_le, length, length-map, list_all, list_all-from_AllPass, map, nat_lt, nat_tests, and_parts, position, if◌then◌else◌, rank_cmp, refl, subst, sym, true, ℕ, ◌&&◌, ◌+◌, ◌<◌, ◌∙◌, ◌≡◌, ◌≤◌, position_or_len_is}
 
 -- the value of an item's value is the one at its position
 pub value_at : {X Y Z : Type 0} (f : Y → Z) (g : X → Y) (xs : List X) (i : ℕ) (x : X) (d : Z) → i < length xs → x ≡ get_or xs i x

@@ -1,5 +1,5 @@
 -- A media type covers itself, and what covers an offer is told by what both mean.
-use Rattle.mime_http.proofs.Common.{arith, Bool, CoversItself, List, MeaningCounts, MediaType, [], and_from, ap, bytes_eq, bytes_eq-Decides, codes, demanded, has, length, list_all, list_any, map, meaning_of, not, refl, sym, true, unescaped, ℕ, ◌&&◌, ◌∙◌, ◌∷◌, ◌≡◌, length-map, list_all-from_AllPass, get_or, All-filter, list_any_at}
+use Rattle.mime_http.proofs.Common.{arith, Bool, CoversItself, List, MeaningCounts, MediaType, [], and_from, ap, bytes_eq, bytes_eq-Decides, codes, demanded, has, length, list_all, list_any, map, meaning_of, not, refl, sym, true, unescaped, ℕ, ◌&&◌, ◌∙◌, ◌∷◌, ◌≡◌, list_all-from_AllPass, get_or, All-filter, list_any_at}
 
 -- a list of parameters
 abbrev Pairs : Type 0

@@ -1,5 +1,5 @@
 -- The offers that weigh more than 0, sorted, are in order, of which the first is the best.
-use Rattle.mime_http.proofs.Common.{All-contains, AllPairs, AreInOrder, Contains, IsDistinct, IsTotalOrder, List, MediaType, Ordering, Rank, Reverse, [], ap, arith, back_total, false, flip_args, get_or, get_or_past, cases_Bool, inl, inr, is_gt, is_lt, length, length-map, map, map-append, merit, nat_cmp, nat_cmp_total, nat_tests, ne_eqb, on, on_total, ordering_then, rank_cmp, subst, sym, then_cmp, then_total, true, ℕ, ⊎_elim, ◌++◌, ◌+◌, ◌<◌, ◌==◌, ◌∙◌, ◌∷◌, ◌≡◌, ◌≤◌, ◌⊎◌, Bool, All, cases_lt, All-map, All-push, Contains-append_left, Contains-append_right, BestIsAcceptable, BestIsFirst, None, Some, and_parts, get_or-map, get_or_default, nat_lt, refl, slice_get-get_or, suc, zero}
+use Rattle.mime_http.proofs.Common.{All-contains, AllPairs, AreInOrder, Contains, IsDistinct, IsTotalOrder, List, MediaType, Ordering, Rank, Reverse, [], ap, arith, back_total, false, flip_args, get_or, get_or_past, cases_Bool, inl, inr, is_gt, is_lt, length, length-map, map, map-append, merit, nat_cmp, nat_cmp_total, nat_tests, ne_eqb, on, on_total, ordering_then, rank_cmp, subst, sym, then_cmp, then_total, true, ℕ, ⊎_elim, ◌++◌, ◌+◌, ◌<◌, ◌==◌, ◌∙◌, ◌∷◌, ◌≡◌, ◌≤◌, ◌⊎◌, All, cases_lt, All-map, All-push, Contains-append_left, Contains-append_right, BestIsAcceptable, BestIsFirst, None, Some, and_parts, get_or-map, nat_lt, refl, slice_get-get_or, suc, zero}
 use Rattle.std.{specs.List.Sorted.IsPermutation, specs.List.Sorted.IsSorted, proofs.lemmas.List.Quantifiers.all_pairs_push, proofs.lemmas.List.Sorted.ranks_by, proofs.lemmas.List.Sorted.sorted_far, proofs.lemmas.List.Sorted.All-permutation, proofs.lemmas.List.Sorted.IsPermutation-map, proofs.lemmas.List.Sorted.Contains-permutation, proofs.lemmas.Map.Keys.IsDistinct-IsPermutation, proofs.lemmas.Map.Keys.IsDistinct-from_apart, proofs.lemmas.Map.Keys.apart_from_distinct, proofs.Math.ListN.get_or-map as get_or-map_at, proofs.lemmas.List.Quantifiers.position-Some}
 use Rattle.mime_http.proofs.Highest.{best_is_found, is_best, lowest, none_is_best, one_rank}
 

@@ -1,5 +1,5 @@
 -- A line's first piece: bytes without a mark go on with it, and a comma outside strings ends it.
-use Rattle.mime_http.proofs.Common.{AreUnmarked, At, after, Bool, List, Outside, [], ap, append-nil, append_assoc, ap₂, arith, cond, cut, cut_after, cut_from, drop, drop-drop, drop_more, drop_of_length-le, eq-eqb, false, get_or, get_or-drop, get_or_past, is_mark, length, length-drop, min, nat_tests, not, prefix_len, prefix_len-le-length, refl, subst, suc, sym, take, true, zero, ℕ, ◌&&◌, ◌++◌, ◌+◌, ◌-◌, ◌<◌, ◌==◌, ◌∙◌, ◌∷◌, ◌≡◌, ◌≤◌, Equals, Paired, IsNextMark, piece_len, position_or_len, fails_before_first, passes_at_first}
+use Rattle.mime_http.proofs.Common.{AreUnmarked, At, after, Bool, List, Outside, [], ap, append-nil, append_assoc, ap₂, arith, cond, cut, cut_after, cut_from, drop, drop-drop, drop_more, eq-eqb, false, get_or, get_or-drop, get_or_past, is_mark, length, length-drop, min, nat_tests, not, prefix_len, prefix_len-le-length, refl, suc, sym, take, true, zero, ℕ, ◌&&◌, ◌++◌, ◌+◌, ◌-◌, ◌<◌, ◌==◌, ◌∙◌, ◌∷◌, ◌≡◌, ◌≤◌, Equals, Paired, IsNextMark, IsNextOutside, piece_len, position_or_len, fails_before_first, passes_at_first}
 use Rattle.mime_search.{specs.Classes.is_stop, specs.Classes.end_of_run, specs.Quoted.awaits_next, specs.Quoted.len_from, specs.declared.class.Class.Class}
 use Rattle.mime_http.specs.LineCut.{Quoted}
 
@@ -32,13 +32,7 @@ outside_bytes line from (suc n) to is within plain =
     ap (end_on Outside line) (omega (arith, is)) ∙ (outside_byte line (from + n) (omega (arith, is, within)) here.0 here.1
     ∙ outside_bytes line from n (from + n) refl (omega (arith, is, within)) (λ k least most. plain k least (omega (arith, is, most))))
 
--- such are those before the next comma or equals sign,
-pub outside_run : {line : List ℕ} {from to : ℕ} → IsNextMark 44 61 line from to → end_on Outside line to ≡ end_on Outside line from
-outside_run {line} {from} {to} mark =
-    outside_bytes line from (to - from) to (omega (arith, mark.least)) mark.within (λ k first last.
-    let no = mark.unmarked k first last in (grind (arith, nat_tests, no), grind (arith, nat_tests, no)))
-
--- and those before the next comma or quote, if no quote is next
+-- such are those before the next comma or quote, if no quote is next,
 pub outside_at : (line : List ℕ) (from to : ℕ) → from ≤ to → to ≤ length line → AreUnmarked 44 34 line from to
     → (get_or line to 0 == 34) ≡ false → end_on Outside line to ≡ end_on Outside line from
 outside_at line from to least within unmarked other =
@@ -109,6 +103,16 @@ next_mark class one other are line from to within is =
       mark = λ more. rw (there, sym (get_or-drop from line (position_or_len (is_mark one other) rest) 0))
           (passes_at_first (is_mark one other) rest 0 (omega (arith, there, more, long)));
     }
+
+-- up to the next comma or equals sign a piece goes on outside strings
+pub outside_next : {line : List ℕ} {from to : ℕ} → IsNextMark 44 61 line from to → IsNextOutside line from to
+outside_next {line} {from} {to} mark = record {
+  least = mark.least;
+  within = mark.within;
+  left = outside_bytes line from (to - from) to (omega (arith, mark.least)) mark.within (λ k first last.
+      let no = mark.unmarked k first last in (grind (arith, nat_tests, no), grind (arith, nat_tests, no)));
+  mark = mark.mark;
+}
 
 -- bytes without a mark are so from a position on
 pub unmarked_from : (line : List ℕ) (from to : ℕ) → from ≤ to → AreUnmarked 44 34 line from to

@@ -1,5 +1,6 @@
 -- What is written of parameters is read as them, and is written item by item.
-use Rattle.mime_http.proofs.Common.{if◌then◌else◌, AllByRecursion, AreParameters, Bool, IsContent, IsParameter, IsSafe, IsSafePair, IsToken, IsToken-lowered, List, MediaType, Parameter, Parameters, Parts, Reads, [], ap, append-nil, append_assoc, ap₂, arith, bytes_eq, cond_both, false, final, is_token_byte, is_token_value, length, length-append, length-lowered, list_all-lowered, listed, lowered, lowered-lowered, lowered_list, lowered_parameter, lowered_value, lowered_value-either, lowered_value-lowered, map, media_of, more, nat_tests, no_list, not, others, pair_of, pairs_of_list, pairs_of_tail, pairs_of_tail-lowered, plain, quoted, refl, subst, suc, sym, text_of_list, text_of_pair, text_of_pairs, text_of_parameter, text_of_parts, true, value_of, with_pair, with_pairs, ℕ, ◌++◌, ◌∙◌, ◌∷◌, ◌≡◌, Item, NameIs, bytes_eq-Decides, false_from_ne_true, flat_map-append, items_of, ◌+◌, ◌≤◌, Decides, filter}
+use Rattle.mime_http.proofs.Common.{All-push, All-filter, if◌then◌else◌, AllByRecursion, AreParameters, Bool, IsContent, IsParameter, IsSafe, IsSafePair, IsToken, IsToken-lowered, List, MediaType, Parameter, Parameters, Parts, Reads, [], ap, append-nil, append_assoc, ap₂, arith, bytes_eq, cond_both, false, final, is_token_byte, is_token_value, length, length-append, length-lowered, list_all-lowered, listed, lowered, lowered-lowered, lowered_list, lowered_parameter, lowered_value, lowered_value-either, lowered_value-lowered, map, media_of, more, nat_tests, no_list, not, others, pair_of, pairs_of_list, pairs_of_tail, pairs_of_tail-lowered, plain, quoted, refl, subst, suc, sym, text_of_list, text_of_pair, text_of_pairs, text_of_parameter, text_of_parts, true, value_of, with_pair, with_pairs, ℕ, ◌++◌, ◌∙◌, ◌∷◌, ◌≡◌, Item, NameIs, bytes_eq-Decides, false_from_ne_true, flat_map-append, items_of, ◌+◌, ◌≤◌, Decides, filter}
+use Rattle.std.proofs.lemmas.List.Elements.{All-from_recursion, recursion_from_All}
 use Rattle.mime.proofs.HandedOut.{lowered_pair}
 
 -- the test for a token holds for tokens alone
@@ -29,12 +30,8 @@ pub ruleset lengths = (length-append, length-cons, length-lowered, length-lowere
 
 -- a pair takes as many,
 length-pair : (pair : List ℕ × List ℕ) → length (text_of_pair (lowered_pair pair)) ≡ length (text_of_pair pair)
-length-pair (name, value) = ap (λ token. length (text token)) (test-either name value) ∙ (simp lengths)
-  where
-    text : Bool → List ℕ
-    text token =
-        let quote = if token then [] else 34 ∷ [] in
-        59 ∷ 32 ∷ (lowered name ++ (61 ∷ (quote ++ (lowered_value name value ++ quote))))
+length-pair (name, value) =
+    grind (arith, test-either name value, length-append {A = ℕ}, length-lowered name, length-lowered_value name value)
 
 -- and so do more of them
 pub length-pairs : (pairs : List (List ℕ × List ℕ)) → length (text_of_pairs (map lowered_pair pairs)) ≡ length (text_of_pairs pairs)
@@ -124,11 +121,9 @@ written_is_read text value pairs reads safe =
 -- what holds of all pairs holds of those of other names, and of one more
 all_others : (P : List ℕ × List ℕ → Type 0) (name : List ℕ) (pairs : List (List ℕ × List ℕ)) (pair : List ℕ × List ℕ)
     → AllByRecursion P pairs → P pair → AllByRecursion P (others name pairs ++ (pair ∷ []))
-all_others P name [] pair all last = (last, tt)
-all_others P name (first ∷ pairs) pair all last =
-    let rest = all_others P name pairs pair all.1 last in
-    cond_both (not (bytes_eq (lowered first.0) (lowered name))) _ _ (λ ps. AllByRecursion P (ps ++ (pair ∷ [])))
-    (λ other. (all.0, rest)) (λ same. rest)
+all_others P name pairs pair all last =
+    recursion_from_All P _ (All-push P (others name pairs) pair
+    (All-filter (λ pair. not (bytes_eq (lowered pair.0) (lowered name))) P pairs (All-from_recursion P pairs all)) last)
 
 -- pairs of other names stay as they are, before the new one
 others_stay : (name : List ℕ) (pairs : List (List ℕ × List ℕ)) (pair : List ℕ × List ℕ)
@@ -193,17 +188,15 @@ module _ {name whole text : List ℕ} {total count : ℕ} {items next : List Ite
 
   -- one of another is written,
   pub copied : ¬ (NameIs item.name item.name_ignores_case name)
-      → (count + 1 ≤ total) × Left name whole (text ++ text_of_pair (item.name, item.value)) total (count + 1) next
+      → Left name whole (text ++ text_of_pair (item.name, item.value)) total (count + 1) next
   copied other =
       let test : is_named name item ≡ false =
       false_from_ne_true _ (λ same. other ((name_decides name item.name item.name_ignores_case).0 same)) in
-      let counted : count + suc (length (other_items name next)) ≡ total = rw (is, test) at left.counted in (
-        omega (arith, counted),
-        record {
-          written = append_assoc text (text_of_pair (item.name, item.value)) _ ∙ (rw (is, test) at left.written);
-          counted = omega (arith, counted);
-        },
-      )
+      let counted : count + suc (length (other_items name next)) ≡ total = rw (is, test) at left.counted in
+      record {
+        written = append_assoc text (text_of_pair (item.name, item.value)) _ ∙ (rw (is, test) at left.written);
+        counted = omega (arith, counted);
+      }
 
 -- and at last all is written and counted
 pub none_left : {name whole text : List ℕ} {total count : ℕ} {items : List Item} → Left name whole text total count items → items ≡ []

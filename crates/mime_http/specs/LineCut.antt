@@ -1,5 +1,5 @@
 -- Private: the places of a line, its cut as a function over them, and what is kept of its pieces.
-use Rattle.std.specs.Prelude.{◌≡◌, ◌<◌, ◌≤◌, ◌||◌, ℕ, zero, suc, Bool, true, false, List, [], ◌∷◌, ◌++◌, length, slice_index, if◌then◌else◌, ◌==◌}
+use Rattle.std.specs.Prelude.{◌≡◌, ◌<◌, ◌≤◌, ◌||◌, ℕ, zero, suc, Bool, true, false, List, [], ◌∷◌, ◌++◌, ◌+◌, length, drop, slice_index, if◌then◌else◌, ◌==◌}
 use Rattle.mime.specs.Bytes.{comma_byte, equals_byte, quote_byte, backslash_byte}
 use Rattle.mime_http.specs.HttpList.{AreSorted, Header}
 
@@ -61,6 +61,13 @@ pub record IsNextMark (one other : ℕ) (bytes : List ℕ) (from to : ℕ) : Typ
   pub within : to ≤ length bytes
   pub unmarked : AreUnmarked one other bytes from to
   pub mark : to < length bytes → is_mark one other (slice_index bytes to) ≡ true
+
+-- a position, from one outside strings on, up to which a piece goes on outside strings: that of a comma or an equals sign, or the length
+pub record IsNextOutside (bytes : List ℕ) (from to : ℕ) : Type 0 where
+  pub least : from ≤ to
+  pub within : to ≤ length bytes
+  pub left : to + piece_len Outside (drop to bytes) ≡ from + piece_len Outside (drop from bytes)
+  pub mark : to < length bytes → is_mark comma_byte equals_byte (slice_index bytes to) ≡ true
 
 -- what is kept of pieces: the ranges, and the bad entries if they are asked for
 abbrev pub AreKept : Bool → List (List ℕ) → Header → Type 0

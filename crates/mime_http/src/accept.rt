@@ -116,6 +116,7 @@ impl Accept {
     }
 
     /// Adds the pieces of a line.
+    #[tactic(auto, using(crate::proofs::Takes::past_empty, crate::proofs::Takes::past_piece, crate::proofs::Takes::blank_there))]
     fn take_line(&mut self, alloc: Global, keeps_bad: bool, line: &[u8]) -> Result<(), AllocError>
         ensures taken { OnOk result (Takes keeps_bad (cut line.now) self.old self.new) }
         ensures nothing { AreSorted (cut line.now) [] [] → IsOk result }

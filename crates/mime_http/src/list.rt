@@ -2,10 +2,10 @@
 
 ghost use Rattle.std.specs.Prelude.{◌≡◌, ◌<◌, ◌≤◌, ◌+◌, ℕ, true, length, drop, slice_index};
 ghost use Rattle.std.specs.Str.{IsAscii};
-ghost use Rattle.mime.specs.Bytes.{comma_byte, equals_byte, quote_byte};
+ghost use Rattle.mime.specs.Bytes.{comma_byte, quote_byte};
 ghost use Rattle.mime.specs.Grammar.{is_space};
 ghost use Rattle.mime_http.specs.HttpList.{trim_start, trim_end};
-ghost use Rattle.mime_http.specs.LineCut.{Outside, Quoted, AreUnmarked, IsNextMark, piece_len};
+ghost use Rattle.mime_http.specs.LineCut.{Outside, Quoted, AreUnmarked, IsNextOutside, piece_len};
 
 use mime_search::{Class, content_end, first_stop};
 use std::simd::prelude::*;
@@ -14,7 +14,7 @@ use std::simd::prelude::*;
 #[inline(always)]
 fn next_outside(line: &[u8], from: usize) -> usize
     requires { from < length line.now }
-    ensures { IsNextMark comma_byte equals_byte line.now from result }
+    ensures { IsNextOutside line.now from result }
 {
     // This is quick for the sign before a string, and for signs in a row.
     if line[from] == b'=' {
@@ -39,6 +39,7 @@ fn string_end(line: &[u8], from: usize) -> usize
 /// Returns the length of a line's first piece, of which the first comma or quote is the quote at a position. It isn't inlined: few
 /// pieces have a quote.
 #[inline(never)]
+#[tactic(auto, using(crate::proofs::Pieces::ends_outside, crate::proofs::Pieces::string_opens, crate::proofs::Pieces::outside_byte))]
 fn quoted_piece_len(line: &[u8], quote: usize) -> usize
     requires within { quote ≤ length line.now }
     requires unmarked { AreUnmarked comma_byte quote_byte line.now 0 quote }

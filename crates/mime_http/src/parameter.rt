@@ -1,6 +1,6 @@
 //! Media types with a new parameter, as they are written in a header.
 
-ghost use Rattle.std.specs.Prelude.{◌≡◌, ◌++◌, ◌↔◌, IsTrue, IfOk, IsOk, IfSome, OnOk, is_some, if◌then◌else◌, codes, string_bytes, length};
+ghost use Rattle.std.specs.Prelude.{◌≡◌, ◌++◌, ◌∷◌, [], ◌↔◌, IsTrue, IfOk, IsOk, IfSome, OnOk, is_some, if◌then◌else◌, codes, string_bytes, length};
 ghost use Rattle.mime.specs.Grammar.{IsToken};
 ghost use Rattle.mime.specs.HeaderLaws.{AreHeaderBytes};
 ghost use Rattle.mime.specs.Values.{lowered, lowered_value};
@@ -90,8 +90,9 @@ fn text_with(
     value: &str,
     form: Form,
 ) -> Result<(String, usize), AllocError>
+    requires fits { form ≡ form_of value.now }
     ensures text { IfOk result (λ written. string_bytes written.0
-        ≡ mime.now.media.essence ++ (text_of_pairs (others name.now mime.now.media.pairs) ++ text_in form name.now value.now)) }
+        ≡ mime.now.media.essence ++ text_of_pairs (others name.now mime.now.media.pairs ++ ((name.now, escaped value.now) ∷ []))) }
     ensures count { IfOk result (λ written. written.1 ≡ length (others name.now mime.now.media.pairs)) }
 {
     // What is added besides the name: the value, and its marks.

@@ -30,6 +30,7 @@ pub fn unescape(value: &str, buffer: &mut Vec<u8>) -> Result<(), AllocError>
 }
 
 /// Replaces the bytes from this position on by what they mean, and returns where that ends.
+#[tactic(auto, using(crate::proofs::Contents::moved))]
 fn unescape_in_place(bytes: &mut [u8], start: usize) -> usize
     requires { start ≤ length bytes.old }
     ensures meant { take result bytes.new ≡ take start bytes.old ++ unescaped (drop start bytes.old) }

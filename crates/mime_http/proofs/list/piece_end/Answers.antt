@@ -1,5 +1,5 @@
 -- Before a comma that is the first mark, or to the end.
-use Rattle.mime_http.proofs.Common.{ap, arith, common_steps, length-drop, take_rest, ◌+◌}
+use Rattle.mime_http.proofs.Common.{arith, common_steps, take_rest}
 use Rattle.mime_http.proofs.Pieces.{next_mark, piece_from, unmarked_from}
 use Rattle.mime_http.proofs.list.piece_end.Goals as goal
 

@@ -1,5 +1,5 @@
 -- The next merit is above the highest so far, or it isn't.
-use Rattle.mime_http.proofs.Common.{arith, is_gt, length, length-map, map, merit, nat_tests, rank_cmp, ◌∙◌, ◌≡◌, ◌≤◌}
+use Rattle.mime_http.proofs.Common.{arith, is_gt, length-map, map, merit, nat_tests, rank_cmp, ◌∙◌, ◌≡◌}
 use Rattle.mime_http.proofs.{Highest.value_at, Highest.highest_raised, Highest.highest_stays, Highest.best_is_found, Highest.none_is_found, Highest.lowest, offers.best_of.Goals.then-gt, offers.best_of.Goals.else-gt}
 use Rattle.mime_http.proofs.offers.best_of.Goals as goal
 

@@ -1,34 +1,21 @@
 -- What is written is known to be read as the media type with the parameter.
-use Rattle.mime_http.proofs.Common.{AreHeaderBytes, Form, IfOk-weaker, IsSafe, IsToken, List, MediaType, Reads, [], ap, append-nil, flat_map-append, text_of_pair, append_assoc, ap₂, arith, escaped, form_of, length, length-append, lowered, lowered-lowered, lowered_value, others, refl, string_bytes, subst, sym, text_in, text_of_pairs, with_pair, ℕ, ◌++◌, ◌+◌, ◌∙◌, ◌∷◌, ◌≡◌, ◌≤◌}
+use Rattle.mime_http.proofs.Common.{AreHeaderBytes, Form, IfOk-weaker, IsSafe, IsToken, List, MediaType, Reads, [], ap, append-nil, flat_map-append, text_of_pair, ap₂, arith, escaped, form_of, length, length-append, lowered, lowered-lowered, lowered_value, others, refl, string_bytes, subst, sym, text_in, text_of_pairs, with_pair, ℕ, ◌++◌, ◌+◌, ◌∙◌, ◌∷◌, ◌≡◌}
 use Rattle.mime_http.proofs.{Contents.content_of_escaped, Forms.form_text, Written.pairs_within_text, Written.with_pair_is_read}
 use Rattle.mime_http.proofs.parameter.mime_with.Goals as goal
 
--- the text has the parameters of other names, and this one
-is_written : (media : MediaType) (name value text : List ℕ) (form : Form) → form ≡ form_of value
-    → text ≡ media.essence ++ (text_of_pairs (others name media.pairs) ++ text_in form name value)
-    → text ≡ media.essence ++ text_of_pairs (others name media.pairs ++ ((name, escaped value) ∷ []))
-is_written media name value text form fits made =
-    let pairs = others name media.pairs in
-    rw (made, fits, form_text name value)
-    (sym (rw (flat_map-append text_of_pair pairs ((name, escaped value) ∷ []), append-nil (text_of_pair (name, escaped value))) refl))
-
 -- what is written is read as the media type with the parameter
-is_read : (media : MediaType) (name value text : List ℕ) (form : Form) → form ≡ form_of value
-    → text ≡ media.essence ++ (text_of_pairs (others name media.pairs) ++ text_in form name value) → {kept : List ℕ} → Reads kept media
+is_read : (media : MediaType) (name value text : List ℕ)
+    → text ≡ media.essence ++ text_of_pairs (others name media.pairs ++ ((name, escaped value) ∷ [])) → {kept : List ℕ} → Reads kept media
     → IsSafe media → IsToken name → AreHeaderBytes value → Reads text (with_pair media (lowered name) (lowered_value name (escaped value)))
-is_read media name value text form fits made reads header named safe =
-    rw (is_written media name value text form fits made)
-    (with_pair_is_read _ media name (escaped value) reads header named (content_of_escaped value safe))
+is_read media name value text made reads header named safe =
+    rw made (with_pair_is_read _ media name (escaped value) reads header named (content_of_escaped value safe))
 
 pub overflow_add-count : goal.overflow_add-count
 overflow_add-count c =
-    let is = is_written c.args.mime.now.media c.args.name.now c.args.value.now _ c.args.form c.requires.fits c.in_ok-text.ensures.text in
-    let pairs = others c.args.name.now c.args.mime.now.media.pairs in
-    let pair : List ℕ × List ℕ = (c.args.name.now, escaped c.args.value.now) in
-    let all = pairs ++ (pair ∷ []) in
-    let within = pairs_within_text all in
-    omega (arith, ap length is, length-append c.args.mime.now.media.essence (text_of_pairs all), within, length-append pairs (pair ∷ []),
-    c.in_ok-text.ensures.count, c.len-more.ensures, c.len-more.type_inv)
+    let pairs = others c.args.name.now c.args.mime.now.media.pairs ++ ((c.args.name.now, escaped c.args.value.now) ∷ []) in
+    let long = simp length-append at (ap length c.in_ok-text.ensures.text) in
+    let counted = simp length-append at (pairs_within_text pairs) in
+    omega (arith, long, counted, c.in_ok-text.ensures.count, c.len-more.ensures, c.len-more.type_inv)
 
 pub invariant_of-known : goal.invariant_of-known
 invariant_of-known c =
@@ -37,9 +24,8 @@ invariant_of-known c =
     let value = c.args.value.now in
     let content = lowered_value name (escaped value) in
     let made = with_pair media (lowered name) content in
-    let is = is_written media name value _ c.args.form c.requires.fits c.in_ok-text.ensures.text in
     let kept = c.as_str-kept.ensures.reads in
-    let read = is_read media name value _ c.args.form c.requires.fits c.in_ok-text.ensures.text kept (c.kept_is_safe.ensures _ _ kept)
+    let read = is_read media name value _ c.in_ok-text.ensures.text kept (c.kept_is_safe.ensures _ _ kept)
     c.requires.named c.requires.safe in
     let as_written = c.is_kept_as_written.ensures c.if-is_kept_as_written.true in
     record {
@@ -49,19 +35,19 @@ invariant_of-known c =
       some = λ none. absurd (omega (arith, none));
       reads = subst (λ text. Reads (string_bytes c.in_ok-text.text) (record media { pairs = made.pairs; kept = text }))
           (ap₂ (λ n content. media.essence ++ text_of_pairs (others n media.pairs ++ ((n, content) ∷ []))) as_written.0 as_written.1
-          ∙ sym is) read;
+          ∙ sym c.in_ok-text.ensures.text) read;
     }
 
 pub returns-in-Ok : goal.returns-in-Ok
 returns-in-Ok c =
     let kept = c.as_str-kept.ensures.reads in
-    let read = is_read c.args.mime.now.media c.args.name.now c.args.value.now _ c.args.form c.requires.fits c.in_ok-text.ensures.text kept
+    let read = is_read c.args.mime.now.media c.args.name.now c.args.value.now _ c.in_ok-text.ensures.text kept
     (c.kept_is_safe.ensures _ _ kept) c.requires.named c.requires.safe in
     c.one_reading.ensures _ _ _ c.in-Ok.ensures.read (rw c.deref.ensures read)
 
 pub returns-then-is_kept_as_written : goal.returns-then-is_kept_as_written
 returns-then-is_kept_as_written c =
     let kept = c.as_str-kept.ensures.reads in
-    let read = is_read c.args.mime.now.media c.args.name.now c.args.value.now _ c.args.form c.requires.fits c.in_ok-text.ensures.text kept
+    let read = is_read c.args.mime.now.media c.args.name.now c.args.value.now _ c.in_ok-text.ensures.text kept
     (c.kept_is_safe.ensures _ _ kept) c.requires.named c.requires.safe in
     IfOk-weaker _ _ _ (λ made reads. c.one_reading.ensures _ _ _ reads read) c.into_mime.ensures.read

@@ -1,5 +1,5 @@
 -- What was moved so far, and then what is left, is the whole.
-use Rattle.mime_http.proofs.Common.{drop, false, length, take, ◌++◌, ◌≡◌, ◌≤◌}
+use Rattle.mime_http.proofs.Common.{drop, false, take, ◌++◌, ◌≡◌, ◌≤◌}
 use Rattle.mime_http.proofs.Contents.{unescaped_from}
 use Rattle.mime_http.proofs.quoted.unescape_in_place.Given as goal
 

@@ -1,5 +1,5 @@
 -- Each item is of a weight, or counted, or missing.
-use Rattle.mime_http.proofs.Common.{common_steps, None, [], ap, arith, item_of, item_seen, items_of, length, length-map, rules, sym, ◌∙◌, ◌∷◌, ◌≡◌}
+use Rattle.mime_http.proofs.Common.{None, ap, arith, item_of, items_of, length, length-map, rules, ◌∙◌, ◌≡◌}
 use Rattle.mime_http.proofs.Demanded.{found_from, found_of_all}
 use Rattle.mime_http.proofs.range.demanded_among.Goals as goal
 
