@@ -191,7 +191,7 @@ fn texts_of(alloc: Global, shapes: &[Shape], random: &mut Random) -> Result<Vec<
 
 /// What looks at all of a value.
 fn look_up(alloc: Global, mime: &Mime, digest: &mut Digest) -> Result<(), AllocError> {
-    digest.text(mime.as_str());
+    digest.media_type(mime);
     digest.found(mime.get_param(CHARSET));
     digest.found(mime.get_param(BOUNDARY));
     digest.found(mime.get_param("level"));

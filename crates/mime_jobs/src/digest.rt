@@ -1,6 +1,6 @@
 //! A digest of results: a number that all of them decide.
 
-use mime::{Name, ParseError};
+use mime::{Mime, Name, ParseError};
 use mime_http::FieldError;
 use std::hash::{FoldHasher, Hasher};
 
@@ -35,6 +35,12 @@ impl Digest {
     #[inline]
     pub(crate) fn flag(&mut self, flag: bool) {
         self.number(flag as usize);
+    }
+
+    /// Adds a media type by its essence: what is printed of an untidy value isn't what it was at the start.
+    #[inline]
+    pub(crate) fn media_type(&mut self, mime: &Mime) {
+        self.text(mime.essence_str());
     }
 
     /// Adds what a look-up found.

@@ -109,7 +109,7 @@ fn accept_of(alloc: Global, text: &Text, at: usize) -> Result<Accept, AllocError
 /// Adds what was read.
 fn add_read(accept: &Accept, digest: &mut Digest) {
     for range in accept.ranges() {
-        digest.text(range.as_str());
+        digest.media_type(range);
     }
     for bad in accept.bad() {
         digest.bytes(bad);

@@ -68,7 +68,7 @@ fn look_at(
             return Ok(());
         }
     };
-    digest.text(mime.as_str());
+    digest.media_type(&mime);
     digest.found(mime.get_param(CHARSET));
     digest.found(mime.get_param(BOUNDARY));
     digest.found(mime.get_param("version"));
