@@ -1,5 +1,5 @@
 -- How a text is cut into media types and bad pieces: each piece is the longest viable prefix of what is left, and the
--- character after it, which can't follow it, is passed.
+-- character after it, which can't follow it, is dropped.
 use Rattle.std.specs.Prelude.{◌≡◌, ◌≢◌, ℕ, ◌+◌, Bool, ◌&&◌, nat_le, IsTrue, IsFalse, List, [], ◌∷◌, ◌++◌, length, ⊤}
 use Rattle.std.specs.List.{list_all}
 use Rattle.mime.specs.Values.{MediaType, Reads, IsRejected}

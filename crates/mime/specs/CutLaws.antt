@@ -1,4 +1,4 @@
--- The laws of the cut, and of whole runs: what the calls of `next` on a `MimeIter` give, up to the first `None`.
+-- The laws of the cut, and of whole runs: what the calls of `next` on a `MimeIter` return, up to the first `None`.
 use Rattle.std.specs.Prelude.{◌≡◌, ◌≢◌, ◌<◌, ◌⊎◌, ℕ, Bool, ◌||◌, ◌==◌, IsTrue, List, [], ◌∷◌, ◌++◌, map, length, Result, Ok, Err}
 use Rattle.std.specs.List.{AllByRecursion}
 use Rattle.mime.specs.Values.{MediaType, Reads, IsAccepted, IsRejected, OwnedMedia}
@@ -53,7 +53,7 @@ abbrev pub items_of_rest : List ℕ → List CutItem
 items_of_rest [] = []
 items_of_rest (b ∷ rest) = bad (b ∷ rest) ∷ []
 
--- A comma ends whatever precedes it, unless that is an open quoted value, and what comes after it is cut as it is alone.
+-- A comma ends what precedes it, unless that is an open quoted string, and what follows it is cut as if it were alone.
 abbrev pub CommaContains : Type 0
 CommaContains =
     (before after : List ℕ) (items others : List CutItem) (rest end : List ℕ) → Cut before items rest → ¬ (IsUnclosed rest)
@@ -81,7 +81,7 @@ JoinedComesBack = (values : List MediaType) → AllByRecursion IsRead values →
 abbrev pub is_separator : ℕ → Bool
 is_separator b = is_space b || b == comma_byte
 
--- a list as HTTP writes it, and its elements (RFC 7230, 7), with no whitespace between an element and the comma after it
+-- a list that HTTP allows, and its elements (RFC 7230, 7), with no whitespace between an element and the comma after it
 pub data IsHttpList : List ℕ → List CutItem → Type 0 where
   -- the empty text has no element
   no_element : IsHttpList [] []
@@ -94,7 +94,7 @@ pub data IsHttpList : List ℕ → List CutItem → Type 0 where
   more_elements : (text : List ℕ) (value : MediaType) (list : List ℕ) (elements : List CutItem) → Reads text value
       → IsHttpList list elements → IsHttpList (text ++ (comma_byte ∷ list)) (good text value ∷ elements)
 
--- A list as HTTP writes it is cut into its elements, and nothing else.
+-- A list that HTTP allows is cut into its elements, and nothing else.
 abbrev pub HttpListIsCut : Type 0
 HttpListIsCut = (text : List ℕ) (elements : List CutItem) → IsHttpList text elements → Cut text elements []
 
@@ -105,7 +105,7 @@ PassesOneCharacter =
     (text piece character left : List ℕ) → IsUtf8 text → IsSplit text piece character left
     → (char : ℕ) × IsScalar char × (character ≡ encode_utf8 char) × IsUtf8 piece × IsUtf8 left
 
--- what a run gave is the items in order, or the first of them and then out of memory:
+-- what a run yielded is the items in order, or the first of them and then out of memory:
 pub data AreGiven : List (Result OwnedMedia Bad) → List CutItem → Type 0 where
   none_left : AreGiven [] []
   -- a media type for a good piece,
@@ -114,18 +114,18 @@ pub data AreGiven : List (Result OwnedMedia Bad) → List CutItem → Type 0 whe
   -- a bad piece for itself,
   a_piece : (piece : Bor (List ℕ)) (given : List (Result OwnedMedia Bad)) (items : List CutItem)
       → AreGiven given items → AreGiven (Err (Piece piece) ∷ given) (bad piece.now ∷ items)
-  -- and, at the end of what was given, out of memory for a good piece of more than 40 bytes
+  -- and, at the end of what was yielded, out of memory for a good piece of more than 40 bytes
   no_memory : (piece : List ℕ) (value : MediaType) (items : List CutItem)
       → 40 < length piece → AreGiven (Err NoMemory ∷ []) (good piece value ∷ items)
 
--- A run gives the items of the cut of what was left.
+-- A run yields the items of the cut of what was left.
 abbrev pub RunGivesCut : Type 0
 RunGivesCut =
     (first : Iteration) (given : List (Result OwnedMedia Bad)) → Drains IsNext first given
     → (items : List CutItem) (rest : List ℕ) → Cut first.left items rest → AreGiven given items
 
--- A run over a text with a comma gives the items of the text before it, the rest of that, and then the items of the text
--- after it, unless the rest is an open quoted value.
+-- A run over a text with a comma yields the items of the text before it, the rest of that, and then the items of the text
+-- after it, unless the rest is an open quoted string.
 abbrev pub CommaContainsOnRuns : Type 0
 CommaContainsOnRuns =
     (before after : List ℕ) (items others : List CutItem) (rest end : List ℕ) → Cut before items rest → ¬ (IsUnclosed rest)
@@ -133,7 +133,7 @@ CommaContainsOnRuns =
     → (first : Iteration) (given : List (Result OwnedMedia Bad)) → first.left ≡ before ++ (comma_byte ∷ after)
     → Drains IsNext first given → AreGiven given (items ++ (items_of_rest rest ++ others))
 
--- A run over the joined kept texts of values that were read gives these values.
+-- A run over the joined kept texts of values that were read yields these values.
 abbrev pub PrintedListComesBack : Type 0
 PrintedListComesBack =
     (values : List MediaType) → AllByRecursion IsRead values

@@ -42,7 +42,7 @@ Lacks text fault =
     MatchOption (completion_of fault) ⊥ (λ more. IsAccepted (text ++ more))
     × MatchOption (last_byte_of fault) ⊤ (EndsIn text)
 
--- the text ends in an open quoted value
+-- the text ends in an open quoted string
 abbrev pub IsUnclosed : List ℕ → Type 0
 IsUnclosed text = Lacks text MissingQuote
 
@@ -56,7 +56,7 @@ abbrev pub IsFault : List ℕ → ParseError → Type 0
 IsFault text (InvalidToken pos byte) = IsDeadAt text pos byte
 IsFault text fault = Lacks text fault
 
--- why reading a text fails: by its fault, or out of memory, which comes only if the text is accepted and has more than 40 bytes
+-- why reading a text fails: by its fault, or out of memory, which happens only if the text is accepted and has more than 40 bytes
 abbrev pub Explains : List ℕ → ParseError → Type 0
 Explains text NoMemory = IsAccepted text × (40 < length text)
 Explains text fault = IsFault text fault

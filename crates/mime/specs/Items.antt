@@ -1,4 +1,4 @@
--- The items that `Params` gives, how contracts see a `Name`, and what a key finds.
+-- The items that `Params` yields, how contracts see a `Name`, and what a key finds.
 use Rattle.std.specs.Prelude.{◌≡◌, ℕ, Bool, true, List, [], ◌∷◌, map, codes, Option, Some, None}
 use Rattle.std.specs.Str.{bytes_eq}
 use Rattle.mime.specs.Values.{lowered}

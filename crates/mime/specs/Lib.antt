@@ -1,4 +1,4 @@
--- the trusted pages, in reading order
+-- the trusted files, in reading order
 pub mod Bytes
 pub mod Grammar
 pub mod Values

@@ -1,4 +1,4 @@
--- How contracts see a `MimeIter`, and what one call of its `next` gives.
+-- How contracts see a `MimeIter`, and what one call of its `next` returns.
 use Rattle.std.specs.Prelude.{◌≡◌, ℕ, ◌<◌, ◌≤◌, Bool, true, false, List, [], ◌∷◌, length, Option, Some, None, Result, Ok, Err, codes}
 use Rattle.mime.specs.Values.{MediaType, OwnedMedia}
 use Rattle.mime.specs.Cut.{CutItem, good, bad, Cut, TakesSteps}
@@ -33,7 +33,7 @@ pub record FirstNeedsMemory (text : List ℕ) : Type 0 where
 abbrev pub HasNoItem : List ℕ → Type 0
 HasNoItem text = (rest : List ℕ) × Cut text [] rest
 
--- what a call gives: none, a media type, which is fixed if its piece is `*/*`, a bad piece, or out of memory
+-- what a call returns: none, a media type, which is fixed if its piece is `*/*`, a bad piece, or out of memory
 abbrev pub GivesItem : Iteration → Option (Result OwnedMedia Bad) → Iteration → Type 0
 GivesItem old None new = HasNoItem old.left × HasEnded new × (new.out_of_memory ≡ old.out_of_memory)
 GivesItem old (Some (Ok mime)) new =
@@ -44,14 +44,14 @@ GivesItem old (Some (Err NoMemory)) new = FirstNeedsMemory old.left × HasEnded 
 
 -- one call of `next` makes the old iterator the new one, and returns the result
 pub record IsNext (old : Iteration) (result : Option (Result OwnedMedia Bad)) (new : Iteration) : Type 0 where
-  -- it gives the first item of the cut of what was left, none if there is no item, or out of memory
+  -- it returns the first item of the cut of what was left, none if there is no item, or out of memory
   pub item : GivesItem old result new
   -- the text stays the same
   pub text : new.text ≡ old.text
-  -- the steps are no fewer than before, even if memory ran out, and at most the bytes of the text,
+  -- the steps are no fewer than before, even if memory ran out, and at most the bytes of the text
   pub more : old.steps ≤ new.steps
   pub few : new.steps ≤ length new.text
-  -- and at the end, unless memory ran out, exactly those that the text takes
+  -- at the end, unless memory ran out, they are exactly those that the text takes
   pub exact : HasEnded new → new.out_of_memory ≡ false → TakesSteps new.text new.steps
-  -- an iterator that has ended gives none, and stays as it is
+  -- an iterator that has ended returns none, and stays as it is
   pub stays : HasEnded old → (result ≡ None) × (new ≡ old)

@@ -35,7 +35,7 @@ lowered_tail (listed parameters) = listed (lowered_list parameters)
 abbrev pub lowered_tree : SyntaxTree → SyntaxTree
 lowered_tree tree = record { top = lowered tree.top; sub = lowered tree.sub; tail = lowered_tail tree.tail }
 
--- a parameter's name and value; a quoted value is taken without its quotes, and with its backslashes
+-- a parameter's name and value; a quoted string is taken without its quotes, and with its backslashes
 abbrev pub pair_of : Parameter → List ℕ × List ℕ
 pair_of (plain name value) = (name, value)
 pair_of (quoted name content n) = (name, content)
@@ -56,7 +56,7 @@ last_plus at [] = None
 last_plus at (b ∷ bytes) = option_or (last_plus (at + 1) bytes) (if b == plus_byte then Some at else None)
 
 -- what a media type is: its essence, the positions in it of the slash and of the suffix's plus (in bytes from 0), its
--- parameters as pairs of name and value, and its kept text, which is what printing gives
+-- parameters as pairs of name and value, and its kept text, which is what is printed
 pub record MediaType : Type 0 where
   pub essence : List ℕ
   pub slash : ℕ

@@ -1,4 +1,4 @@
--- What may stand between the parts of a multipart body (RFC 2046, 5.1.1).
+-- What may be between the parts of a multipart body (RFC 2046, 5.1.1).
 use Rattle.std.specs.Prelude.{◌≡◌, ◌≢◌, ◌≤◌, ◌-◌, ℕ, Bool, List, Some, ◌||◌, ◌==◌, IsTrue, IsSomeAnd, codes, length, option_map, slice_get}
 use Rattle.std.specs.List.{list_all, list_any}
 use Rattle.std.specs.Char.{is_ascii_alphanumeric}
@@ -11,7 +11,7 @@ use Rattle.mime_http.specs.Unescaped.{unescaped}
 abbrev pub is_bchar : ℕ → Bool
 is_bchar b = is_ascii_alphanumeric b || list_any (λ mark. mark == b) (codes "'()+_,-./:=? ")
 
--- 1 to 70 of them, of which the last is no space
+-- 1 to 70 of them, the last of which isn't a space
 pub record IsBoundary (bytes : List ℕ) : Type 0 where
   pub most : length bytes ≤ 70
   pub all : IsTrue (list_all is_bchar bytes)

@@ -7,15 +7,15 @@ use Rattle.mime_http.specs.HttpMediaType.{HttpReads, IsHttpMediaType}
 use Rattle.mime_http.specs.HttpList.{IsPrinted}
 use Rattle.mime_http.specs.HttpFaults.{IsHttpFault}
 
--- What the library reads is what HTTP writes there.
+-- What the library reads, HTTP allows, and it is read as the same media type.
 abbrev pub PlainIsHttp : Type 0
 PlainIsHttp = (value : List ℕ) (media : MediaType) → Reads value media → HttpReads value media
 
--- HTTP's grammar spells some values by several trees, but each value is one media type,
+-- HTTP's grammar spells some values by several trees, but each value is read as one media type.
 abbrev pub OneHttpReading : Type 0
 OneHttpReading = (value : List ℕ) (first second : MediaType) → HttpReads value first → HttpReads value second → Same first second
 
--- and one text is printed of it.
+-- One text is printed of each value.
 abbrev pub OnePrintedText : Type 0
 OnePrintedText =
     (value : List ℕ) (first second : MediaType) → HttpReads value first → IsPrinted value first → HttpReads value second
@@ -27,7 +27,7 @@ PrintedIsRead =
     (value : List ℕ) (media : MediaType) → HttpReads value media → IsPrinted value media
     → Reads media.kept media × HttpReads media.kept media
 
--- A value that isn't a media type as HTTP writes it has exactly one fault.
+-- A value that HTTP doesn't allow has exactly one fault.
 abbrev pub OneHttpFault : Type 0
 OneHttpFault =
     (value : List ℕ) → ¬ (IsHttpMediaType value)

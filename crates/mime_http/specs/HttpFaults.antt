@@ -1,5 +1,5 @@
--- How a header's value is rejected: which values may still become a media type as HTTP writes it, up to where a value may, and its
--- one fault. As of a text alone (the library's page `Faults`), with `IsHttpMediaType` for accepted.
+-- How a header's value is rejected: which values may still become a media type that HTTP allows, up to where a value may, and its
+-- one fault. This is as in the library's file `Faults`, with `IsHttpMediaType` for accepted.
 use Rattle.std.specs.Prelude.{◌≡◌, ℕ, ◌<◌, ◌≤◌, List, ◌++◌, length, take, slice_get, Some, MatchOption, ⊤}
 use Rattle.std.specs.Str.{IsUtf8, IsValidUpTo}
 use Rattle.mime.specs.Values.{MediaType}
@@ -11,7 +11,7 @@ use Rattle.mime_http.specs.HttpList.{IsPrinted}
 use Rattle.mime_http.specs.declared.value.FieldError.{FieldError}
 use Rattle.mime_http.specs.declared.value.FieldError.TheVariants.{NotUtf8, Invalid, NoMemory}
 
--- some media type as HTTP writes it begins with these bytes
+-- some media type that HTTP allows begins with these bytes
 abbrev pub IsHttpViable : List ℕ → Type 0
 IsHttpViable prefix = (more : List ℕ) × IsHttpMediaType (prefix ++ more)
 
@@ -21,7 +21,7 @@ pub record IsHttpLongestPrefix (value : List ℕ) (count : ℕ) : Type 0 where
   pub viable : IsHttpViable (take count value)
   pub longest : (n : ℕ) → count < n → n ≤ length value → ¬ (IsHttpViable (take n value))
 
--- the value lacks what the fault says: with the fault's completion after it, it is a media type as HTTP writes it, and it ends
+-- the value lacks what the fault says: with the fault's completion after it, it is a media type that HTTP allows, and it ends
 -- in the fault's byte, if the fault has one
 abbrev pub HttpLacks : List ℕ → ParseError → Type 0
 HttpLacks value fault =
@@ -33,7 +33,7 @@ pub record IsHttpDeadAt (value : List ℕ) (pos byte : ℕ) : Type 0 where
   pub prefix : IsHttpLongestPrefix value pos
   pub there : slice_get value pos ≡ Some byte
 
--- the fault of a value that is no media type
+-- the fault of a value that isn't a media type
 abbrev pub IsHttpFault : List ℕ → ParseError → Type 0
 IsHttpFault value (InvalidToken pos byte) = IsHttpDeadAt value pos byte
 IsHttpFault value fault = HttpLacks value fault

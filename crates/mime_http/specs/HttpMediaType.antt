@@ -1,5 +1,5 @@
--- A header's value that is one media type, as HTTP writes it (RFC 9110, 8.3.1 and 5.6.6), and what is read of it. Above each definition
--- stands its rule. OWS, token and the content of a quoted string (5.6.2 to 5.6.4) are the library's `AreSpaces`, `IsToken`, `IsContent`.
+-- A header's value that is one media type, as HTTP defines it (RFC 9110, 8.3.1 and 5.6.6), and what it is read as. Above each definition
+-- is its rule. OWS, token and the content of a quoted string (5.6.2 to 5.6.4) are the library's `AreSpaces`, `IsToken`, `IsContent`.
 use Rattle.std.specs.Prelude.{◌≡◌, ℕ, ◌+◌, List, [], ◌∷◌, ◌++◌, length, drop}
 use Rattle.mime.specs.Bytes.{slash_byte, semicolon_byte, equals_byte, quote_byte}
 use Rattle.mime.specs.Grammar.{AreSpaces, IsToken, IsContent}
@@ -22,8 +22,8 @@ pub data AreHttpParameters : List ℕ → List (List ℕ × List ℕ) → Type 0
       → AreSpaces after → IsHttpParameter parameter pair → AreHttpParameters rest pairs
       → AreHttpParameters (before ++ (semicolon_byte ∷ (after ++ (parameter ++ rest)))) (pair ∷ pairs)
 
--- OWS media-type OWS, with media-type = type "/" subtype parameters: the value is so, and this is the media type that is read of it. Of
--- the kept text, which is what printing gives, this says nothing
+-- OWS media-type OWS, with media-type = type "/" subtype parameters: the value has this form, and is read as this media type. This
+-- says nothing of the kept text, which is what is printed
 pub record HttpReads (value : List ℕ) (media : MediaType) : Type 0 where
   pub before : List ℕ
   pub top : List ℕ
@@ -40,6 +40,6 @@ pub record HttpReads (value : List ℕ) (media : MediaType) : Type 0 where
   pub slash : media.slash ≡ length top
   pub plus : media.plus ≡ last_plus (length top + 2) (drop 1 (lowered sub))
 
--- The value is a media type as HTTP writes it.
+-- The value is a media type that HTTP allows.
 abbrev pub IsHttpMediaType : List ℕ → Type 0
 IsHttpMediaType value = (media : MediaType) × HttpReads value media

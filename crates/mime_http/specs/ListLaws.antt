@@ -33,13 +33,13 @@ without_kept media = record media { kept = [] }
 abbrev pub AreSame : List MediaType → List MediaType → Type 0
 AreSame all others = map without_kept all ≡ map without_kept others
 
--- Of lists as HTTP writes them the elements are read, and none is bad.
+-- Lists that HTTP allows are read as their elements, and no entry is bad.
 abbrev pub HttpListsAreRead : Type 0
 HttpListsAreRead =
     (lines : List (List ℕ)) (media : List MediaType) → AreHttpLists (lines_or_any lines) media
     → (ranges : List MediaType) × AreSame ranges media × IsHeader lines (record { ranges = ranges; bad = [] })
 
--- Lines of which no entry is bad are lists as HTTP writes them.
+-- Lines without a bad entry are lists that HTTP allows.
 abbrev pub ReadAreHttpLists : Type 0
 ReadAreHttpLists =
     (lines : List (List ℕ)) (header : Header) → IsHeader lines header → header.bad ≡ []
@@ -49,7 +49,7 @@ ReadAreHttpLists =
 abbrev pub OneHeader : Type 0
 OneHeader = (lines : List (List ℕ)) (header other : Header) → IsHeader lines header → IsHeader lines other → header ≡ other
 
--- A bad entry changes no other, wherever it stands: lines with it, and lines without it, have the same ranges, so that each offer weighs the
+-- A bad entry changes no other entry, wherever it is: lines with it, and lines without it, have the same ranges, so that each offer weighs the
 -- same, and the same bad entries before it and after it.
 abbrev pub BadIsAlone : Type 0
 BadIsAlone =

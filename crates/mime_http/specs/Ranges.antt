@@ -1,4 +1,4 @@
--- What the ranges of an `Accept` header give a media type, and which offer is the best (RFC 9110, 12.4.2 and 12.5.1).
+-- Which weight the ranges of an `Accept` header give an offer, and which offer is the best (RFC 9110, 12.4.2 and 12.5.1).
 use Rattle.std.specs.Prelude.{◌≡◌, ◌⊎◌, ◌↔◌, ◌<◌, ℕ, ◌-◌, Bool, List, ◌++◌, length, Option, Some, None, IsTrue, Contains, option_map, unwrap_or, map, filter, filter_map, find, position, slice_index_or, nat_lt, not, ◌&&◌, if◌then◌else◌, codes}
 use Rattle.std.specs.List.{list_all, list_any, enumerate_from, AllPairs}
 use Rattle.std.specs.Ordering.{is_gt, is_le, nat_cmp, on, then_cmp}
@@ -38,20 +38,20 @@ Rank = ℕ × ℕ × ℕ × ℕ
 abbrev pub rank_cmp : Rank → Rank → Ordering
 rank_cmp = then_cmp (then_cmp (then_cmp (on (λ r. r.0) nat_cmp) (on (λ r. r.1) nat_cmp)) (on (λ r. r.2) nat_cmp)) (on (λ r. r.3) nat_cmp)
 
--- how closely a range at a position covers an offer, if it does: by the parts that it names, then by the parameters that it demands; of
--- ranges as close the higher weight counts, and of those the later
+-- how specific a range at a position is that covers an offer: by the parts that it names, then by the parameters that it demands; of
+-- equally specific ranges the one with the higher weight counts, and of those the later
 abbrev pub closeness : MediaType → ℕ × MediaType → Option Rank
 closeness offer item =
     if list_all (has offer) (demanded item.1.pairs)
     then option_map (λ named. (named, length (demanded item.1.pairs), weight_of item.1, item.0)) (named_parts item.1 offer)
     else None
 
--- the closest range is the one that no other is closer than
+-- the most specific range is the one that no other is more specific than
 abbrev pub closest : List MediaType → MediaType → Option Rank
 closest ranges offer =
     let all = filter_map (closeness offer) (enumerate_from 0 ranges) in find (λ one. list_all (λ other. is_le (rank_cmp other one)) all) all
 
--- how an offer ranks: by the weight that the closest range gives it, then by how closely that covers it, then by how early that stands
+-- how an offer ranks: by the weight that its most specific range gives it, then by how specific that is, then by how early it comes
 abbrev pub merit : List MediaType → MediaType → Rank
 merit ranges offer =
     unwrap_or (option_map (λ close. (close.2, close.0, close.1, length ranges - close.3)) (closest ranges offer)) (0, 0, 0, 0)

@@ -1,4 +1,4 @@
--- What follows of the page Ranges, in other words (RFC 9110, 12.5.1).
+-- What follows from the file Ranges, in other words (RFC 9110, 12.5.1).
 use Rattle.std.specs.Prelude.{◌≡◌, ◌⊎◌, ◌<◌, ◌≤◌, ℕ, ◌+◌, ◌*◌, List, [], ◌∷◌, ◌++◌, codes, replicate, Some, None, IsTrue, Contains, MatchOption, is_some, map, slice_get}
 use Rattle.std.specs.List.{enumerate_from}
 use Rattle.mime.specs.Values.{MediaType, type_of}
@@ -27,7 +27,7 @@ IsAtMost rank other =
     (rank.0 < other.0) ⊎ ((rank.0 ≡ other.0) × ((rank.1 < other.1) ⊎ ((rank.1 ≡ other.1)
     × ((rank.2 < other.2) ⊎ ((rank.2 ≡ other.2) × (rank.3 ≤ other.3))))))
 
--- The closest range is one of the ranges, and each that covers the offer is at most as close. Without one none covers it.
+-- The most specific range is one of the ranges, and each that covers the offer is at most as specific. If there is none, none covers it.
 abbrev pub ClosestIsClosest : Type 0
 ClosestIsClosest =
     (ranges : List MediaType) (offer : MediaType)
@@ -60,14 +60,14 @@ pub record MeanTheSame (media other : MediaType) : Type 0 where
   pub top : type_of media ≡ type_of other
   pub pairs : map meaning_of media.pairs ≡ map meaning_of other.pairs
 
--- How closely a range covers an offer doesn't change if both are written differently and mean the same, unless the weight changes, which is
--- taken as it is written.
+-- How specific a range is for an offer doesn't change if both are written differently and mean the same, unless the weight changes, which
+-- is read as it is written.
 abbrev pub MeaningCounts : Type 0
 MeaningCounts =
     (range other offer offered : MediaType) (at : ℕ) → MeanTheSame range other → MeanTheSame offer offered → weight_of range ≡ weight_of other
     → closeness offer (at, range) ≡ closeness offered (at, other)
 
--- A range that covers none of the offers changes neither their weights nor which is the best nor their order, wherever it stands and
+-- A range that covers none of the offers changes neither their weights nor which is the best nor their order, wherever it is and
 -- whatever it weighs.
 abbrev pub StrangerChangesNothing : Type 0
 StrangerChangesNothing =

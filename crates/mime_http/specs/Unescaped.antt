@@ -1,4 +1,4 @@
--- What the content of a quoted string means: each quoted-pair is the byte after its backslash (RFC 9110, 5.6.4).
+-- What the content of a quoted string means: each quoted pair is the byte after its backslash (RFC 9110, 5.6.4).
 use Rattle.std.specs.Prelude.{ℕ, List, [], ◌∷◌, if◌then◌else◌, ◌==◌}
 use Rattle.mime.specs.Bytes.{backslash_byte}
 

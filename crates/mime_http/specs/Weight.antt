@@ -2,7 +2,7 @@
 use Rattle.std.specs.Prelude.{ℕ, ◌+◌, ◌*◌, ◌-◌, List, [], ◌++◌, length, take, drop, take_while, slice_index, fold, min, if◌then◌else◌, ◌==◌, codes}
 use Rattle.std.specs.Char.{is_ascii_digit}
 
--- the number that a text begins with, in thousandths and at most 1000: its digits before a dot, and three after it. What is no weight
+-- the number that a text begins with, in thousandths and at most 1000: its digits before a dot, and three after it. What isn't a weight
 -- counts so, too: `.2` as 200, `2` as 1000, and `high` as 0
 abbrev pub thousandths_of : List ℕ → ℕ
 thousandths_of text =

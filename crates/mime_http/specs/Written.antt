@@ -13,7 +13,7 @@ escaped_byte b = if b == quote_byte || b == backslash_byte then backslash_byte �
 abbrev pub escaped : List ℕ → List ℕ
 escaped bytes = flat_map escaped_byte bytes
 
--- whether a value is a token, and what stands on both sides of it: nothing, or else a quote
+-- whether a value is a token, and what is written on both sides of it: nothing, or else a quote
 abbrev pub is_token_value : List ℕ → Bool
 is_token_value [] = false
 is_token_value (b ∷ value) = list_all is_token_byte (b ∷ value)

@@ -7,15 +7,15 @@ mod copy;
 mod differing;
 mod ignoring_case;
 mod quoted;
+mod rest;
 mod search;
 mod start;
-mod rest;
 
 pub use crate::class::{BLOCK, Class, Range};
 pub use crate::copy::copy_bytes;
 pub use crate::differing::difference_from;
 pub use crate::ignoring_case::{eq_ignore_ascii_case, first_difference_ignoring_case};
 pub use crate::quoted::content_end;
+pub use crate::rest::Rest;
 pub use crate::search::{first_stop, first_stop_far};
 pub use crate::start::{WINDOW, stops_at_start, stops_in_window};
-pub use crate::rest::Rest;

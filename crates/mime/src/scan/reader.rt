@@ -8,7 +8,7 @@ ghost use Rattle.mime.specs.Inner.Scanning.{GivesFirst, Passing, Reaches};
 ghost use Rattle.mime_search.specs.Classes.{is_stop};
 
 use crate::bytes::{is_in_token, is_token};
-use crate::scan::runs::{TOKEN_STOPS, QUOTED_TEXT_STOPS};
+use crate::scan::runs::{QUOTED_TEXT_STOPS, TOKEN_STOPS};
 use mime_search::{BLOCK, Class, WINDOW, first_stop_far, stops_at_start, stops_in_window};
 use std::marker::Model;
 
