@@ -1,6 +1,6 @@
 //! Media types compared, hashed, cloned and printed.
 
-ghost use Rattle.std.specs.Prelude.{◌≡◌, ◌↔◌, IfSome, IsTrue, Some, true, refl};
+ghost use Rattle.std.specs.Prelude.{◌≡◌, ◌↔◌, IfSome, IsTrue, Some, true, length, refl};
 ghost use Rattle.std.specs.Cmp.{partial_equiv_from_equiv, partial_order_from_total, on_equiv, on_total, eq_by_cmp_equiv};
 ghost use Rattle.std.specs.Fmt.{debug_str, styled_text};
 ghost use Rattle.std.specs.Cmp.Lexicographic.{slice_cmp};
@@ -24,6 +24,20 @@ fn same_parts(first: &Mime, second: &Mime) -> bool
     ensures { IsTrue result ↔ Same first.now.media second.now.media }
 {
     first.essence_str() == second.essence_str() && first.pairs().eq(second.pairs())
+}
+
+/// Whether two values have the same kept text. If both lie in their `Mime`, no text is searched for its end.
+#[inline(always)]
+fn have_same_text(first: &Mime, second: &Mime) -> bool
+    ensures same { IsTrue result → Same first.now.media second.now.media }
+    ensures bare { length first.now.media.pairs ≡ 0 → Same first.now.media second.now.media → IsTrue result }
+{
+    if let Text::Short(text) = &first.text {
+        if let Text::Short(other) = &second.text {
+            return text.first_difference(other).is_none();
+        }
+    }
+    first.as_str() == second.as_str()
 }
 
 /// How the parameters of two values compare. It isn't inlined, as `same_parts`.
@@ -76,7 +90,7 @@ impl PartialEq for Mime {
             return false;
         }
         // Equal texts are equal values.
-        if self.as_str() == other.as_str() {
+        if have_same_text(self, other) {
             return true;
         }
         // Without parameters the kept text is the essence, and the essences differ.
