@@ -40,6 +40,20 @@ fn have_same_text(first: &Mime, second: &Mime) -> bool
     first.as_str() == second.as_str()
 }
 
+/// Whether two values have the same kept text, and neither has it in its `Mime`.
+#[inline(always)]
+fn have_same_owned_text(first: &Mime, second: &Mime) -> bool
+    ensures { IsTrue result → Same first.now.media second.now.media }
+{
+    match &first.text {
+        Text::Owned(text) => match &second.text {
+            Text::Owned(other) => text.as_str() == other.as_str(),
+            Text::Short(_) => false,
+        },
+        Text::Short(_) => false,
+    }
+}
+
 /// How the parameters of two values compare. It isn't inlined, as `same_parts`.
 #[inline(never)]
 fn order_pairs(first: &Mime, second: &Mime) -> Ordering
@@ -55,8 +69,14 @@ fn order_pairs(first: &Mime, second: &Mime) -> Ordering
 fn order_short(first: &Mime, second: &Mime) -> Option<Ordering>
     ensures { IfSome result (λ order. order ≡ media_cmp first.now.media second.now.media) }
 {
-    let (Text::Short(text), Text::Short(other)) = (&first.text, &second.text) else {
-        return None;
+    // Each test of a text's form is such a `match`, so that the compiler sees that a later one asks the same.
+    let text = match &first.text {
+        Text::Owned(_) => return None,
+        Text::Short(text) => text,
+    };
+    let other = match &second.text {
+        Text::Owned(_) => return None,
+        Text::Short(other) => other,
     };
     let Some(at) = text.first_difference(other) else {
         // Equal texts are equal values.
@@ -136,16 +156,16 @@ impl Ord for Mime {
         if let Some(order) = order_short(self, other) {
             return order;
         }
-        // Equal texts are equal values.
-        if self.essence_end == other.essence_end && self.as_str() == other.as_str() {
+        if self.essence_end == other.essence_end && have_same_owned_text(self, other) {
             return Ordering::Equal;
         }
         let order = self.essence_str().cmp(other.essence_str());
         if order.is_ne() {
             return order;
         }
-        if self.param_count() == 0 && other.param_count() == 0 {
-            return Ordering::Equal;
+        // None are fewer than some, and come first.
+        if self.param_count() == 0 || other.param_count() == 0 {
+            return self.param_count().cmp(&other.param_count());
         }
         order_pairs(self, other)
     }

@@ -1,7 +1,6 @@
 -- Spaces are ASCII: the list may be cut after them.
 use Rattle.std.proofs.Common.{◌∙◌, ◌≡◌, sym, ap, subst, length, get_or, arith}
 use Rattle.std.specs.Prelude.{IsUtf8}
-use Rattle.std.proofs.lemmas.Bool.Decides.{nat_tests}
 use Rattle.std.proofs.lemmas.Str.{IsCharBoundary-start, IsCharBoundary-after_ascii}
 use Rattle.std.specs.Str.{IsCharBoundary}
 use Rattle.mime.specs.Inner.Pairs.{leading_spaces}

@@ -1,7 +1,5 @@
 -- One text is read as one value, and the test answers as the order does.
 use Rattle.std.proofs.Common.{rules, ◌∙◌, false, true, true≢false, sym, refl}
-use Rattle.std.specs.Cmp.Lexicographic.{same_text}
-use Rattle.mime.proofs.ValueLemmas.Parts.{same_from_text}
 use Rattle.mime.proofs.ValueLemmas.Traits.{eq_by_cmp-same}
 use Rattle.mime.proofs.value.traits.MimePartialEq.eq.Goals as goal
 
