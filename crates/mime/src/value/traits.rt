@@ -32,10 +32,12 @@ fn have_same_text(first: &Mime, second: &Mime) -> bool
     ensures same { IsTrue result → Same first.now.media second.now.media }
     ensures bare { length first.now.media.pairs ≡ 0 → Same first.now.media second.now.media → IsTrue result }
 {
-    if let Text::Short(text) = &first.text {
-        if let Text::Short(other) = &second.text {
-            return text.first_difference(other).is_none();
-        }
+    match &first.text {
+        Text::Owned(_) => {}
+        Text::Short(text) => match &second.text {
+            Text::Owned(_) => {}
+            Text::Short(other) => return text.first_difference(other).is_none(),
+        },
     }
     first.as_str() == second.as_str()
 }
