@@ -104,11 +104,11 @@ impl PartialEq for Mime {
         ensures computed { result ≡ eq_by_cmp media_cmp self.now.media other.now.media }
         ensures same { IsTrue result ↔ Same self.now.media other.now.media }
     {
-        // An essence of another length is another one, and more parameters aren't the same: that is told without a look at the texts.
-        if self.essence_str().len() != other.essence_str().len() {
+        // More parameters aren't the same, and an essence of another length is another one: that is told without a look at the texts.
+        if self.param_count() != other.param_count() {
             return false;
         }
-        if self.param_count() != other.param_count() {
+        if self.essence_str().len() != other.essence_str().len() {
             return false;
         }
         // Equal texts are equal values.
