@@ -311,6 +311,9 @@ impl Mime {
         ensures pairs { result ≡ self.now.media.pairs }
         ensures low { AreLowPairs result }
     {
+        if self.param_count() == 0 {
+            return Pairs::none();
+        }
         let text = self.text.as_str();
         Pairs::of_text(
             text,

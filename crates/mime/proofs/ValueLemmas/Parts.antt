@@ -196,3 +196,8 @@ kept-essence x text reads none =
         → kept_text pairs (lowered_tree reads.tree) ≡ essence_of (lowered_tree reads.tree)
     go [] none = refl
     go (pair ∷ pairs) none = absurd (omega arith)
+
+-- so equal ones without pairs have one kept text
+pub kept-bare : (text other : List ℕ) (x y : MediaType) → Reads text x → Reads other y → length x.pairs ≡ 0 → Same x y → x.kept ≡ y.kept
+kept-bare text other x y reads also none (essence, pairs) =
+    kept-essence x text reads none ∙ essence ∙ sym (kept-essence y other also (sym (ap length pairs) ∙ none))

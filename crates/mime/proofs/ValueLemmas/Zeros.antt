@@ -1,8 +1,8 @@
 -- The zeros that follow a short text.
-use Rattle.std.proofs.Common.{◌≡◌, ℕ, zero, suc, ◌+◌, ◌-◌, ◌≤◌, List, ◌∷◌, ◌++◌, length, map, take, drop, replicate, refl, ap, sym, ◌∙◌, arith}
+use Rattle.std.proofs.Common.{◌≡◌, ℕ, zero, suc, ◌+◌, ◌-◌, ◌≤◌, List, ◌∷◌, ◌++◌, length, map, take, drop, replicate, refl, ap, ap₂, sym, ◌∙◌, arith}
 use Rattle.std.specs.Char.{to_ascii_lowercase}
 use Rattle.std.proofs.Math.Nat.{add-sub_of_le}
-use Rattle.std.proofs.lemmas.List.{drop_at, drop-replicate, drop-take, take-replicate}
+use Rattle.std.proofs.lemmas.List.{drop_at, drop-replicate, drop-take, length-take-le, take-append-drop, take-replicate}
 
 -- a text copied over the first of so many zeros
 pub zeros-after : (text copied : List ℕ) (size : ℕ) → copied ≡ text
@@ -20,3 +20,14 @@ pub zeros-within : (block : List ℕ) (len size more : ℕ) → len ≤ size →
 zeros-within block len size more within zeros =
     ap (λ n. drop len (take n block)) (sym (add-sub_of_le within)) ∙ drop-take len (size - len) block
     ∙ ap (take (size - len)) zeros ∙ take-replicate (size - len) (size + more - len) 0 (omega arith)
+
+-- two texts that fill as many bytes with them are the same only if all bytes are
+pub zeros-same : (bytes others : List ℕ) (len other size : ℕ) → len ≤ length bytes → other ≤ length others
+    → drop len bytes ≡ replicate (size - len) 0 → drop other others ≡ replicate (size - other) 0
+    → take len bytes ≡ take other others → (len ≡ other) × (bytes ≡ others)
+zeros-same bytes others len other size within also zeros more same =
+    let lengths = sym (length-take-le len bytes within) ∙ ap length same ∙ length-take-le other others also in (
+      lengths,
+      sym (take-append-drop len bytes)
+          ∙ ap₂ (λ x y. x ++ y) same (zeros ∙ ap (λ n. replicate (size - n) 0) lengths ∙ sym more) ∙ take-append-drop other others,
+    )

@@ -2,8 +2,8 @@
 
 ghost use Rattle.std.specs.Iterator.{YieldsFirstBy, item_count, UpTo, at_most};
 ghost use Rattle.std.specs.Iterator.SizeHint.{IsWithinCount};
-ghost use Rattle.std.specs.Prelude.{ℕ, List, ◌≡◌, ◌≢◌, ◌↔◌, ◌<◌, ◌≤◌, ◌+◌, true, false, IsTrue, length, take, drop, slice_get, IfSome, Some, None, option_map};
-ghost use Rattle.std.specs.Str.{IsCharBoundary};
+ghost use Rattle.std.specs.Prelude.{ℕ, List, ◌≡◌, ◌≢◌, ◌↔◌, ◌<◌, ◌≤◌, ◌+◌, [], true, false, IsTrue, length, take, drop, slice_get, slice_index, IfSome, Some, None, option_map, codes};
+ghost use Rattle.std.specs.Str.{IsCharBoundary, bytes_eq};
 ghost use Rattle.mime_search.specs.Rests.{before_byte, after_byte, first_position};
 ghost use Rattle.mime.specs.Inner.Pairs.{cut_of, leading_spaces, without_spaces, cut_after_equals, has_equals, pairs_after, pair_seen};
 ghost use Rattle.mime.specs.Bytes.{quote_byte, semicolon_byte, equals_byte};
@@ -60,23 +60,6 @@ fn count_spaces(bytes: &[u8]) -> usize
     ensures { result ≡ leading_spaces bytes.now }
 {
     first_stop(bytes, 0, &Class::of(b' ', b'\t').others())
-}
-
-/// Returns the number of spaces and tabs with which the list begins.
-#[inline(always)]
-fn leading_spaces(list: &str) -> usize
-    ensures count { result ≡ leading_spaces list.now }
-    ensures border { IsCharBoundary list.now result }
-{
-    let bytes = list.as_bytes();
-    if bytes.len() > 1 && bytes[0] == b' ' && bytes[1] > b' ' {
-        // Most lists begin with one space.
-        return 1;
-    }
-    if bytes.is_empty() || bytes[0] > b' ' {
-        return 0;
-    }
-    count_spaces(bytes)
 }
 
 /// Returns what follows the first semicolon, or an empty rest. Most rests begin with it, or are empty.
@@ -143,12 +126,23 @@ fn cut_value<'a>(list: usize, name: &'a str, end: &Rest<'a>) -> Pair<'a>
     }
 }
 
-/// Returns a list without the spaces with which it begins.
+/// Returns a list without the spaces and tabs with which it begins. Each way returns a rest, so that no number is added where they would
+/// join.
 #[inline(always)]
 fn without_spaces<'a>(list: &Rest<'a>) -> Rest<'a>
     ensures { result ≡ without_spaces list.now }
 {
-    list.after(leading_spaces(list.text()))
+    let bytes = list.text().as_bytes();
+    if bytes.len() > 1 {
+        if bytes[0] > b' ' {
+            return list.after(0);
+        }
+        // Most lists begin with one space.
+        if bytes[0] == b' ' && bytes[1] > b' ' {
+            return list.after(1);
+        }
+    }
+    list.after(count_spaces(bytes))
 }
 
 /// Cuts the first name off a list, with the spaces before it: returns the name, and what follows its equals sign.
@@ -174,7 +168,9 @@ fn cut_name_of_size<'a>(list: &Rest<'a>, size: usize) -> Option<(&'a str, Rest<'
         if bytes[size] != b'=' {
             return None;
         }
-    } else if size != bytes.len() {
+        return Some(list.split_around(size));
+    }
+    if size != bytes.len() {
         return None;
     }
     Some(list.split_around(size))
@@ -277,6 +273,17 @@ impl<'a> Model for Pairs<'a> {
 }
 
 impl<'a> Pairs<'a> {
+    /// Returns no pair.
+    #[inline(always)]
+    pub(crate) fn none() -> Pairs<'a>
+        ensures { result ≡ [] }
+    {
+        Pairs {
+            list: Rest::of("", 0),
+            left: 0,
+        }
+    }
+
     /// Returns the first `count` pairs after a string's semicolon, or no pair if it has no semicolon.
     #[inline(always)]
     pub(crate) fn of_text(text: &'a str, semicolon: Option<usize>, count: usize) -> Pairs<'a>

@@ -1,6 +1,6 @@
 //! A short kept text, which is stored in the value itself: to make, clone and drop it doesn't allocate.
 
-ghost use Rattle.std.specs.Prelude.{◌≡◌, ◌<◌, ◌≤◌, ◌-◌, IfSome, None, Some, IsUtf8, length, take, drop, slice_get, replicate};
+ghost use Rattle.std.specs.Prelude.{◌≡◌, ◌↔◌, ◌<◌, ◌≤◌, ◌-◌, IfSome, None, Some, IsUtf8, length, take, drop, slice_get, replicate};
 ghost use Rattle.mime_search.specs.Differences.{DifferAt};
 ghost use Rattle.mime.specs.Bytes.{semicolon_byte};
 ghost use Rattle.mime.specs.Values.{lowered};
@@ -88,6 +88,7 @@ impl ShortText {
     #[inline(always)]
     pub(crate) fn first_difference(&self, other: &ShortText) -> Option<usize>
         ensures same { result ≡ None → self.now ≡ other.now }
+        ensures none { self.now ≡ other.now → result ≡ None }
         ensures differ { IfSome result (λ at. at < length self.now → at < length other.now → DifferAt self.now other.now 0 at) }
     {
         let (bytes, others) = (&self.bytes, &other.bytes);

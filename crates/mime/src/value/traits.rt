@@ -1,6 +1,6 @@
 //! Media types compared, hashed, cloned and printed.
 
-ghost use Rattle.std.specs.Prelude.{◌≡◌, ◌↔◌, IfSome, IsTrue, Some, true, refl};
+ghost use Rattle.std.specs.Prelude.{◌≡◌, ◌↔◌, IfSome, IsTrue, Some, true, length, refl};
 ghost use Rattle.std.specs.Cmp.{partial_equiv_from_equiv, partial_order_from_total, on_equiv, on_total, eq_by_cmp_equiv};
 ghost use Rattle.std.specs.Fmt.{debug_str, styled_text};
 ghost use Rattle.std.specs.Cmp.Lexicographic.{slice_cmp};
@@ -26,6 +26,36 @@ fn same_parts(first: &Mime, second: &Mime) -> bool
     first.essence_str() == second.essence_str() && first.pairs().eq(second.pairs())
 }
 
+/// Returns `true` if two values have the same kept text. If both lie in their `Mime`, no text is searched for its end.
+#[inline(always)]
+fn have_same_text(first: &Mime, second: &Mime) -> bool
+    ensures same { IsTrue result → Same first.now.media second.now.media }
+    ensures bare { length first.now.media.pairs ≡ 0 → Same first.now.media second.now.media → IsTrue result }
+{
+    match &first.text {
+        Text::Owned(_) => {}
+        Text::Short(text) => match &second.text {
+            Text::Owned(_) => {}
+            Text::Short(other) => return text.first_difference(other).is_none(),
+        },
+    }
+    first.as_str() == second.as_str()
+}
+
+/// Returns `true` if two values have the same kept text, and neither has it in its `Mime`.
+#[inline(always)]
+fn have_same_owned_text(first: &Mime, second: &Mime) -> bool
+    ensures { IsTrue result → Same first.now.media second.now.media }
+{
+    match &first.text {
+        Text::Owned(text) => match &second.text {
+            Text::Owned(other) => text.as_str() == other.as_str(),
+            Text::Short(_) => false,
+        },
+        Text::Short(_) => false,
+    }
+}
+
 /// Compares the parameters of two values. It isn't inlined, like `same_parts`.
 #[inline(never)]
 fn order_pairs(first: &Mime, second: &Mime) -> Ordering
@@ -41,8 +71,14 @@ fn order_pairs(first: &Mime, second: &Mime) -> Ordering
 fn order_short(first: &Mime, second: &Mime) -> Option<Ordering>
     ensures { IfSome result (λ order. order ≡ media_cmp first.now.media second.now.media) }
 {
-    let (Text::Short(text), Text::Short(other)) = (&first.text, &second.text) else {
-        return None;
+    // Each test of a text's form is such a `match`, so that the compiler sees that a later one asks the same.
+    let text = match &first.text {
+        Text::Owned(_) => return None,
+        Text::Short(text) => text,
+    };
+    let other = match &second.text {
+        Text::Owned(_) => return None,
+        Text::Short(other) => other,
     };
     let Some(at) = text.first_difference(other) else {
         // Equal texts are equal values.
@@ -68,15 +104,15 @@ impl PartialEq for Mime {
         ensures computed { result ≡ eq_by_cmp media_cmp self.now.media other.now.media }
         ensures same { IsTrue result ↔ Same self.now.media other.now.media }
     {
-        // Essences of different lengths differ, and so do lists of different lengths. This is found without a look at the texts.
-        if self.essence_str().len() != other.essence_str().len() {
-            return false;
-        }
+        // Lists of different lengths differ, and so do essences of different lengths. This is found without a look at the texts.
         if self.param_count() != other.param_count() {
             return false;
         }
+        if self.essence_str().len() != other.essence_str().len() {
+            return false;
+        }
         // Equal texts are equal values.
-        if self.as_str() == other.as_str() {
+        if have_same_text(self, other) {
             return true;
         }
         // Without parameters the kept text is the essence, and the essences differ.
@@ -122,16 +158,16 @@ impl Ord for Mime {
         if let Some(order) = order_short(self, other) {
             return order;
         }
-        // Equal texts are equal values.
-        if self.essence_end == other.essence_end && self.as_str() == other.as_str() {
+        if self.essence_end == other.essence_end && have_same_owned_text(self, other) {
             return Ordering::Equal;
         }
         let order = self.essence_str().cmp(other.essence_str());
         if order.is_ne() {
             return order;
         }
-        if self.param_count() == 0 && other.param_count() == 0 {
-            return Ordering::Equal;
+        // None are fewer than some, and come first.
+        if self.param_count() == 0 || other.param_count() == 0 {
+            return self.param_count().cmp(&other.param_count());
         }
         order_pairs(self, other)
     }

@@ -4,7 +4,6 @@ use Rattle.std.specs.Prelude.{◌==◌, not}
 use Rattle.std.proofs.lemmas.List.Sums.{prefix_len-le-length}
 use Rattle.mime.specs.Bytes.{equals_byte}
 use Rattle.mime.proofs.ValueLemmas.Pairs.{first_equals-le, first_equals-other}
-use Rattle.mime.proofs.value.pairs.cut_name_of_size.Goals.{then-size-bytes+else-bytes-size-ne61, else-size-bytes+else-size-bytes-2}
 use Rattle.mime.proofs.value.pairs.cut_name_of_size.Goals as goal
 
 pub returns-then-size-bytes-2-clause-other : goal.returns-then-size-bytes-2-clause-other
@@ -19,13 +18,13 @@ returns-then-bytes-size-ne61-clause-other c = λ _.
     first_equals-other c.args.list.now c.args.size (omega (arith, c.if-size-bytes.true, ap length bytes))
     (λ is. c.if-bytes-size-ne61.true (ap (λ t. get_or t c.args.size 0) bytes ∙ is))
 
+pub returns-then-size-bytes-clause-least : goal.returns-then-size-bytes-clause-least
+returns-then-size-bytes-clause-least c =
+    let bytes = c.as_bytes-bytes.ensures.value ∙ c.text.ensures in
+    first_equals-le c.args.list.now c.args.size (subst (λ t. get_or t c.args.size 0 ≡ equals_byte) bytes c.if-bytes-size-ne61.false)
+
 pub returns-clause-least : goal.returns-clause-least
 returns-clause-least c =
     let body = c.args.list.now in
     let bytes = c.as_bytes-bytes.ensures.value ∙ c.text.ensures in
-    elim c.if-size-bytes.branch [
-      | then-size-bytes+else-bytes-size-ne61 w ↦
-          first_equals-le body c.args.size (subst (λ t. get_or t c.args.size 0 ≡ equals_byte) bytes w.if-bytes-size-ne61.false)
-      | else-size-bytes+else-size-bytes-2 w ↦
-          omega (arith, w.if-size-bytes-2.false, ap length bytes, prefix_len-le-length (λ b. not (b == equals_byte)) body)
-    ]
+    omega (arith, c.if-size-bytes-2.false, ap length bytes, prefix_len-le-length (λ b. not (b == equals_byte)) body)

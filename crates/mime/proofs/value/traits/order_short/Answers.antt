@@ -10,16 +10,16 @@ use Rattle.mime.proofs.ValueLemmas.Parts.{same_from_text}
 use Rattle.mime.proofs.ValueLemmas.Traits.{equal-media, ordered_by_essence, differ_in_beginnings}
 use Rattle.mime.proofs.value.traits.order_short.Goals as goal
 
-pub returns-in_default-first_difference : goal.returns-in_default-first_difference
-returns-in_default-first_difference c =
-    let texts = c.in_default-first_difference.ensures.same refl in
+pub returns-in_default : goal.returns-in_default
+returns-in_default c =
+    let texts = c.in_default.ensures.same refl in
     let text = bytes_of c.first.inside.text in
     let other = bytes_of c.second.inside.text in
     let first = media_of text (positions_at c.first.inside.places c.first.inside.essence_end) in
     let second = media_of other (positions_at c.second.inside.places c.second.inside.essence_end) in
     rw (← c.first.view_is, ← c.second.view_is) (sym (equal-media first second (same_from_text text other first second
     (reads-from_kept text _ c.first.invariant.kept) (reads-from_kept other _ c.second.invariant.kept)
-    (ap bytes_of c.in-Short-Short.is-0 ∙ texts ∙ sym (ap bytes_of c.in-Short-Short.is-1)))))
+    (ap bytes_of c.in-Short.is ∙ texts ∙ sym (ap bytes_of c.in-Short-text.is)))))
 
 pub returns-then-at-other_essence : goal.returns-then-at-other_essence
 returns-then-at-other_essence c =
@@ -32,8 +32,8 @@ returns-then-at-other_essence c =
     let also : at < length second.essence = subst (λ text. at < length text) other c.if-at-other_essence.true in
     let here = subst (λ mime. at < length mime.media.essence) (sym c.first.view_is) within in
     let there = subst (λ mime. at < length mime.media.essence) (sym c.second.view_is) also in
-    let is = ap bytes_of c.in-Short-Short.is-0 in
-    let other_is = ap bytes_of c.in-Short-Short.is-1 in
+    let is = ap bytes_of c.in-Short.is in
+    let other_is = ap bytes_of c.in-Short-text.is in
     let text = bytes_of c.first.inside.text in
     let others = bytes_of c.second.inside.text in
     let end = unwrap_or (positions_at c.first.inside.places c.first.inside.essence_end).semicolon (length text) in

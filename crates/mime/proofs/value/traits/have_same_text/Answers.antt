@@ -1,0 +1,36 @@
+-- One text is read as one value.
+use Rattle.std.proofs.Common.{ℕ, Option, None, Some, refl, sym, ap, ◌∙◌, ◌≡◌, false, true≢false}
+use Rattle.std.specs.Prelude.{is_some, not}
+use Rattle.std.proofs.lemmas.Slice.Eq.{bytes_eq-Decides}
+use Rattle.std.specs.Cmp.Lexicographic.{same_text}
+use Rattle.mime.specs.Inner.KeptBytes.{bytes_of}
+use Rattle.mime.specs.Inner.KeptText.{media_of}
+use Rattle.mime.specs.Inner.KeptPlaces.{positions_at}
+use Rattle.mime.proofs.ValueLemmas.KeptText.{reads-from_kept}
+use Rattle.mime.proofs.ValueLemmas.Parts.{same_from_text, kept-bare}
+use Rattle.mime.proofs.value.traits.have_same_text.Goals as goal
+
+-- what isn't some is none
+none : (found : Option ℕ) → is_some found ≡ false → found ≡ None
+none None is = refl
+none (Some at) is = absurd (true≢false is)
+
+pub returns-clause-same : goal.returns-clause-same
+returns-clause-same c = λ is. same_from_text _ _ c.args.first.now.media c.args.second.now.media c.as_str.ensures.reads c.as_str-2.ensures.reads
+    (same_text _ _ (sym is ∙ c.eq.ensures))
+
+pub returns-clause-bare : goal.returns-clause-bare
+returns-clause-bare c = λ none same.
+    let kept = kept-bare _ _ c.args.first.now.media c.args.second.now.media c.as_str.ensures.reads c.as_str-2.ensures.reads none same in
+    c.eq.ensures ∙ (bytes_eq-Decides _ _).1 (c.as_str.ensures.text ∙ kept ∙ sym c.as_str-2.ensures.text)
+
+pub returns-in-Short-text-clause-same : goal.returns-in-Short-text-clause-same
+returns-in-Short-text-clause-same c = λ is.
+    let text = bytes_of c.first.inside.text in
+    let other = bytes_of c.second.inside.text in
+    let first = media_of text (positions_at c.first.inside.places c.first.inside.essence_end) in
+    let second = media_of other (positions_at c.second.inside.places c.second.inside.essence_end) in
+    rw (← c.first.view_is, ← c.second.view_is) (same_from_text text other first second
+    (reads-from_kept text _ c.first.invariant.kept) (reads-from_kept other _ c.second.invariant.kept)
+    (ap bytes_of c.in-Short.is ∙ c.first_difference.ensures.same (none c.first_difference.result (c.is_none.ensures ∙ ap not is))
+    ∙ sym (ap bytes_of c.in-Short-text.is)))
