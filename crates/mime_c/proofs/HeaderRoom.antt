@@ -7,7 +7,7 @@ use Rattle.mime.specs.Bytes.{comma_byte}
 use Rattle.mime.specs.HeaderLaws.{IsSafePair}
 use Rattle.mime.specs.Laws.{without_parameters}
 use Rattle.mime.specs.Values.{MediaType, Reads, lowered, lowered_value}
-use Rattle.mime.proofs.HandedOut.{length-lowered, lowered_value-either}
+use Rattle.mime.proofs.HandedOut.{length-lowered}
 use Rattle.mime.proofs.LawsLemmas.Written.{essence_is_read, kept_is_safe}
 use Rattle.mime_http.specs.HttpMediaType.{IsHttpParameter, with_token, with_string, AreHttpParameters, no_more, semicolon, semicolon_and, HttpReads}
 use Rattle.mime_http.specs.HttpList.{trimmed, IsPrinted, as_it_stands, anew, AreBetweenCommas, no_line, line_end, comma, AreSorted, no_text, blank, a_range, a_bad, Header, IsHeader}
@@ -16,6 +16,7 @@ use Rattle.mime_http.specs.Written.{is_token_value, quote_of, text_of_pair, text
 use Rattle.mime_http.proofs.Around.{white_around}
 use Rattle.mime_http.proofs.ReadAnew.{written_reads}
 use Rattle.mime_http.proofs.ReadForth.{http_is_answered}
+use Rattle.mime_http.proofs.Written.{length-lowered_value}
 use Rattle.mime_c.specs.Strings.{string_of, strings, ComeBack, pair_texts, parts_of, texts_of}
 use Rattle.mime_c.specs.HeaderAnswers.{range_texts, ranges_texts}
 use Rattle.mime_c.proofs.NoZero.{HasNoZero, come_back, no_zero-read, no_zero-pairs}
@@ -58,9 +59,6 @@ kept_pairs test ((name, value) ∷ pairs) (is, are) =
 filter_all : (pairs : List (List ℕ × List ℕ)) → filter (λ pair. true) pairs ≡ pairs
 filter_all [] = refl
 filter_all (pair ∷ pairs) = ap (λ rest. pair ∷ rest) (filter_all pairs)
-
-length-lowered_value : (name value : List ℕ) → length (lowered_value name value) ≡ length value
-length-lowered_value name value = lowered_value-either (λ it. length it ≡ length value) name value refl (length-lowered value)
 
 -- ---- the media type of a value
 

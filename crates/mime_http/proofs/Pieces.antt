@@ -1,5 +1,5 @@
 -- A line's first piece: bytes without a mark go on with it, and a comma outside strings ends it.
-use Rattle.mime_http.proofs.Common.{AreUnmarked, At, after, Bool, List, Outside, [], ap, append-nil, append_assoc, ap₂, arith, cond, cut, cut_after, cut_from, drop, drop-drop, drop_more, eq-eqb, false, get_or, get_or-drop, get_or_past, is_mark, length, length-drop, min, nat_tests, not, prefix_len, prefix_len-le-length, refl, suc, sym, take, true, zero, ℕ, ◌&&◌, ◌++◌, ◌+◌, ◌-◌, ◌<◌, ◌==◌, ◌∙◌, ◌∷◌, ◌≡◌, ◌≤◌, Equals, Paired, IsNextMark, IsNextOutside, piece_len, position_or_len, fails_before_first, passes_at_first}
+use Rattle.mime_http.proofs.Common.{before_mark, At, after, Bool, List, Outside, [], ap, append-nil, append_assoc, ap₂, arith, cond, cut, cut_after, cut_from, drop, drop-drop, drop_more, eq-eqb, false, get_or, get_or-drop, get_or_past, is_mark, length, length-drop, min, nat_tests, not, prefix_len, prefix_len-le-length, refl, suc, sym, take, true, zero, ℕ, ◌&&◌, ◌++◌, ◌+◌, ◌-◌, ◌<◌, ◌==◌, ◌∙◌, ◌∷◌, ◌≡◌, ◌≤◌, Equals, Paired, IsNextOutside, piece_len, position_or_len, fails_before_first, passes_at_first}
 use Rattle.mime_search.{specs.Classes.is_stop, specs.Classes.end_of_run, specs.Quoted.awaits_next, specs.Quoted.len_from, specs.declared.class.Class.Class}
 use Rattle.mime_http.specs.LineCut.{Quoted}
 
@@ -21,27 +21,7 @@ outside_byte line at within on opens =
     let next = get_or-drop (at + 1) line 0 0 ∙ ap (λ i. get_or line i 0) {y = at + 1} (omega arith) in
     grind (arith, nat_tests, drop_more line at 0 within, on, opens, next, no_quote_next (drop (at + 1) line))
 
--- and more of them
-outside_bytes : (line : List ℕ) (from n to : ℕ) → to ≡ from + n → to ≤ length line
-    → ((k : ℕ) → from ≤ k → k < to
-    → ((get_or line k 0 == 44) ≡ false) × ((get_or line k 0 == 61 && get_or line (k + 1) 0 == 34) ≡ false))
-    → end_on Outside line to ≡ end_on Outside line from
-outside_bytes line from zero to is within plain = ap (end_on Outside line) (omega (arith, is))
-outside_bytes line from (suc n) to is within plain =
-    let here = plain (from + n) (omega arith) (omega (arith, is)) in
-    ap (end_on Outside line) (omega (arith, is)) ∙ (outside_byte line (from + n) (omega (arith, is, within)) here.0 here.1
-    ∙ outside_bytes line from n (from + n) refl (omega (arith, is, within)) (λ k least most. plain k least (omega (arith, is, most))))
-
--- such are those before the next comma or quote, if no quote is next,
-pub outside_at : (line : List ℕ) (from to : ℕ) → from ≤ to → to ≤ length line → AreUnmarked 44 34 line from to
-    → (get_or line to 0 == 34) ≡ false → end_on Outside line to ≡ end_on Outside line from
-outside_at line from to least within unmarked other =
-    outside_bytes line from (to - from) to (omega (arith, least)) within (λ k first last.
-    let no = unmarked k first last in
-    let next = λ (less : k + 1 < to). unmarked (k + 1) (omega (arith, first)) less in
-    (grind (arith, nat_tests, no), grind (arith, nat_tests, last, other, next)))
-
--- a comma outside strings ends the piece, and so does the line's end,
+-- a comma outside strings ends the piece, and so does the line's end
 pub ends_outside : (line : List ℕ) (at : ℕ) → (at < length line → get_or line at 0 ≡ 44) → end_on Outside line at ≡ at
 ends_outside line at comma =
     ap (λ n. at + n) (by (drop at line) (λ more. get_or-drop at line 0 0 ∙ (ap (λ i. get_or line i 0) (omega arith)
@@ -51,12 +31,26 @@ ends_outside line at comma =
     by [] comma = refl
     by (b ∷ rest) comma = let end : (b == 44) ≡ true = eq-eqb b 44 (comma (omega arith)) in rw end refl
 
--- so the bytes before a comma, without a quote before it, are a piece
-pub piece_from : {line : List ℕ} {from to : ℕ} → IsNextMark 44 34 line from to → (to < length line → (get_or line to 0 == 34) ≡ false)
-    → to ≡ end_on Outside line from
-piece_from {line} {from} {to} mark other =
-    sym (ends_outside line to (grind (arith, nat_tests, mark.mark, other)))
-    ∙ outside_at line from to mark.least mark.within mark.unmarked (grind (arith, nat_tests, other, get_or_past line to 0))
+-- bytes before the first comma or quote, but for the last of them, go on with a piece,
+pub run_to : (bytes : List ℕ) (n : ℕ) → n < before_mark 44 34 bytes → n + piece_len Outside (drop n bytes) ≡ piece_len Outside bytes
+run_to bytes zero less = omega arith
+run_to [] (suc n) less = absurd (omega (arith, less))
+run_to (b ∷ []) (suc n) less = grind (arith, nat_tests, less)
+run_to (b ∷ c ∷ bytes) (suc n) less = grind (arith, nat_tests, less, run_to (c ∷ bytes) n)
+
+-- and all of them are a piece, if no quote is next
+pub piece_to : (bytes : List ℕ) → (get_or bytes (before_mark 44 34 bytes) 0 == 34) ≡ false → before_mark 44 34 bytes ≡ piece_len Outside bytes
+piece_to [] other = refl
+piece_to (b ∷ []) other = grind (arith, nat_tests, other)
+piece_to (b ∷ c ∷ bytes) other = grind (arith, nat_tests, other, piece_to (c ∷ bytes))
+
+-- bytes before the first comma or equals sign go on with a piece
+run_outside : (bytes : List ℕ)
+    → before_mark 44 61 bytes + piece_len Outside (drop (before_mark 44 61 bytes) bytes) ≡ piece_len Outside bytes
+run_outside [] = omega arith
+run_outside (b ∷ bytes) =
+    let longer : 1 + before_mark 44 61 bytes ≡ suc (before_mark 44 61 bytes) = omega arith in
+    grind (arith, nat_tests, longer, run_outside bytes)
 
 -- ---- strings
 
@@ -86,39 +80,24 @@ string_closed line from to within is =
 
 -- ---- the next mark
 
--- a search that stops at two marks finds the next one
-pub next_mark : (class : Class) (one other : ℕ) → ((b : ℕ) → is_stop class b ≡ is_mark one other b) → (line : List ℕ) (from to : ℕ)
-    → from ≤ length line → to ≡ end_of_run class line from → IsNextMark one other line from to
-next_mark class one other are line from to within is =
+-- a search that stops at two marks finds the first of them,
+pub mark_found : (class : Class) (one other : ℕ) → ((b : ℕ) → is_stop class b ≡ is_mark one other b) → (line : List ℕ) (from to : ℕ)
+    → to ≡ end_of_run class line from → to ≡ from + before_mark one other (drop from line)
+mark_found class one other are line from to is = is ∙ (λ i. from + prefix_len (λ b. not (are b i)) (drop from line))
+
+-- and up to a comma or an equals sign a piece goes on outside strings
+pub outside_next : (line : List ℕ) (from to : ℕ) → from ≤ length line → to ≡ from + before_mark 44 61 (drop from line)
+    → IsNextOutside line from to
+outside_next line from to within is =
     let rest = drop from line in
-    let there : to ≡ from + position_or_len (is_mark one other) rest = is ∙ (λ i. from + prefix_len (λ b. not (are b i)) rest) in
+    let n = before_mark 44 61 rest in
     let long = length-drop from line in
     record {
-      least = omega (arith, there);
-      within = omega (arith, there, within, long, prefix_len-le-length (λ b. not (is_mark one other b)) rest);
-      unmarked = λ k first last.
-          let back : k ≡ from + (k - from) = omega (arith, first) in
-          rw (back, sym (get_or-drop from line (k - from) 0))
-          (fails_before_first (is_mark one other) rest (k - from) 0 (omega (arith, there, first, last)));
-      mark = λ more. rw (there, sym (get_or-drop from line (position_or_len (is_mark one other) rest) 0))
-          (passes_at_first (is_mark one other) rest 0 (omega (arith, there, more, long)));
+      least = omega (arith, is);
+      within = omega (arith, is, within, long, prefix_len-le-length (λ b. not (is_mark 44 61 b)) rest);
+      left = rw (is, sym (drop-drop n from line)) (omega (arith, run_outside rest));
+      mark = λ more. rw (is, sym (get_or-drop from line n 0)) (passes_at_first (is_mark 44 61) rest 0 (omega (arith, is, more, long)));
     }
-
--- up to the next comma or equals sign a piece goes on outside strings
-pub outside_next : {line : List ℕ} {from to : ℕ} → IsNextMark 44 61 line from to → IsNextOutside line from to
-outside_next {line} {from} {to} mark = record {
-  least = mark.least;
-  within = mark.within;
-  left = outside_bytes line from (to - from) to (omega (arith, mark.least)) mark.within (λ k first last.
-      let no = mark.unmarked k first last in (grind (arith, nat_tests, no), grind (arith, nat_tests, no)));
-  mark = mark.mark;
-}
-
--- bytes without a mark are so from a position on
-pub unmarked_from : (line : List ℕ) (from to : ℕ) → from ≤ to → AreUnmarked 44 34 line from to
-    → AreUnmarked 44 34 (drop from line) 0 (to - from)
-unmarked_from line from to least plain =
-    λ k first last. rw (get_or-drop from line k 0) (plain (from + k) (omega arith) (omega (arith, last, least)))
 
 -- ---- the cut
 

@@ -5,7 +5,7 @@ ghost use Rattle.std.specs.Str.{IsAscii};
 ghost use Rattle.mime.specs.Bytes.{comma_byte, quote_byte};
 ghost use Rattle.mime.specs.Grammar.{is_space};
 ghost use Rattle.mime_http.specs.HttpList.{trim_start, trim_end};
-ghost use Rattle.mime_http.specs.LineCut.{Outside, Quoted, AreUnmarked, IsNextOutside, piece_len};
+ghost use Rattle.mime_http.specs.LineCut.{Outside, Quoted, IsNextOutside, before_mark, piece_len};
 
 use mime_search::{BLOCK, Class, content_end, first_stop};
 use std::simd::prelude::*;
@@ -42,7 +42,7 @@ fn string_end(line: &[u8], from: usize) -> usize
 #[tactic(auto, using(crate::proofs::Pieces::ends_outside, crate::proofs::Pieces::string_opens, crate::proofs::Pieces::outside_byte))]
 fn quoted_piece_len(line: &[u8], quote: usize) -> usize
     requires within { quote ≤ length line.now }
-    requires unmarked { AreUnmarked comma_byte quote_byte line.now 0 quote }
+    requires unmarked { quote ≡ before_mark comma_byte quote_byte line.now }
     ensures within { result ≤ length line.now }
     ensures piece { result ≡ piece_len Outside line.now }
 {
