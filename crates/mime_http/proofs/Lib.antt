@@ -5,17 +5,14 @@ pub mod Common
 pub mod Contents
 pub mod Cuts
 pub mod Demanded
-pub mod Forms
 pub mod Highest
 pub mod HttpFacts
 pub mod HttpLaws
 pub mod HttpText
 pub mod Lists
-pub mod Meanings
 pub mod NegotiationFacts
 pub mod Numbers
 pub mod Order
-pub mod Picked
 pub mod Pieces
 pub mod PlainIsHttp
 pub mod RangesFacts

@@ -88,15 +88,14 @@ module _ {keeps_bad : Bool} where
   pub rest_left : (some : List (List ℕ)) {old now new : Header} {all rest : List (List ℕ)} → AreLeft keeps_bad old now all (some ++ rest)
       → Takes keeps_bad some now new → AreLeft keeps_bad old new all rest
   rest_left some {rest = rest} left taken = record {
-    takes = λ last others. left.takes last (λ before held.
-        subst (λ pieces. AreKept keeps_bad pieces last) (append_assoc before some rest) (others (before ++ some) (taken before held)));
+    takes = λ last others.
+        left.takes last (λ before held. rw (sym (append_assoc before some rest)) (others (before ++ some) (taken before held)));
     nothing = λ sorted. (both_are_nothing some (left.nothing sorted)).1;
   }
 
   -- and at last none
   pub all_taken : {old now : Header} {all : List (List ℕ)} → AreLeft keeps_bad old now all [] → Takes keeps_bad all old now
-  all_taken {now = now} left =
-      left.takes now (λ before held. subst (λ pieces. AreKept keeps_bad pieces now) (sym (append-nil before)) held)
+  all_taken {now = now} left = left.takes now (λ before held. rw (append-nil before) held)
 
   -- what is kept if all pieces of the lines were taken is their header
   pub header_taken : (lines : List (List ℕ)) {now : Header} → AreLeft keeps_bad nothing now (flat_map cut (lines_or_any lines)) []

@@ -67,7 +67,7 @@ pub fn bad_is_alone()
 {}
 
 /// The closest range covers the offer, and no other that covers it is closer.
-#[tactic(auto, using(crate::proofs::Picked::closest_is_closest))]
+#[tactic(auto, using(crate::proofs::Highest::closest_is_closest))]
 pub fn closest_is_closest()
     ensures { ClosestIsClosest }
 {}
@@ -91,14 +91,14 @@ pub fn best_is_first()
 {}
 
 /// Each media type covers itself: `a/b;p=1;p=2`, too.
-#[tactic(auto, using(crate::proofs::Meanings::covers_itself))]
+#[tactic(auto, using(crate::proofs::Demanded::covers_itself))]
 pub fn covers_itself()
     ensures { CoversItself }
 {}
 
 /// How closely a range covers an offer is a matter of what both mean: `a/b;p="\x"` covers `a/b;p=x` as closely as `a/b;p=x` does (RFC 9110,
 /// 5.6.4).
-#[tactic(auto, using(crate::proofs::Meanings::meaning_counts))]
+#[tactic(auto, using(crate::proofs::Demanded::meaning_counts))]
 pub fn meaning_counts()
     ensures { MeaningCounts }
 {}

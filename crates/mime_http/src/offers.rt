@@ -110,7 +110,7 @@ impl Closest {
 
 /// How closely the closest of these ranges covers an offer.
 #[inline(always)]
-#[tactic(auto, using(crate::proofs::Picked::closest_is_kept))]
+#[tactic(auto, using(crate::proofs::Highest::closest_is_kept))]
 fn closest_of(ranges: &[Mime], offer: &Mime) -> Option<(u8, usize, u16, usize)>
     ensures { result ≡ closest (map (λ range. range.media) ranges.now) offer.now.media }
 {

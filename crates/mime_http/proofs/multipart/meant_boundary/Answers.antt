@@ -3,13 +3,6 @@ use Rattle.mime_http.proofs.Common.{IsBoundary, arith, contains_char, rules, sub
 use Rattle.mime_http.proofs.{Contents.boundary_means_itself, Contents.length-unescaped, Contents.unescaped_same, multipart.meant_boundary.Goals.then-bytes-via-then-bytes, multipart.meant_boundary.Goals.then-bytes-via-else-bytes+then-not-contains}
 use Rattle.mime_http.proofs.multipart.meant_boundary.Goals as goal
 
-pub returns-then-is_boundary : goal.returns-then-is_boundary
-returns-then-is_boundary c =
-    let is : IsBoundary c.args.value.now = search rules in
-    let same = boundary_means_itself c.args.value.now is in
-    let copied : vec_items c.in_ok-to_vec.field-0 ≡ c.args.value.now = search rules in
-    (copied ∙ sym same, subst IsBoundary (sym same) is)
-
 pub returns-then-bytes : goal.returns-then-bytes
 returns-then-bytes c = λ is.
     let value = c.args.value.now in
