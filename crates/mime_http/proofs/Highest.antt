@@ -120,8 +120,6 @@ module _ {all : List Rank} {at : ℕ} {most : Rank} {best : Option ℕ} (is : Is
       absurd (grind (arith, nat_tests, low, place.there, place.before j less))))
       (λ within. ap (is_best all) place.there ∙ and_from _ _ weighs none_above))
 
--- ---- the closest range
-
 -- ---- the highest of ranks
 
 -- a rank is one of all, and none is above it

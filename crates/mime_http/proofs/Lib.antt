@@ -13,7 +13,6 @@ pub mod Lists
 pub mod NegotiationFacts
 pub mod Numbers
 pub mod Order
-pub mod Pieces
 pub mod PlainIsHttp
 pub mod RangesFacts
 pub mod ReadAnew

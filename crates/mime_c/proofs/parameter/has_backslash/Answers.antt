@@ -4,7 +4,7 @@ use Rattle.std.proofs.lemmas.Bool.Decides.{nat_tests}
 use Rattle.std.proofs.lemmas.List.Sums.{fails_before_first}
 use Rattle.mime_http.specs.LineCut.{is_mark}
 use Rattle.mime_http.proofs.Contents.{unescaped_same}
-use Rattle.mime_http.proofs.Pieces.{mark_found}
+use Rattle.mime_http.proofs.Cuts.{mark_found}
 use Rattle.mime_c.proofs.parameter.has_backslash.Goals as goal
 
 pub returns : goal.returns

@@ -1,6 +1,6 @@
 -- A search finds the next mark.
 use Rattle.mime_http.proofs.Common.{arith}
-use Rattle.mime_http.proofs.Pieces.{mark_found, outside_next}
+use Rattle.mime_http.proofs.Cuts.{mark_found, outside_next}
 use Rattle.mime_http.proofs.list.next_outside.Goals as goal
 
 pub returns : goal.returns

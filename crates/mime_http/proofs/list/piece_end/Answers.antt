@@ -1,6 +1,6 @@
 -- Before a comma that is the first mark, or to the end.
 use Rattle.mime_http.proofs.Common.{arith, before_mark, common_steps, drop, false, get_or, get_or-drop, sym, take_rest, ◌==◌, ◌≡◌}
-use Rattle.mime_http.proofs.Pieces.{mark_found, piece_to}
+use Rattle.mime_http.proofs.Cuts.{mark_found, piece_to}
 use Rattle.mime_http.proofs.list.piece_end.Goals as goal
 
 pub quoted_piece_len-requires-clause-unmarked : goal.quoted_piece_len-requires-clause-unmarked
