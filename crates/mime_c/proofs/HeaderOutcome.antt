@@ -11,7 +11,6 @@ use Rattle.mime_http.specs.HttpMediaType.{HttpReads, IsHttpMediaType}
 use Rattle.mime_http.specs.HttpList.{trimmed, IsPrinted, as_it_stands, anew, lines_or_any, AreSorted, no_text, blank, a_range, a_bad, Header, IsHeader}
 use Rattle.mime_http.specs.Ranges.{best_offer}
 use Rattle.mime_http.specs.Reader.{Answer, read, rejected, answer_of, media_of}
-use Rattle.mime_http.specs.Unescaped.{unescaped}
 use Rattle.mime_http.proofs.Around.{reads_around}
 use Rattle.mime_http.proofs.Cuts.{one_cut}
 use Rattle.mime_http.proofs.PlainIsHttp.{plain_is_http}

@@ -231,8 +231,13 @@ form_text name value =
 pub last_written : (name value essence text : List ℕ) (pairs : List (List ℕ × List ℕ)) (form : Form) → text ≡ essence ++ text_of_pairs pairs
     → form ≡ form_of value → text ++ text_in form name value ≡ essence ++ text_of_pairs (pairs ++ ((name, escaped value) ∷ []))
 last_written name value essence text pairs form is fits =
-    rw (is, fits, form_text name value, flat_map-append text_of_pair pairs ((name, escaped value) ∷ []),
-    append-nil (text_of_pair (name, escaped value))) (append_assoc essence (text_of_pairs pairs) (text_of_pair (name, escaped value)))
+    rw (
+      is,
+      fits,
+      form_text name value,
+      flat_map-append text_of_pair pairs ((name, escaped value) ∷ []),
+      append-nil (text_of_pair (name, escaped value)),
+    ) (append_assoc essence (text_of_pairs pairs) (text_of_pair (name, escaped value)))
 
 -- how a token and a boundary are written
 pub ruleset token_written = (safe_text, plain_text, token_text, token_from_test)

@@ -1,5 +1,5 @@
 -- The bytes before the quote lead outside strings, each search goes on there, and a string is left at its end.
-use Rattle.mime_http.proofs.Common.{arith, nat_tests, ◌-◌, ◌∙◌, ◌≡◌}
+use Rattle.mime_http.proofs.Common.{arith, ◌-◌, ◌≡◌}
 use Rattle.mime_http.proofs.{Cuts.run_to, list.quoted_piece_len.Goals.then-quote-gt0, list.quoted_piece_len.Goals.else-quote-gt0}
 use Rattle.mime_http.proofs.list.quoted_piece_len.Goals as goal
 
