@@ -7,10 +7,10 @@ use Rattle.mime.specs.Bytes.{comma_byte}
 use Rattle.mime.specs.HeaderLaws.{IsSafePair}
 use Rattle.mime.specs.Laws.{without_parameters}
 use Rattle.mime.specs.Values.{MediaType, Reads, lowered, lowered_value}
-use Rattle.mime.proofs.HandedOut.{length-lowered, lowered_value-either, essence_is_read, kept_is_safe, token-size}
+use Rattle.mime.proofs.HandedOut.{length-lowered, essence_is_read, kept_is_safe, token-size}
 use Rattle.mime_http.specs.HttpMediaType.{IsHttpParameter, with_token, with_string, AreHttpParameters, no_more, semicolon, semicolon_and, HttpReads}
 use Rattle.mime_http.specs.HttpList.{trimmed, IsPrinted, as_it_stands, anew, AreBetweenCommas, no_line, line_end, comma, AreSorted, no_text, blank, a_range, a_bad, Header, IsHeader}
-use Rattle.mime_http.proofs.HandedOut.{text_of_parts, white_around, written_reads, http_is_answered}
+use Rattle.mime_http.proofs.HandedOut.{text_of_parts, white_around, written_reads, http_is_answered, length-lowered_value}
 use Rattle.mime_http.specs.Written.{is_token_value, quote_of, text_of_pair, text_of_pairs, with_pairs}
 use Rattle.mime_c.specs.Strings.{string_of, strings, ComeBack, pair_texts, parts_of, texts_of}
 use Rattle.mime_c.specs.HeaderAnswers.{range_texts, ranges_texts}
@@ -54,9 +54,6 @@ kept_pairs test ((name, value) ∷ pairs) (is, are) =
 filter_all : (pairs : List (List ℕ × List ℕ)) → filter (λ pair. true) pairs ≡ pairs
 filter_all [] = refl
 filter_all (pair ∷ pairs) = ap (λ rest. pair ∷ rest) (filter_all pairs)
-
-length-lowered_value : (name value : List ℕ) → length (lowered_value name value) ≡ length value
-length-lowered_value name value = lowered_value-either (λ it. length it ≡ length value) name value refl (length-lowered value)
 
 -- ---- the media type of a value
 

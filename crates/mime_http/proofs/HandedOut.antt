@@ -3,8 +3,9 @@
 pub use Rattle.mime_http.proofs.Around.{reads_around, white_around}
 -- The content of quoted strings: what is written for a value, and what needs no backslash.
 pub use Rattle.mime_http.proofs.Contents.{content_of_escaped, unescaped_same, unescaped_from, unescaped_is}
--- Lines are cut in one way, and each line is.
-pub use Rattle.mime_http.proofs.Cuts.{one_cut}
+-- Lines are cut in one way, and each line is; a search finds the first of two marks.
+pub use Rattle.mime_http.proofs.Cuts.{one_cut, mark_found}
+pub use Rattle.mime_http.specs.LineCut.{is_mark}
 -- The highest of ranks and its first place, and which of all is the best.
 pub use Rattle.mime_http.proofs.Highest.{one_rank}
 -- The laws of a header's value: it is one media type, of which one text is printed, which is read as it.
@@ -13,8 +14,6 @@ pub use Rattle.mime_http.proofs.HttpLaws.{one_printed_text, printed_is_read, sam
 pub use Rattle.mime_http.proofs.Lists.{one_header}
 -- The offers that weigh more than 0, sorted, are in order.
 pub use Rattle.mime_http.proofs.Order.{weighs_within}
--- A line's first piece: bytes without a mark go on with it, and a comma outside strings ends it.
-pub use Rattle.mime_http.proofs.Pieces.{next_mark}
 -- What the library reads is what HTTP writes there.
 pub use Rattle.mime_http.proofs.PlainIsHttp.{plain_is_http}
 -- What is written of a value's parts is read as the media type that HTTP writes there.
@@ -26,6 +25,6 @@ pub use Rattle.mime_http.proofs.ReadFaults.{rejected_is_none, no_fault, one_http
 -- What HTTP writes is read, byte by byte, as the media type that it is; what is read is safe in a header, and in UTF-8.
 pub use Rattle.mime_http.proofs.ReadForth.{http_is_answered}
 -- What is written of parameters is read as them.
-pub use Rattle.mime_http.proofs.Written.{with_pair_is_read}
+pub use Rattle.mime_http.proofs.Written.{with_pair_is_read, length-lowered_value}
 -- Private: a header's value read byte by byte by HTTP's own grammar (RFC 9110, 8.3.1 and 5.6.6), and what is written of a media type.
 pub use Rattle.mime_http.specs.Reader.{Answer, read, rejected, answer_of, media_of, text_of_parts}

@@ -1,7 +1,7 @@
 -- Worked facts of the pages `Ranges` and `Unescaped`: what covers an offer, and which is the best; with the examples of RFC 9110 (12.5.1)
 -- and of RFC 7231 (5.3.2). Ranges and offers are given by their texts.
 use Rattle.mime_http.proofs.Common.{AreInOrder, Bool, Contains, List, MeanTheSame, MediaType, None, Option, Some, [], ap, arith, best_offer, closeness, codes, drop, false, get_or, given_weight, if◌then◌else◌, is_some, map, not, prefix_len, refl, same_Some, slice_get, subst, suc, sym, true, unwrap_or, zero, ℕ, ◌++◌, ◌<◌, ◌==◌, ◌∷◌, ◌≡◌}
-use Rattle.mime_http.proofs.{Order.best_is_acceptable, Order.best_is_first, Meanings.covers_itself, Meanings.meaning_counts, Strangers.stranger_changes_nothing}
+use Rattle.mime_http.proofs.{Order.best_is_acceptable, Order.best_is_first, Demanded.covers_itself, Demanded.meaning_counts, Strangers.stranger_changes_nothing}
 
 -- the parts of a text between marks, of which the first begins with these bytes
 abbrev pieces_at : ℕ → List ℕ → List ℕ → List (List ℕ)

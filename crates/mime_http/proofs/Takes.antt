@@ -2,7 +2,7 @@
 use Rattle.mime_http.proofs.Common.{AreKept, AreSorted, AreSpaces, Bool, Header, HttpReads, IsHeader, IsHttpMediaType, IsPrinted, IsAscii, IsUtf8, List, MediaType, OnOk, Outside, Result, Takes, [], a_bad, a_range, ap, append-nil, append_assoc, cut, cut_after, arith, drop, drop-append_seam, drop_more, drop_of_length-le, flat_map, get_or, if◌then◌else◌, length, lines_or_any, no_text, on_ok_weaker, refl, subst, sym, take, take-append_seam, trimmed, ℕ, ◌++◌, ◌+◌, ◌-◌, ◌<◌, ◌∙◌, ◌∷◌, ◌≡◌, ◌≤◌}
 use Rattle.mime_http.specs.HttpList.{blank}
 use Rattle.std.proofs.lemmas.Str.{IsAscii-drop, IsAscii-take}
-use Rattle.mime_http.proofs.{Around.white_around, Cuts.are_cut, Cuts.only_cut, Pieces.cut_at_end, Pieces.end_on, Trims.trimmed_from_blank}
+use Rattle.mime_http.proofs.{Around.white_around, Cuts.are_cut, Cuts.only_cut, Cuts.cut_at_end, Cuts.end_on, Trims.trimmed_from_blank}
 
 -- two runs of texts are sorted one after the other
 pub sorted_both : {texts more : List (List ℕ)} {ranges others : List MediaType} {bad poor : List (List ℕ)} → AreSorted texts ranges bad
@@ -88,15 +88,14 @@ module _ {keeps_bad : Bool} where
   pub rest_left : (some : List (List ℕ)) {old now new : Header} {all rest : List (List ℕ)} → AreLeft keeps_bad old now all (some ++ rest)
       → Takes keeps_bad some now new → AreLeft keeps_bad old new all rest
   rest_left some {rest = rest} left taken = record {
-    takes = λ last others. left.takes last (λ before held.
-        subst (λ pieces. AreKept keeps_bad pieces last) (append_assoc before some rest) (others (before ++ some) (taken before held)));
+    takes = λ last others.
+        left.takes last (λ before held. rw (sym (append_assoc before some rest)) (others (before ++ some) (taken before held)));
     nothing = λ sorted. (both_are_nothing some (left.nothing sorted)).1;
   }
 
   -- and at last none
   pub all_taken : {old now : Header} {all : List (List ℕ)} → AreLeft keeps_bad old now all [] → Takes keeps_bad all old now
-  all_taken {now = now} left =
-      left.takes now (λ before held. subst (λ pieces. AreKept keeps_bad pieces now) (sym (append-nil before)) held)
+  all_taken {now = now} left = left.takes now (λ before held. rw (append-nil before) held)
 
   -- what is kept if all pieces of the lines were taken is their header
   pub header_taken : (lines : List (List ℕ)) {now : Header} → AreLeft keeps_bad nothing now (flat_map cut (lines_or_any lines)) []

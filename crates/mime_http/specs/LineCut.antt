@@ -1,5 +1,6 @@
 -- Private: the places of a line, its cut as a function over them, and what is kept of its pieces.
-use Rattle.std.specs.Prelude.{◌≡◌, ◌<◌, ◌≤◌, ◌||◌, ℕ, zero, suc, Bool, true, false, List, [], ◌∷◌, ◌++◌, ◌+◌, length, drop, slice_index, if◌then◌else◌, ◌==◌}
+use Rattle.std.specs.Prelude.{◌≡◌, ◌<◌, ◌≤◌, ◌||◌, ℕ, zero, suc, Bool, true, false, List, [], ◌∷◌, ◌++◌, ◌+◌, length, drop, slice_index, if◌then◌else◌, ◌==◌, not}
+use Rattle.std.specs.List.{prefix_len}
 use Rattle.mime.specs.Bytes.{comma_byte, equals_byte, quote_byte, backslash_byte}
 use Rattle.mime_http.specs.HttpList.{AreSorted, Header}
 
@@ -51,16 +52,9 @@ cut_after (b ∷ bytes) = cut bytes
 abbrev pub is_mark : ℕ → ℕ → ℕ → Bool
 is_mark one other b = b == one || b == other
 
--- no byte from `from` up to `to` is a mark
-abbrev pub AreUnmarked : ℕ → ℕ → List ℕ → ℕ → ℕ → Type 0
-AreUnmarked one other bytes from to = (k : ℕ) → from ≤ k → k < to → is_mark one other (slice_index bytes k) ≡ false
-
--- the position, from one on, of the first mark, or the length
-pub record IsNextMark (one other : ℕ) (bytes : List ℕ) (from to : ℕ) : Type 0 where
-  pub least : from ≤ to
-  pub within : to ≤ length bytes
-  pub unmarked : AreUnmarked one other bytes from to
-  pub mark : to < length bytes → is_mark one other (slice_index bytes to) ≡ true
+-- the number of bytes before the first of two marks
+abbrev pub before_mark : ℕ → ℕ → List ℕ → ℕ
+before_mark one other bytes = prefix_len (λ b. not (is_mark one other b)) bytes
 
 -- a position, from one outside strings on, up to which a piece goes on outside strings: that of a comma or an equals sign, or the length
 pub record IsNextOutside (bytes : List ℕ) (from to : ℕ) : Type 0 where

@@ -69,7 +69,7 @@ pub fn bad_is_alone()
 {}
 
 /// The most specific range covers the offer, and no range that covers it is more specific.
-#[tactic(auto, using(crate::proofs::Picked::closest_is_closest))]
+#[tactic(auto, using(crate::proofs::Highest::closest_is_closest))]
 pub fn closest_is_closest()
     ensures { ClosestIsClosest }
 {}
@@ -93,14 +93,14 @@ pub fn best_is_first()
 {}
 
 /// Each media type covers itself: `a/b;p=1;p=2`, too.
-#[tactic(auto, using(crate::proofs::Meanings::covers_itself))]
+#[tactic(auto, using(crate::proofs::Demanded::covers_itself))]
 pub fn covers_itself()
     ensures { CoversItself }
 {}
 
 /// Whether a range covers an offer, and how specific it is, depends on what both mean: `a/b;p="\x"` covers `a/b;p=x` just as `a/b;p=x`
 /// does (RFC 9110, 5.6.4).
-#[tactic(auto, using(crate::proofs::Meanings::meaning_counts))]
+#[tactic(auto, using(crate::proofs::Demanded::meaning_counts))]
 pub fn meaning_counts()
     ensures { MeaningCounts }
 {}

@@ -5,7 +5,7 @@ ghost use Rattle.std.specs.Str.{IsAscii};
 ghost use Rattle.mime.specs.Bytes.{comma_byte, quote_byte};
 ghost use Rattle.mime.specs.Grammar.{is_space};
 ghost use Rattle.mime_http.specs.HttpList.{trim_start, trim_end};
-ghost use Rattle.mime_http.specs.LineCut.{Outside, Quoted, AreUnmarked, IsNextOutside, piece_len};
+ghost use Rattle.mime_http.specs.LineCut.{Outside, Quoted, IsNextOutside, before_mark, piece_len};
 
 use mime_search::{Class, content_end, first_stop};
 use std::simd::prelude::*;
@@ -25,7 +25,7 @@ fn next_outside(line: &[u8], from: usize) -> usize
 
 /// Returns the position after the closing quote of the string that `from` is in, or the length.
 #[inline(always)]
-#[tactic(auto, using(crate::proofs::Pieces::string_closed))]
+#[tactic(auto, using(crate::proofs::Cuts::string_closed))]
 fn string_end(line: &[u8], from: usize) -> usize
     requires { from ≤ length line.now }
     ensures least { from ≤ result }
@@ -39,10 +39,10 @@ fn string_end(line: &[u8], from: usize) -> usize
 /// Returns the length of a line's first piece, of which the first comma or quote is the quote at a position. It isn't inlined: few
 /// pieces have a quote.
 #[inline(never)]
-#[tactic(auto, using(crate::proofs::Pieces::ends_outside, crate::proofs::Pieces::string_opens, crate::proofs::Pieces::outside_byte))]
+#[tactic(auto, using(crate::proofs::Cuts::ends_outside, crate::proofs::Cuts::string_opens, crate::proofs::Cuts::outside_byte))]
 fn quoted_piece_len(line: &[u8], quote: usize) -> usize
     requires within { quote ≤ length line.now }
-    requires unmarked { AreUnmarked comma_byte quote_byte line.now 0 quote }
+    requires unmarked { quote ≡ before_mark comma_byte quote_byte line.now }
     ensures within { result ≤ length line.now }
     ensures piece { result ≡ piece_len Outside line.now }
 {

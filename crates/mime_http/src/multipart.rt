@@ -66,6 +66,7 @@ pub fn is_boundary(bytes: &[u8]) -> bool
 
 /// Returns the boundary that a parameter's value means, if it means one. It doesn't allocate for a value that is too long, nor for
 /// one that has no backslash and isn't a boundary.
+#[tactic(auto, using(crate::proofs::Contents::boundary_means_itself))]
 fn meant_boundary(alloc: Global, value: &str) -> Result<Option<Vec<u8>>, AllocError>
     ensures { IfOk result (λ answer. MatchOption answer (¬ (IsBoundary (unescaped value.now)))
         (λ boundary. (vec_items boundary ≡ unescaped value.now) × IsBoundary (unescaped value.now))) }

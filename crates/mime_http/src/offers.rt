@@ -109,7 +109,7 @@ impl Closest {
 
 /// Finds the most specific of these ranges that covers an offer.
 #[inline(always)]
-#[tactic(auto, using(crate::proofs::Picked::closest_is_kept))]
+#[tactic(auto, using(crate::proofs::Highest::closest_is_kept))]
 fn closest_of(ranges: &[Mime], offer: &Mime) -> Option<(u8, usize, u16, usize)>
     ensures { result ≡ closest (map (λ range. range.media) ranges.now) offer.now.media }
 {

@@ -200,7 +200,7 @@ pub fn with_parameter(
 ///
 /// # Errors
 /// `AllocError` if memory runs out, which is never if the answer is `None`.
-#[tactic(auto, using(crate::proofs::Forms::token_written), unfolding(mime::specs::Bytes::is_token_byte))]
+#[tactic(auto, using(crate::proofs::Contents::token_written), unfolding(mime::specs::Bytes::is_token_byte))]
 pub fn with_charset(alloc: Global, mime: &Mime, charset: &str) -> Result<Option<Mime>, AllocError>
     ensures exact { IfOk result (λ answer. IsTrue (is_some answer) ↔ IsToken charset.now) }
     ensures none { ¬ (IsToken charset.now) → IsOk result }
@@ -218,7 +218,7 @@ pub fn with_charset(alloc: Global, mime: &Mime, charset: &str) -> Result<Option<
 ///
 /// # Errors
 /// `AllocError` if memory runs out, which is never if the answer is `None`.
-#[tactic(auto, using(crate::proofs::Forms::boundary_written), unfolding(mime::specs::Bytes::is_token_byte))]
+#[tactic(auto, using(crate::proofs::Contents::boundary_written), unfolding(mime::specs::Bytes::is_token_byte))]
 pub fn with_boundary(alloc: Global, mime: &Mime, boundary: &str) -> Result<Option<Mime>, AllocError>
     ensures exact { IfOk result (λ answer. IsTrue (is_some answer) ↔ IsBoundary boundary.now) }
     ensures none { ¬ (IsBoundary boundary.now) → IsOk result }

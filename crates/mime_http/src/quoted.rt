@@ -98,7 +98,7 @@ fn kind_of_byte(byte: u8) -> u8
 
 /// Returns the bits that the kinds of all bytes of a block have.
 #[inline(always)]
-#[tactic(auto, using(crate::proofs::Forms::kind_of_more))]
+#[tactic(auto, using(crate::proofs::Contents::kind_of_more))]
 fn kind_of_block(block: &[u8]) -> u8
     ensures { result ≡ kind_of block.now }
 {
@@ -110,7 +110,7 @@ fn kind_of_block(block: &[u8]) -> u8
 }
 
 /// Returns the bits that the kinds of all bytes of a value have.
-#[tactic(auto, using(crate::proofs::Forms::block_seen))]
+#[tactic(auto, using(crate::proofs::Contents::block_seen))]
 fn kind_of(value: &[u8]) -> u8
     ensures { result ≡ kind_of value.now }
 {
@@ -126,7 +126,7 @@ fn kind_of(value: &[u8]) -> u8
 
 /// Returns how a value is written, or `None` if no quoted string can mean it, since it has a control character other
 /// than the tab.
-#[tactic(auto, using(crate::proofs::Forms::token_from_kind))]
+#[tactic(auto, using(crate::proofs::Contents::token_from_kind))]
 pub(crate) fn form_of(value: &str) -> Option<Form>
     ensures { result ≡ (if list_all is_quoted_byte value.now then Some (form_of value.now) else None) }
 {
@@ -144,7 +144,7 @@ pub(crate) fn form_of(value: &str) -> Option<Form>
 
 /// Returns the position of the first quote or backslash from this position on, or the length if there is none.
 #[inline(always)]
-#[tactic(auto, using(crate::proofs::Forms::plain_from_kind, crate::proofs::Forms::plain_more))]
+#[tactic(auto, using(crate::proofs::Contents::plain_from_kind, crate::proofs::Contents::plain_more))]
 fn special_from(value: &str, from: usize) -> usize
     requires { from ≤ length value.now }
     ensures { result ≡ from + prefix_len is_plain (drop from value.now) }

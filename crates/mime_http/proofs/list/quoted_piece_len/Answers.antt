@@ -1,6 +1,6 @@
 -- The bytes before the quote lead outside strings, each search goes on there, and a string is left at its end.
-use Rattle.mime_http.proofs.Common.{arith, nat_tests, ◌-◌, ◌∙◌, ◌≡◌}
-use Rattle.mime_http.proofs.{Pieces.outside_at, list.quoted_piece_len.Goals.then-quote-gt0, list.quoted_piece_len.Goals.else-quote-gt0}
+use Rattle.mime_http.proofs.Common.{arith, ◌-◌, ◌≡◌}
+use Rattle.mime_http.proofs.{Cuts.run_to, list.quoted_piece_len.Goals.then-quote-gt0, list.quoted_piece_len.Goals.else-quote-gt0}
 use Rattle.mime_http.proofs.list.quoted_piece_len.Goals as goal
 
 pub loop-at-init : goal.loop-at-init
@@ -10,9 +10,7 @@ loop-at-init c =
     elim c.if-quote-gt0.branch [
       | then-quote-gt0 w ↦ rw w.at-is (record {
         within = omega (arith, c.requires.within);
-        left = outside_at line 0 (quote - 1) (omega arith) (omega (arith, w.if-quote-gt0.true, c.requires.within))
-            (λ k from to. c.requires.unmarked k from (omega (arith, to)))
-            (grind (arith, nat_tests, c.requires.unmarked (quote - 1) (omega arith) (omega (arith, w.if-quote-gt0.true)))) ∙ omega arith;
+        left = run_to line (quote - 1) (omega (arith, c.requires.unmarked, w.if-quote-gt0.true));
       })
       | else-quote-gt0 w ↦
           let first : c.if-quote-gt0.at ≡ 0 = omega (arith, w.at-is, w.if-quote-gt0.false) in

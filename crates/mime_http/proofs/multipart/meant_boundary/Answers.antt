@@ -1,14 +1,7 @@
 -- A boundary means itself; what is too long means none, and what has no backslash means itself.
-use Rattle.mime_http.proofs.Common.{IsBoundary, arith, contains_char, rules, subst, sym, vec_items, ◌∙◌, ◌≡◌}
-use Rattle.mime_http.proofs.{Contents.boundary_means_itself, Contents.length-unescaped, Contents.unescaped_same, multipart.meant_boundary.Goals.then-bytes-via-then-bytes, multipart.meant_boundary.Goals.then-bytes-via-else-bytes+then-not-contains}
+use Rattle.mime_http.proofs.Common.{IsBoundary, arith, contains_char, rules, subst}
+use Rattle.mime_http.proofs.{Contents.length-unescaped, Contents.unescaped_same, multipart.meant_boundary.Goals.then-bytes-via-then-bytes, multipart.meant_boundary.Goals.then-bytes-via-else-bytes+then-not-contains}
 use Rattle.mime_http.proofs.multipart.meant_boundary.Goals as goal
-
-pub returns-then-is_boundary : goal.returns-then-is_boundary
-returns-then-is_boundary c =
-    let is : IsBoundary c.args.value.now = search rules in
-    let same = boundary_means_itself c.args.value.now is in
-    let copied : vec_items c.in_ok-to_vec.field-0 ≡ c.args.value.now = search rules in
-    (copied ∙ sym same, subst IsBoundary (sym same) is)
 
 pub returns-then-bytes : goal.returns-then-bytes
 returns-then-bytes c = λ is.

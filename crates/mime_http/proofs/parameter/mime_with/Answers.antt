@@ -1,6 +1,6 @@
 -- What is written is known to be read as the media type with the parameter.
-use Rattle.mime_http.proofs.Common.{AreHeaderBytes, Form, IfOk-weaker, IsSafe, IsToken, List, MediaType, Reads, [], ap, append-nil, flat_map-append, text_of_pair, ap₂, arith, escaped, form_of, length, length-append, lowered, lowered-lowered, lowered_value, others, refl, string_bytes, subst, sym, text_in, text_of_pairs, with_pair, ℕ, ◌++◌, ◌+◌, ◌∙◌, ◌∷◌, ◌≡◌}
-use Rattle.mime_http.proofs.{Contents.content_of_escaped, Forms.form_text, Written.pairs_within_text, Written.with_pair_is_read}
+use Rattle.mime_http.proofs.Common.{AreHeaderBytes, IfOk-weaker, IsSafe, IsToken, List, MediaType, Reads, [], ap, ap₂, arith, escaped, length, length-append, lowered, lowered-lowered, lowered_value, others, string_bytes, subst, sym, text_of_pairs, with_pair, ℕ, ◌++◌, ◌+◌, ◌∙◌, ◌∷◌, ◌≡◌}
+use Rattle.mime_http.proofs.{Contents.content_of_escaped, Written.pairs_within_text, Written.with_pair_is_read}
 use Rattle.mime_http.proofs.parameter.mime_with.Goals as goal
 
 -- what is written is read as the media type with the parameter

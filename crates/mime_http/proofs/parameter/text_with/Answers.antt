@@ -1,6 +1,6 @@
 -- Each parameter is of the name, or is written.
 use Rattle.mime_http.proofs.Common.{[], NameIs, ap, arith, item_seen, rules, string_bytes, text_in, ◌++◌, ◌∙◌, ◌∷◌, ◌≡◌}
-use Rattle.mime_http.proofs.{Forms.last_written, Written.none_left, Forms.kept_text, Written.all_left, Written.copied, Written.others_within}
+use Rattle.mime_http.proofs.{Contents.last_written, Written.none_left, Contents.kept_text, Written.all_left, Written.copied, Written.others_within}
 use Rattle.mime_http.proofs.parameter.text_with.Goals as goal
 
 pub loop-other-init : goal.loop-other-init

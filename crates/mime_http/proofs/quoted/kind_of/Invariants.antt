@@ -1,6 +1,6 @@
 -- The kind of what was seen; each block makes what is left shorter.
 use Rattle.mime_http.proofs.Common.{length}
-use Rattle.mime_http.proofs.Forms.{Seen}
+use Rattle.mime_http.proofs.Contents.{Seen}
 use Rattle.mime_http.proofs.quoted.kind_of.Given as goal
 
 abbrev pub invariant-loop-left : goal.invariant-loop-left

@@ -1,6 +1,6 @@
 -- Each backslash is added before the byte that needs it.
 use Rattle.mime_http.proofs.Common.{[], ap, arith, drop, escaped, false, get_or, get_or-drop, is_plain, length, prefix_len, prefix_len-le-length, prefix_len_stops, rules, string_bytes, take, ◌++◌, ◌+◌, ◌<◌, ◌∙◌, ◌∷◌, ◌≡◌}
-use Rattle.mime_http.proofs.Forms.{run_written, more_written, next_end}
+use Rattle.mime_http.proofs.Contents.{run_written, more_written, next_end}
 use Rattle.mime_http.proofs.quoted.push_escaped.Goals as goal
 
 pub loop-run-init : goal.loop-run-init
