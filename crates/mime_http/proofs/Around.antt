@@ -7,7 +7,7 @@ use Rattle.mime_http.proofs.Trims.{split_white}
 -- ---- the white space around a value
 
 -- bytes are what is left of them without white space after it, and white space
-split_end : (bytes : List ℕ) → (white : List ℕ) × AreSpaces white × (bytes ≡ trim_end bytes ++ white)
+pub split_end : (bytes : List ℕ) → (white : List ℕ) × AreSpaces white × (bytes ≡ trim_end bytes ++ white)
 split_end [] = ([], refl, refl)
 split_end (b ∷ bytes) =
     let rest = split_end bytes in

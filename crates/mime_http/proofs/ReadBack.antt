@@ -1,6 +1,5 @@
 -- What is read of a value is what HTTP writes: each state says what the bytes so far are.
-use Rattle.mime_http.proofs.Common.{Answer, AreHttpParameters, AreSpaces, AreTokenBytes, AreTokenBytes-from_token, Bool, HttpReads, IsContent, IsHttpParameter, IsToken, List, MatchOption, MatchOption-at_some, Option, Parts, Some, State, [], after_backslash, after_semicolon, and_from, answer_at_end, answer_from, answer_of, ap, append-nil, append_assoc, before_semicolon, before_type, by_option, cond_both, eqb-true, if◌then◌else◌, in_name, in_string, in_subtype, in_type, in_value, is_quoted_byte, is_quoted_text_byte, is_space, is_token_byte, list_all, list_all-append, map, map-append, media_of, next, next_after, next_empty, next_quoted, no_byte, no_more, quoted_pair, read, refl, rejected, semicolon, semicolon_and, subst, sym, text_byte, true, false, with_parameter, with_string, with_token, ℕ, ⊎_elim, ⊤, ◌++◌, ◌+◌, ◌==◌, ◌∙◌, ◌∷◌, ◌≡◌, ◌||◌}
-use Rattle.std.proofs.lemmas.Bool.{or_cases}
+use Rattle.mime_http.proofs.Common.{Answer, AreHttpParameters, AreSpaces, AreTokenBytes, AreTokenBytes-from_token, Bool, HttpReads, IsContent, IsHttpParameter, IsToken, List, MatchOption, MatchOption-at_some, Option, Parts, Some, State, [], after_backslash, after_semicolon, and_from, answer_at_end, answer_from, answer_of, ap, append-nil, append_assoc, before_semicolon, before_type, by_option, cond_both, eqb-true, if◌then◌else◌, in_name, in_string, in_subtype, in_type, in_value, is_quoted_byte, is_quoted_text_byte, is_space, is_token_byte, list_all, list_all-append, map, map-append, media_of, next, next_after, next_quoted, no_byte, no_more, quoted_pair, read, refl, rejected, semicolon, semicolon_and, subst, sym, text_byte, true, false, with_parameter, with_string, with_token, ℕ, ⊎_elim, ⊤, ◌++◌, ◌+◌, ◌==◌, ◌∙◌, ◌∷◌, ◌≡◌, ◌||◌}
 use Rattle.mime.specs.Inner.KeptText.{lowered_pair}
 
 -- ---- what the bytes are in each state
@@ -130,13 +129,6 @@ module _ (b : ℕ) (front : List ℕ) where
       either (is_space b) _ _ (λ space. space_after b space is)
       (λ other. either (b == 59) _ _ (λ same. semicolon_after same is) (λ no. tt))
 
-  -- after a semicolon,
-  after_nothing : {parts : Parts} → Follows parts [] front → Fits (next_empty parts b)
-  after_nothing {parts} is =
-      either (is_space b || b == 59) _ _
-      (λ fits. ⊎_elim (λ space. space_inside b space is) (λ same. semicolon_after same (nothing_after is)) (or_cases (is_space b) _ fits))
-      (λ no. tt)
-
   -- in a quoted string,
   after_quoted : (parts : Parts) (name content : List ℕ) → Spells (in_string parts name content) front
       → Fits (next_quoted parts name content b)
@@ -150,8 +142,8 @@ module _ (b : ℕ) (front : List ℕ) where
   -- and so in each state
   after_state : (state : State) → Spells state front → Fits (next state b)
   after_state before_type is =
-      either (is_space b) _ _ (λ space. one_more is_space front b is space)
-      (λ other. either (is_token_byte b) _ _ (λ token. (token_more [] b refl token, indented front is)) (λ no. tt))
+      either (is_token_byte b) _ _ (λ token. (token_more [] b refl token, indented front is))
+      (λ other. either (is_space b) _ _ (λ space. one_more is_space front b is space) (λ no. tt))
   after_state (in_type top) is =
       either (is_token_byte b) _ _ (λ token. (token_more top b (AreTokenBytes-from_token top is.0) token, indented_more b refl is.1))
       (λ other. either (b == 47) _ _
@@ -163,7 +155,9 @@ module _ (b : ℕ) (front : List ℕ) where
       (λ other. after_whole (essence_read is.0 is.1 is.2))
   after_state (before_semicolon parts) is = after_whole is
   after_state (after_semicolon parts) is =
-      either (is_token_byte b) _ _ (λ token. (token_more [] b refl token, follows_more b refl is)) (λ other. after_nothing is)
+      either (is_space b) _ _ (λ space. space_inside b space is)
+      (λ other. either (is_token_byte b) _ _ (λ token. (token_more [] b refl token, follows_more b refl is))
+      (λ other. either (b == 59) _ _ (λ same. semicolon_after same (nothing_after is)) (λ no. tt)))
   after_state (in_name parts name) is =
       either (is_token_byte b) _ _ (λ token. (token_more name b (AreTokenBytes-from_token name is.0) token, follows_more b refl is.1))
       (λ other. either (b == 61) _ _

@@ -12,7 +12,7 @@ pub spaces-append : (n m : List ℕ) → AreSpaces n → AreSpaces m → AreSpac
 spaces-append n m first second = list_all-append is_space n m ∙ and_from _ _ first second
 
 -- the same state at the same position
-same_from : (bytes : List ℕ) {state other : State} {at to : ℕ} → state ≡ other → at ≡ to
+pub same_from : (bytes : List ℕ) {state other : State} {at to : ℕ} → state ≡ other → at ≡ to
     → answer_from state at bytes ≡ answer_from other to bytes
 same_from bytes same there = ap₂ (λ s n. answer_from s n bytes) same there
 
@@ -40,6 +40,16 @@ goes_on class state goes (b ∷ run) all done at bytes =
 
 -- ---- white space
 
+-- a space is no token byte
+pub space_is_no_token : (b : ℕ) → is_space b ≡ true → is_token_byte b ≡ false
+unfolding is_token_byte
+space_is_no_token b is = grind (arith, nat_tests)
+
+-- nor the other way
+token_is_no_space : (b : ℕ) → is_token_byte b ≡ true → is_space b ≡ false
+unfolding is_token_byte
+token_is_no_space b is = grind (arith, nat_tests)
+
 -- a space leads on from a state to itself
 abbrev KeepsSpace : State → Type 0
 KeepsSpace state = (b : ℕ) → is_space b ≡ true → next state b ≡ Some state
@@ -51,22 +61,17 @@ over_white state keeps white all at bytes = goes_on is_space (λ done. state) (�
 -- White space before the type,
 pub white_before : (white : List ℕ) → AreSpaces white → (at : ℕ) (bytes : List ℕ)
     → answer_from before_type at (white ++ bytes) ≡ answer_from before_type (at + length white) bytes
-white_before = over_white before_type (λ b is. rw is refl)
+white_before = over_white before_type (λ b is. rw (space_is_no_token b is, is) refl)
 
 -- before a semicolon or the end,
 pub white_after : (parts : Parts) (white : List ℕ) → AreSpaces white → (at : ℕ) (bytes : List ℕ)
     → answer_from (before_semicolon parts) at (white ++ bytes) ≡ answer_from (before_semicolon parts) (at + length white) bytes
 white_after parts = over_white (before_semicolon parts) (λ b is. rw is refl)
 
--- a space is no token byte
-pub space_is_no_token : (b : ℕ) → is_space b ≡ true → is_token_byte b ≡ false
-unfolding is_token_byte
-space_is_no_token b is = grind (arith, nat_tests)
-
 -- and after one.
 pub white_inside : (parts : Parts) (white : List ℕ) → AreSpaces white → (at : ℕ) (bytes : List ℕ)
     → answer_from (after_semicolon parts) at (white ++ bytes) ≡ answer_from (after_semicolon parts) (at + length white) bytes
-white_inside parts = over_white (after_semicolon parts) (λ b is. rw (space_is_no_token b is, is) refl)
+white_inside parts = over_white (after_semicolon parts) (λ b is. rw is refl)
 
 -- ---- tokens
 
@@ -99,18 +104,13 @@ on_value parts name = goes_on is_token_byte (in_value parts name) goes
     goes [] b is = rw is refl
     goes (v ∷ value) b is = rw is refl
 
--- a token byte is no space
-pub token_is_no_space : (b : ℕ) → is_token_byte b ≡ true → is_space b ≡ false
-unfolding is_token_byte
-token_is_no_space b is = grind (arith, nat_tests)
-
 -- A token begins the type,
 pub type_begins : (token : List ℕ) → IsToken token → (at : ℕ) (bytes : List ℕ)
     → answer_from before_type at (token ++ bytes) ≡ answer_from (in_type token) (at + length token) bytes
 type_begins [] is at bytes = absurd is
 type_begins (b ∷ token) is at bytes =
     let parts = and_parts (is_token_byte b) _ is in
-    one_byte before_type (in_type (b ∷ [])) at b (token ++ bytes) (rw (token_is_no_space b parts.0, parts.0) refl)
+    one_byte before_type (in_type (b ∷ [])) at b (token ++ bytes) (rw parts.0 refl)
     ∙ on_type token parts.1 (b ∷ []) (at + 1) bytes ∙ same_from bytes refl (omega arith)
 
 -- and a parameter's name.
@@ -119,7 +119,7 @@ pub name_begins : (parts : Parts) (token : List ℕ) → IsToken token → (at :
 name_begins parts [] is at bytes = absurd is
 name_begins parts (b ∷ token) is at bytes =
     let here = and_parts (is_token_byte b) _ is in
-    one_byte (after_semicolon parts) (in_name parts (b ∷ [])) at b (token ++ bytes) (rw here.0 refl)
+    one_byte (after_semicolon parts) (in_name parts (b ∷ [])) at b (token ++ bytes) (rw (token_is_no_space b here.0, here.0) refl)
     ∙ on_name parts token here.1 (b ∷ []) (at + 1) bytes ∙ same_from bytes refl (omega arith)
 
 -- ---- the end of a token

@@ -1,5 +1,5 @@
 -- Private: a header's value read byte by byte by HTTP's own grammar (RFC 9110, 8.3.1 and 5.6.6), and what is written of a media type.
-use Rattle.std.specs.Prelude.{◌≡◌, ◌<◌, ◌≤◌, ℕ, ◌+◌, ◌==◌, ◌||◌, Bool, List, [], ◌∷◌, ◌++◌, Option, Some, None, codes, length, take, drop, slice_index, slice_range, map, unwrap_or, if◌then◌else◌}
+use Rattle.std.specs.Prelude.{◌≡◌, ◌<◌, ◌≤◌, ℕ, ◌+◌, ◌==◌, Bool, List, [], ◌∷◌, ◌++◌, Option, Some, None, codes, length, take, drop, slice_index, slice_range, map, unwrap_or, if◌then◌else◌}
 use Rattle.std.specs.List.{prefix_len}
 use Rattle.std.specs.Option.{option_map}
 use Rattle.mime.specs.Bytes.{is_token_byte, is_quoted_byte, is_quoted_text_byte, slash_byte, semicolon_byte, equals_byte, quote_byte, backslash_byte}
@@ -41,10 +41,6 @@ next_after parts b =
     if is_space b then Some (before_semicolon parts) else
     if b == semicolon_byte then Some (after_semicolon parts) else None
 
--- and after a semicolon;
-abbrev pub next_empty : Parts → ℕ → Option State
-next_empty parts b = if is_space b || b == semicolon_byte then Some (after_semicolon parts) else None
-
 -- and after one that ends the text of a quoted string
 abbrev pub next_quoted : Parts → List ℕ → List ℕ → ℕ → Option State
 next_quoted parts name content b =
@@ -53,7 +49,7 @@ next_quoted parts name content b =
 
 -- the state after a byte, if a media type may go on so
 abbrev pub next : State → ℕ → Option State
-next before_type b = if is_space b then Some before_type else if is_token_byte b then Some (in_type (b ∷ [])) else None
+next before_type b = if is_token_byte b then Some (in_type (b ∷ [])) else if is_space b then Some before_type else None
 next (in_type top) b =
     if is_token_byte b then Some (in_type (top ++ (b ∷ []))) else if b == slash_byte then Some (in_subtype top []) else None
 next (in_subtype top []) b = if is_token_byte b then Some (in_subtype top (b ∷ [])) else None
@@ -61,7 +57,9 @@ next (in_subtype top (s ∷ sub)) b =
     if is_token_byte b then Some (in_subtype top ((s ∷ sub) ++ (b ∷ []))) else
     next_after (record { top = top; sub = s ∷ sub; pairs = [] }) b
 next (before_semicolon parts) b = next_after parts b
-next (after_semicolon parts) b = if is_token_byte b then Some (in_name parts (b ∷ [])) else next_empty parts b
+next (after_semicolon parts) b =
+    if is_space b then Some (after_semicolon parts) else if is_token_byte b then Some (in_name parts (b ∷ [])) else
+    if b == semicolon_byte then Some (after_semicolon parts) else None
 next (in_name parts name) b =
     if is_token_byte b then Some (in_name parts (name ++ (b ∷ []))) else if b == equals_byte then Some (in_value parts name []) else None
 next (in_value parts name []) b =

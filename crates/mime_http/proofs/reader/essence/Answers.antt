@@ -23,8 +23,8 @@ returns-then-slash-top c =
     let run = run_is is_token_byte value top.result c.token_end-slash.result c.token_end-slash.ensures.end in
     over_white_before value 0 top.result white top.ensures.within
     ∙ stuck value top.result before_type MissingSlash top.ensures.within refl
-    (λ more. neither (is_space (slice_index value top.result)) (is_token_byte (slice_index value top.result)) _ _ (white.stops more)
-    (rw c.if-slash-top.true at run.stops more)) ∙ ap rejected (sym c.fault_at.ensures)
+    (λ more. neither (is_token_byte (slice_index value top.result)) (is_space (slice_index value top.result)) _ _
+    (rw c.if-slash-top.true at run.stops more) (white.stops more)) ∙ ap rejected (sym c.fault_at.ensures)
 
 pub returns-then-not-is_at : goal.returns-then-not-is_at
 returns-then-not-is_at c =

@@ -1,9 +1,10 @@
--- A fault of a text is of one that isn't accepted.
-use Rattle.mime_http.proofs.Common.{Explains, HttpExplains, IsAccepted, InvalidToken, List, NoMemory as OutOfMemory, ParseError, refl, trimmed, ℕ, ◌≡◌, ◌≢◌}
+-- A fault of a text is of one that isn't accepted; and a media type has none.
+use Rattle.mime_http.proofs.Common.{Explains, HttpExplains, IsAccepted, IsHttpFault, InvalidToken, List, NoMemory as OutOfMemory, ParseError, refl, subst, trimmed, ℕ, ◌≡◌, ◌≢◌}
 use Rattle.std.proofs.lemmas.Result.{IfErr-weaker}
 use Rattle.mime.proofs.HandedOut.{rejected-from_fault}
 use Rattle.mime_http.specs.declared.value.FieldError.TheVariants.{NoMemory}
 use Rattle.mime_http.proofs.Bare.{error_is_memory}
+use Rattle.mime_http.proofs.ReadFaults.{no_fault}
 use Rattle.mime_http.proofs.value.read_rejected.Goals as goal
 
 not_accepted : (text : List ℕ) (fault : ParseError) → fault ≢ OutOfMemory → Explains text fault → ¬ (IsAccepted text)
@@ -19,8 +20,14 @@ returns-in-NoMemory-clause-accepted c = λ is.
     IfErr-weaker c.read_essence.result (HttpExplains c.args.value.now) (λ error. error ≡ NoMemory)
     (λ error. error_is_memory c.args.value.now error c.utf8.value is) c.read_essence.ensures.explained
 
-pub returns-in_default : goal.returns-in_default
-returns-in_default c = record {
+pub returns-in-Some : goal.returns-in-Some
+returns-in-Some c =
+    let value = c.args.value.now in
+    let is = subst (λ text. IsHttpFault text c.in-Some.fault) c.as_bytes.ensures.value c.in-Some.ensures in
+    record { http = tt; explained = (c.utf8.value, is); accepted = λ media. absurd (no_fault value c.in-Some.fault media is) }
+
+pub returns-in-None : goal.returns-in-None
+returns-in-None c = record {
   http = c.read_anew.ensures.http;
   explained = c.read_anew.ensures.explained;
   accepted = λ is.
