@@ -39,7 +39,7 @@ pub use Rattle.mime.specs.Bytes.{backslash_byte, is_quoted_text_byte, quote_byte
 pub use Rattle.mime.specs.Faults.{EndsIn, Explains, IsDeadAt, IsFault, IsLongestPrefix, IsViable, Lacks, completion_of, last_byte_of}
 pub use Rattle.mime.specs.Grammar.{AreParameters, AreSpaces, AreTokenBytes, IsContent, IsParameter, IsTail, IsToken, IsWellFormed, Parameter, Parameters, SyntaxTree, Tail, blank, final, is_space, listed, more, no_byte, no_list, plain, quoted, quoted_pair, text_byte, text_of, text_of_list, text_of_parameter, text_of_tail}
 pub use Rattle.mime.specs.HeaderLaws.{AreHeaderBytes, IsSafe, IsSafePair}
-pub use Rattle.mime.specs.Inner.Quoted.{awaits_after, awaits_next, continues, takes}
+pub use Rattle.mime.specs.Inner.Quoted.{IsOpenContent, awaits_after, awaits_next, continues, takes, takes_all}
 pub use Rattle.mime.specs.Items.{IsFirstAccepted, Item, item_of, item_seen, items_of, name_seen, name_text}
 pub use Rattle.mime.specs.Names.{NameIs}
 pub use Rattle.mime.specs.Values.{IsAccepted, MediaType, OwnedMedia, Reads, essence_of, is_charset, kept_text, last_plus, lowered, lowered_list, lowered_parameter, lowered_tail, lowered_tree, lowered_value, pair_of, pairs_of_list, pairs_of_tail, type_of, value_of}
@@ -56,7 +56,7 @@ pub use Rattle.mime_http.specs.HttpPrinted.{field_error_text}
 pub use Rattle.mime_http.specs.ListLaws.{AreElements, AreHttpLists, AreSame, BadIsAlone, HttpListsAreRead, OneCut, OneHeader, ReadAreHttpLists, element, nothing, without_kept}
 pub use Rattle.mime_http.specs.Ranges.{AreInOrder, Rank, best_offer, closeness, closest, demanded, first_value, given_weight, has, merit, merit_at, named_parts, rank_cmp, weight_of}
 pub use Rattle.mime_http.specs.RangesLaws.{BestIsAcceptable, BestIsFirst, ClosestIsClosest, CoversItself, IsAtMost, IsQvalue, MeanTheSame, MeaningCounts, StrangerChangesNothing, WeightIsNumber, meaning_of, one_digit, one_dot, three_digits, two_digits, zero_dot}
-pub use Rattle.mime_http.specs.Reader.{Answer, Holds, IsClosedAt, IsEssenceAt, IsParameterAt, IsStringFault, IsValueAt, Parts, State, after_backslash, after_semicolon, answer_at, answer_at_end, answer_from, answer_of, before_semicolon, before_type, fault_at, in_name, in_string, in_subtype, in_type, in_value, media_of, next, next_after, next_quoted, read, rejected, run_end, text_of_parts, with_parameter}
+pub use Rattle.mime_http.specs.Reader.{Answer, Holds, IsClosedAt, IsEssenceAt, IsParameterAt, IsStringFault, IsValueAt, Parts, State, after_semicolon, answer_at, answer_at_end, answer_from, answer_of, before_semicolon, before_type, fault_at, in_name, in_string, in_subtype, in_type, in_value, media_of, next, next_after, read, rejected, run_end, text_of_parts, with_parameter}
 pub use Rattle.mime_http.specs.Unescaped.{unescaped}
 pub use Rattle.mime_http.specs.LineCut.{AreKept, AreUnmarked, At, Outside, Takes, after, after_outside, cut, cut_after, cut_from, ends, is_mark}
 pub use Rattle.mime_http.specs.Weight.{thousandths_of}

@@ -1,6 +1,6 @@
 -- What the library walks over HTTP reads in the same way. So what the library reads is what HTTP writes there, and where the library stops
 -- HTTP stops as well, but at white space and at a semicolon.
-use Rattle.mime_http.proofs.Common.{Bool, Reads, ⊎_elim, ap₂, blank, final, listed, lowered_parameter, stopped-from_walk, takes, IsAccepted, Parameter, AreSpaces, Begun, BegunList, ClosedParameters, EndsIn, Explains, NoMemory, HttpReads, InvalidToken, IsDeadAt, IsFault, IsHttpFault, IsHttpMediaType, List, MatchOption, MediaType, None, Option, ParseError, Parameters, Parts, PlainIsHttp, Some, State, SyntaxTree, [], after_backslash, after_semicolon, answer_at_end, answer_from, answer_of, ap, append_assoc, append-nil, arith, awaits_after, awaits_after-append, before_semicolon, before_type, by_option, cases_Bool, completion_of, continues, eqb-true, false, grow, grow_list, grow_state, if◌then◌else◌, in_name, in_string, in_subtype, in_type, in_value, is_quoted_byte, is_quoted_text_byte, is_space, is_token_byte, last_byte_of, length, list_at, lowered_list, map, map-append, media_of, more, nat_tests, ne_eqb, next, next_after, none-some, not_viable-at_dead, one_fault, one_reading, option_map, pair_of, pairs_of_list, plain, quoted, read, refl, rejected, same_Some, subst, sym, tree_of, true, value_of, viable-from_walk, walk, walk-accepted, walk_from, with_pairs, with_parameter, ℕ, ⊤, ◌++◌, ◌+◌, ◌==◌, ◌∙◌, ◌∷◌, ◌≡◌, ◌≢◌}
+use Rattle.mime_http.proofs.Common.{Bool, Reads, ⊎_elim, ap₂, blank, final, listed, lowered_parameter, stopped-from_walk, takes, IsAccepted, Parameter, AreSpaces, Begun, BegunList, ClosedParameters, EndsIn, Explains, NoMemory, HttpReads, InvalidToken, IsDeadAt, IsFault, IsHttpFault, IsHttpMediaType, List, MatchOption, MediaType, None, Option, ParseError, Parameters, Parts, PlainIsHttp, Some, State, SyntaxTree, [], after_semicolon, answer_at_end, answer_from, answer_of, ap, append_assoc, append-nil, arith, awaits_after, awaits_after-append, before_semicolon, before_type, by_option, cases_Bool, completion_of, continues, eqb-true, false, grow, grow_list, grow_state, if◌then◌else◌, in_name, in_string, in_subtype, in_type, in_value, is_quoted_byte, is_quoted_text_byte, is_space, is_token_byte, last_byte_of, length, list_at, lowered_list, map, map-append, media_of, more, nat_tests, ne_eqb, next, next_after, none-some, not_viable-at_dead, one_fault, one_reading, option_map, pair_of, pairs_of_list, plain, quoted, read, refl, rejected, same_Some, subst, sym, tree_of, true, value_of, viable-from_walk, walk, walk-accepted, walk_from, with_pairs, with_parameter, ℕ, ⊤, ◌++◌, ◌+◌, ◌==◌, ◌∙◌, ◌∷◌, ◌≡◌, ◌≢◌}
 use Rattle.mime.proofs.GrammarLemmas.Begun as walked
 use Rattle.mime.proofs.GrammarLemmas.Begun.{with_closed}
 use Rattle.mime.proofs.GrammarLemmas.Viability.{dead-from_stop, stop-from_walk}
@@ -32,12 +32,9 @@ data Alike : Begun → State → Type 0 where
       → Alike (walked.in_list top sub (list_at closed (walked.in_name n name))) (in_name (closed_parts top sub closed) name)
   at_value : (top sub n name value : List ℕ) (closed : ClosedParameters)
       → Alike (walked.in_list top sub (list_at closed (walked.in_value n name value))) (in_value (closed_parts top sub closed) name value)
-  at_text : (top sub n name content : List ℕ) (closed : ClosedParameters) → awaits_after false content ≡ false
+  at_text : (top sub n name content : List ℕ) (closed : ClosedParameters)
       → Alike (walked.in_list top sub (list_at closed (walked.in_quotes n name content)))
       (in_string (closed_parts top sub closed) name content)
-  at_pair : (top sub n name content : List ℕ) (closed : ClosedParameters) → awaits_after false content ≡ false
-      → Alike (walked.in_list top sub (list_at closed (walked.in_quotes n name (content ++ (92 ∷ [])))))
-      (after_backslash (closed_parts top sub closed) name content)
   at_quote : (top sub n name content m : List ℕ) (closed : ClosedParameters)
       → Alike (walked.in_list top sub (list_at closed (walked.after_quotes n name content m)))
       (before_semicolon (with_parameter (closed_parts top sub closed) name content))
@@ -71,39 +68,6 @@ module _ (b : ℕ) where
       (λ other. rw other (λ space semicolon. rw space refl))
       (cases_Bool (b == 59))
 
-  -- in a quoted string,
-  in_text : (top sub n name content : List ℕ) (closed : ClosedParameters) → awaits_after false content ≡ false
-      → Follows (walked.in_list top sub) (grow_list (list_at closed (walked.in_quotes n name content)) b)
-      (next (in_string (closed_parts top sub closed) name content) b)
-  unfolding is_quoted_byte
-  in_text top sub n name content closed done = ⊎_elim
-      (λ pair.
-      let same : b ≡ 92 = eqb-true b 92 pair in
-      rw (same, done) (_, refl, at_pair top sub n name content closed done))
-      (λ (other : (b == 92) ≡ false).
-      let text : continues content b ≡ is_quoted_text_byte b = rw (done, other) (grind (arith, nat_tests)) in
-      let awaits : awaits_after false (content ++ (b ∷ [])) ≡ false = awaits_after-append false content (b ∷ []) ∙ rw (done, other) refl in
-      rw text (both _ (is_quoted_text_byte b) _ _ _ _ (λ is. (_, refl, at_text top sub n name (content ++ (b ∷ [])) closed awaits))
-      (λ isnt. both _ (b == 34) _ _ _ _ (λ same. (_, refl, at_quote top sub n name content [] closed)) (λ no space semicolon. rw other refl))))
-      (cases_Bool (b == 92))
-
-  -- after a backslash there,
-  in_pair : (top sub n name content : List ℕ) (closed : ClosedParameters) → awaits_after false content ≡ false
-      → Follows (walked.in_list top sub) (grow_list (list_at closed (walked.in_quotes n name (content ++ (92 ∷ [])))) b)
-      (next (after_backslash (closed_parts top sub closed) name content) b)
-  unfolding is_quoted_byte
-  in_pair top sub n name content closed done =
-      let begun : awaits_after false (content ++ (92 ∷ [])) ≡ true = awaits_after-append false content (92 ∷ []) ∙ rw done refl in
-      let fits : continues (content ++ (92 ∷ [])) b ≡ is_quoted_byte b = ap (λ awaiting. takes awaiting b) begun in
-      let awaits : awaits_after false (content ++ (92 ∷ b ∷ [])) ≡ false =
-      awaits_after-append false content (92 ∷ b ∷ []) ∙ rw done refl in
-      let more = at_text top sub n name (content ++ (92 ∷ b ∷ [])) closed awaits in
-      rw fits (both _ (is_quoted_byte b) _ _ _ _
-      (λ is. (_, refl, subst (λ it. Alike (walked.in_list top sub (list_at closed (walked.in_quotes n name it)))
-      (in_string (closed_parts top sub closed) name (content ++ (92 ∷ b ∷ []))))
-      (sym (append_assoc content (92 ∷ []) (b ∷ []))) more))
-      (λ isnt. let other : (b == 34) ≡ false = grind (arith, nat_tests, isnt) in rw other (λ space semicolon. refl)))
-
   -- and so in each state
   side_by_side : (begun : Begun) (state : State) → Alike begun state → Follows (λ it. it) (grow begun b) (next state b)
   side_by_side _ _ at_start = both _ (is_token_byte b) _ _ _ _ (λ token. (_, refl, at_type b [])) (λ other space semicolon. rw space refl)
@@ -124,12 +88,13 @@ module _ (b : ℕ) where
       (λ other. both _ (b == 61) _ _ _ _ (λ same. (_, refl, at_value top sub n name [] closed)) (λ no space semicolon. refl)))
   side_by_side _ _ (at_value top sub n name [] closed) = in_list top sub _ _
       (both _ (is_token_byte b) _ _ _ _ (λ token. (_, refl, at_value top sub n name (b ∷ []) closed))
-      (λ other. both _ (b == 34) _ _ _ _ (λ same. (_, refl, at_text top sub n name [] closed refl)) (λ no space semicolon. refl)))
+      (λ other. both _ (b == 34) _ _ _ _ (λ same. (_, refl, at_text top sub n name [] closed)) (λ no space semicolon. refl)))
   side_by_side _ _ (at_value top sub n name (v ∷ value) closed) = in_list top sub _ _
       (both _ (is_token_byte b) _ _ _ _ (λ token. (_, refl, at_value top sub n name (v ∷ value ++ (b ∷ [])) closed))
       (λ other. ended _ _ _ (at_spaces top sub [] ((n, plain name (v ∷ value)) ∷ closed))))
-  side_by_side _ _ (at_text top sub n name content closed done) = in_list top sub _ _ (in_text top sub n name content closed done)
-  side_by_side _ _ (at_pair top sub n name content closed done) = in_list top sub _ _ (in_pair top sub n name content closed done)
+  side_by_side _ _ (at_text top sub n name content closed) = in_list top sub _ _
+      (both _ (continues content b) _ _ _ _ (λ more. (_, refl, at_text top sub n name (content ++ (b ∷ [])) closed))
+      (λ other. both _ (b == 34) _ _ _ _ (λ same. (_, refl, at_quote top sub n name content [] closed)) (λ no space semicolon. refl)))
   side_by_side _ _ (at_quote top sub n name content m closed) = in_list top sub _ _
       (both _ (is_space b) _ _ _ _ (λ space. (_, refl, at_quote top sub n name content (m ++ (b ∷ [])) closed))
       (λ other. both _ (b == 59) _ _ _ _ (λ same. (_, refl, at_spaces top sub [] ((n, quoted name content m) ∷ closed)))

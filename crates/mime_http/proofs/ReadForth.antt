@@ -2,7 +2,7 @@
 use Rattle.mime_http.proofs.Common.{AllByRecursion, AreHttpParameters, AreSpaces, AreTokenBytes-from_token, HttpReads, IsHttpParameter, IsSafePair, IsToken, IsUtf8, IsUtf8-nil, List, MediaType, Parts, Some, State, [], after_semicolon, and_parts, answer_at_end, answer_from, answer_of, ap, append-nil, append_assoc, arith, before_semicolon, content-from_token, in_name, in_string, in_subtype, in_type, in_value, is_quoted_byte, is_space, is_token_byte, length, map, media_of, next, no_more, read, refl, semicolon, semicolon_and, subst, sym, with_pairs, with_parameter, with_string, with_token, ℕ, ◌++◌, ◌+◌, ◌∙◌, ◌∷◌, ◌≡◌}
 use Rattle.mime.specs.Inner.KeptText.{lowered_pair}
 use Rattle.mime_http.proofs.HttpText.{around, past_ascii, put_ascii, spaces_ascii, token_bytes_ascii}
-use Rattle.mime_http.proofs.Runs.{EndsToken, name_begins, on_content, on_subtype, on_value, one_byte, regrouping, space_is_no_token, subtype_ends, type_begins, value_ends, white_after, white_before, white_inside}
+use Rattle.mime_http.proofs.Runs.{EndsToken, content_ends, name_begins, on_content, on_subtype, on_value, one_byte, regrouping, space_is_no_token, subtype_ends, type_begins, value_ends, white_after, white_before, white_inside}
 
 -- ---- a parameter
 
@@ -59,8 +59,8 @@ reads_one (with_string name content named is) bytes ends =
             ∙ name_begins parts name named at (61 ∷ 34 ∷ (content ++ (34 ∷ bytes)))
             ∙ one_byte (in_name parts name) (in_value parts name []) (at + length name) 61 (34 ∷ (content ++ (34 ∷ bytes))) refl
             ∙ one_byte (in_value parts name []) (in_string parts name []) (at + length name + 1) 34 (content ++ (34 ∷ bytes)) refl
-            ∙ on_content is parts name [] (at + length name + 1 + 1) (34 ∷ bytes)
-            ∙ one_byte (in_string parts name content) (before_semicolon (with_parameter parts name content)) _ 34 bytes refl,
+            ∙ on_content is parts name [] refl (at + length name + 1 + 1) (34 ∷ bytes)
+            ∙ one_byte (in_string parts name content) (before_semicolon (with_parameter parts name content)) _ 34 bytes (content_ends is parts name),
       );
     }
 

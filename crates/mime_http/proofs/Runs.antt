@@ -1,5 +1,6 @@
 -- How reading goes on over white space, over a token, and over quoted content.
-use Rattle.mime_http.proofs.Common.{AreSpaces, AreTokenBytes, Bool, InvalidToken, IsContent, IsToken, List, None, Parts, Some, State, [], after_backslash, after_semicolon, and_from, and_parts, ap, append-nil, append_assoc, ap₂, answer_from, arith, before_semicolon, before_type, in_name, in_string, in_subtype, in_type, in_value, is_quoted_byte, is_space, is_token_byte, length, list_all, list_all-append, nat_tests, next, no_byte, quoted_pair, refl, rejected, sym, text_byte, true, false, with_parameter, ℕ, ⊤, ◌++◌, ◌+◌, ◌∙◌, ◌∷◌, ◌≡◌}
+use Rattle.mime_http.proofs.Common.{AreSpaces, AreTokenBytes, Bool, InvalidToken, IsContent, IsToken, List, None, Parts, Some, State, [], after_semicolon, and_from, and_parts, ap, append-nil, awaits_after, awaits_after-append, continues, takes_all, append_assoc, ap₂, answer_from, arith, before_semicolon, before_type, in_name, in_string, in_subtype, in_type, in_value, is_quoted_byte, is_space, is_token_byte, length, list_all, list_all-append, nat_tests, next, no_byte, quoted_pair, refl, rejected, subst, sym, text_byte, true, false, with_parameter, ℕ, ⊤, ◌++◌, ◌+◌, ◌∙◌, ◌∷◌, ◌≡◌}
+use Rattle.mime.proofs.GrammarLemmas.Content.{content-closed, content-taken}
 
 -- how joined lists are grouped, for `simp`, which doesn't compute a list with a first byte
 pub regrouping-cons : (b : ℕ) (xs ys : List ℕ) → (b ∷ xs) ++ ys ≡ b ∷ (xs ++ ys)
@@ -145,17 +146,25 @@ value_ends parts name (v ∷ value) is at (b ∷ bytes) ends = rw ends refl
 
 -- ---- quoted content
 
--- Quoted content goes on what was read of one.
-pub on_content : {content : List ℕ} → IsContent content → (parts : Parts) (name done : List ℕ) (at : ℕ) (bytes : List ℕ)
-    → answer_from (in_string parts name done) at (content ++ bytes)
+-- What may go on in a quoted string goes on what was read of one,
+pub on_open : (parts : Parts) (name run done : List ℕ) → takes_all (awaits_after false done) run ≡ true → (at : ℕ) (bytes : List ℕ)
+    → answer_from (in_string parts name done) at (run ++ bytes) ≡ answer_from (in_string parts name (done ++ run)) (at + length run) bytes
+on_open parts name [] done all at bytes = same_from bytes (ap (in_string parts name) (sym (append-nil done))) (omega arith)
+on_open parts name (b ∷ run) done all at bytes =
+    let here = and_parts (continues done b) _ all in
+    one_byte (in_string parts name done) (in_string parts name (done ++ (b ∷ []))) at b (run ++ bytes) (rw here.0 refl)
+    ∙ on_open parts name run (done ++ (b ∷ []))
+    (subst (λ awaiting. takes_all awaiting run ≡ true) (sym (awaits_after-append false done (b ∷ []))) here.1) (at + 1) bytes
+    ∙ same_from bytes (ap (in_string parts name) (append_assoc done (b ∷ []) run)) (omega arith)
+
+-- and so does content, if no byte is paired before it.
+pub on_content : {content : List ℕ} → IsContent content → (parts : Parts) (name done : List ℕ) → awaits_after false done ≡ false
+    → (at : ℕ) (bytes : List ℕ) → answer_from (in_string parts name done) at (content ++ bytes)
     ≡ answer_from (in_string parts name (done ++ content)) (at + length content) bytes
-unfolding is_quoted_byte
-on_content no_byte parts name done at bytes = same_from bytes (ap (in_string parts name) (sym (append-nil done))) (omega arith)
-on_content (text_byte b content is rest) parts name done at bytes =
-    one_byte (in_string parts name done) (in_string parts name (done ++ (b ∷ []))) at b (content ++ bytes) (rw is refl)
-    ∙ on_content rest parts name (done ++ (b ∷ [])) (at + 1) bytes
-    ∙ same_from bytes (ap (in_string parts name) (append_assoc done (b ∷ []) content)) (omega arith)
-on_content (quoted_pair b content is rest) parts name done at bytes =
-    one_byte (after_backslash parts name done) (in_string parts name (done ++ (92 ∷ b ∷ []))) (at + 1) b (content ++ bytes) (rw is refl)
-    ∙ on_content rest parts name (done ++ (92 ∷ b ∷ [])) (at + 1 + 1) bytes
-    ∙ same_from bytes (ap (in_string parts name) (append_assoc done (92 ∷ b ∷ []) content)) (omega arith)
+on_content {content} is parts name done none at bytes =
+    on_open parts name content done (subst (λ awaiting. takes_all awaiting content ≡ true) (sym none) (content-taken content is)) at bytes
+
+-- A quote ends it.
+pub content_ends : {content : List ℕ} → IsContent content → (parts : Parts) (name : List ℕ)
+    → next (in_string parts name content) 34 ≡ Some (before_semicolon (with_parameter parts name content))
+content_ends {content} is parts name = rw (content-closed content is) refl

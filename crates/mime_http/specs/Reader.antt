@@ -1,14 +1,15 @@
 -- Private: a header's value read byte by byte by HTTP's own grammar (RFC 9110, 8.3.1 and 5.6.6), and what is written of a media type.
-use Rattle.std.specs.Prelude.{◌≡◌, ◌<◌, ◌≤◌, ℕ, ◌+◌, ◌==◌, Bool, List, [], ◌∷◌, ◌++◌, Option, Some, None, codes, length, take, drop, slice_index, slice_range, map, unwrap_or, if◌then◌else◌}
+use Rattle.std.specs.Prelude.{◌≡◌, ◌<◌, ◌≤◌, ℕ, ◌+◌, ◌==◌, Bool, false, List, [], ◌∷◌, ◌++◌, Option, Some, None, codes, length, take, drop, slice_index, slice_range, map, unwrap_or, if◌then◌else◌}
 use Rattle.std.specs.List.{prefix_len}
 use Rattle.std.specs.Option.{option_map}
-use Rattle.mime.specs.Bytes.{is_token_byte, is_quoted_byte, is_quoted_text_byte, slash_byte, semicolon_byte, equals_byte, quote_byte, backslash_byte}
-use Rattle.mime.specs.Grammar.{is_space, IsContent}
-use Rattle.mime.specs.Values.{MediaType, lowered, last_plus}
+use Rattle.mime.specs.Bytes.{is_token_byte, slash_byte, semicolon_byte, equals_byte, quote_byte}
+use Rattle.mime.specs.Grammar.{is_space, IsContent, no_list}
+use Rattle.mime.specs.Values.{MediaType, value_of}
 use Rattle.mime.specs.Inner.KeptText.{lowered_pair}
+use Rattle.mime.specs.Inner.Quoted.{awaits_after, continues}
 use Rattle.mime.specs.declared.scan.fault.ParseError.{ParseError}
 use Rattle.mime.specs.declared.scan.fault.ParseError.TheVariants.{MissingSlash, MissingSubtype, MissingEqual, MissingValue, MissingQuote, InvalidToken}
-use Rattle.mime_http.specs.Written.{quote_of, text_of_pair, text_of_pairs}
+use Rattle.mime_http.specs.Written.{quote_of, text_of_pair, text_of_pairs, with_pairs}
 use Rattle.mime_http.specs.declared.reader.Spans.{Spans}
 
 -- the parts of a media type as they stand in a value: its type, its subtype, and its parameters, quoted values without their quotes
@@ -22,8 +23,7 @@ abbrev pub with_parameter : Parts → List ℕ → List ℕ → Parts
 with_parameter parts name value = record parts { pairs = parts.pairs ++ ((name, value) ∷ []) }
 
 -- What is read of the bytes of a value so far: white space or nothing; a part of the type, of the subtype, of a parameter's name, of its
--- value, or of the content of a quoted string, perhaps with a backslash after it; or all before a semicolon or the end, or before the
--- next parameter.
+-- value, or of the content of a quoted string; or all before a semicolon or the end, or before the next parameter.
 pub data State : Type 0 where
   before_type : State
   in_type : (top : List ℕ) → State
@@ -33,21 +33,14 @@ pub data State : Type 0 where
   in_name : (parts : Parts) (name : List ℕ) → State
   in_value : (parts : Parts) (name value : List ℕ) → State
   in_string : (parts : Parts) (name content : List ℕ) → State
-  after_backslash : (parts : Parts) (name content : List ℕ) → State
 
--- the state after a byte other than a token byte: after a subtype or a parameter,
+-- the state after a byte that ends a subtype or a parameter,
 abbrev pub next_after : Parts → ℕ → Option State
 next_after parts b =
     if is_space b then Some (before_semicolon parts) else
     if b == semicolon_byte then Some (after_semicolon parts) else None
 
--- and after one that ends the text of a quoted string
-abbrev pub next_quoted : Parts → List ℕ → List ℕ → ℕ → Option State
-next_quoted parts name content b =
-    if b == quote_byte then Some (before_semicolon (with_parameter parts name content)) else
-    if b == backslash_byte then Some (after_backslash parts name content) else None
-
--- the state after a byte, if a media type may go on so
+-- and after any, if a media type may go on so
 abbrev pub next : State → ℕ → Option State
 next before_type b = if is_token_byte b then Some (in_type (b ∷ [])) else if is_space b then Some before_type else None
 next (in_type top) b =
@@ -68,9 +61,8 @@ next (in_value parts name (v ∷ value)) b =
     if is_token_byte b then Some (in_value parts name ((v ∷ value) ++ (b ∷ []))) else
     next_after (with_parameter parts name (v ∷ value)) b
 next (in_string parts name content) b =
-    if is_quoted_text_byte b then Some (in_string parts name (content ++ (b ∷ []))) else next_quoted parts name content b
-next (after_backslash parts name content) b =
-    if is_quoted_byte b then Some (in_string parts name (content ++ (backslash_byte ∷ b ∷ []))) else None
+    if continues content b then Some (in_string parts name (content ++ (b ∷ []))) else
+    if b == quote_byte then Some (before_semicolon (with_parameter parts name content)) else None
 
 -- the answer: a media type of these parts, or the fault
 pub data Answer : Type 0 where
@@ -89,7 +81,6 @@ answer_at_end (in_name parts name) = rejected MissingEqual
 answer_at_end (in_value parts name []) = rejected MissingValue
 answer_at_end (in_value parts name (v ∷ value)) = read (with_parameter parts name (v ∷ value))
 answer_at_end (in_string parts name content) = rejected MissingQuote
-answer_at_end (after_backslash parts name content) = rejected MissingQuote
 
 -- the answer from a state on, for the bytes that follow, of which the first stands at this position
 abbrev pub answer_from : State → ℕ → List ℕ → Answer
@@ -105,16 +96,7 @@ abbrev pub text_of_parts : Parts → List ℕ
 text_of_parts parts = parts.top ++ (slash_byte ∷ (parts.sub ++ text_of_pairs parts.pairs))
 
 abbrev pub media_of : Parts → MediaType
-media_of parts =
-    let essence = lowered parts.top ++ (slash_byte ∷ lowered parts.sub) in
-    let pairs = map lowered_pair parts.pairs in
-    record {
-      essence = essence;
-      slash = length parts.top;
-      plus = last_plus (length parts.top + 2) (drop 1 (lowered parts.sub));
-      pairs = pairs;
-      kept = essence ++ text_of_pairs pairs;
-    }
+media_of parts = with_pairs (value_of (record { top = parts.top; sub = parts.sub; tail = no_list })) (map lowered_pair parts.pairs)
 
 -- ---- what the reader's functions promise
 
@@ -130,10 +112,10 @@ run_end class value from = from + prefix_len class (drop from value)
 abbrev pub fault_at : List ℕ → ℕ → ParseError → ParseError
 fault_at value pos missing = if pos == length value then missing else InvalidToken pos (slice_index value pos)
 
--- in a quoted string from a position on there is this fault
+-- in a quoted string from a position on there is this fault, if no backslash stands before it that pairs a byte
 abbrev pub IsStringFault : List ℕ → ℕ → ParseError → Type 0
-IsStringFault value from fault =
-    (parts : Parts) (name content : List ℕ) → answer_at value (in_string parts name content) from ≡ rejected fault
+IsStringFault value from fault = (parts : Parts) (name content : List ℕ) → awaits_after false content ≡ false
+    → answer_at value (in_string parts name content) from ≡ rejected fault
 
 -- the content of a quoted string, from a position on, ends before the quote at another
 pub record IsClosedAt (value : List ℕ) (from close : ℕ) : Type 0 where

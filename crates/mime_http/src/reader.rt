@@ -8,7 +8,7 @@ ghost use Rattle.mime_http.specs.Reader.{Parts, Holds, IsClosedAt, IsEssenceAt, 
 
 use crate::list::is_space;
 use mime::{ParseError, is_quoted_byte, is_quoted_text_byte, is_token};
-use mime_search::{Class, Range, copy_bytes, first_stop_far};
+use mime_search::{Class, Range, copy_bytes, first_stop, first_stop_far};
 
 /// All but the letters, digits, hyphens and dots, which most bytes of tokens are.
 static COMMON_TOKEN_BYTES: Class = Class {
@@ -50,7 +50,7 @@ fn token_end(value: &[u8], from: usize) -> usize
     ensures end { result ≡ run_end is_token_byte value.now from }
     ensures within { result ≤ length value.now }
 {
-    let mut at = from;
+    let mut at = first_stop(value, from, &COMMON_TOKEN_BYTES);
     while at < value.len() && is_token(value[at]) {
         at += 1;
         if (at - from) % LONG == 0 {
@@ -268,6 +268,9 @@ fn put_parameter(room: &mut [u8], len: usize, value: &[u8], name: usize, spans: 
     ensures room { length room.new ≡ length room.old }
 {
     let len = put(room, len, b"; ");
+    if spans.first == spans.begin {
+        return put(room, len, &value[name..spans.last]);
+    }
     let len = put(room, len, &value[name..spans.first]);
     put(room, len, &value[spans.begin..spans.last])
 }

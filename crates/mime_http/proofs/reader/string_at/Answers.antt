@@ -36,7 +36,7 @@ returns-in-Err c = λ parts name.
     let run = run_is is_token_byte value (quote + 1) plain.result plain.ensures.end in
     opens parts name value quote c.requires.within c.requires.quote
     ∙ fault_after value (quote + 1) plain.result c.in-Err.fault run.least plain.ensures.within
-    (run_content value (quote + 1) plain.result run) c.in-Err.ensures parts name []
+    (run_content value (quote + 1) plain.result run) c.in-Err.ensures parts name [] refl
 
 pub returns-then-plain-close : goal.returns-then-plain-close
 returns-then-plain-close c =
