@@ -24,18 +24,17 @@ closed_parts top sub closed = record { top = top; sub = sub; pairs = closed_pair
 -- the library's state and HTTP's after the same bytes
 data Alike : Begun → State → Type 0 where
   at_start : Alike (walked.in_type []) before_type
-  at_type : (t : ℕ) (top : List ℕ) → Alike (walked.in_type (t ∷ top)) (in_type (t ∷ top))
-  at_subtype : (top sub : List ℕ) → Alike (walked.in_subtype top sub) (in_subtype top sub)
-  at_spaces : (top sub n : List ℕ) (closed : ClosedParameters)
+  at_type : {t : ℕ} {top : List ℕ} → Alike (walked.in_type (t ∷ top)) (in_type (t ∷ top))
+  at_subtype : {top sub : List ℕ} → Alike (walked.in_subtype top sub) (in_subtype top sub)
+  at_spaces : {top sub n : List ℕ} {closed : ClosedParameters}
       → Alike (walked.in_list top sub (list_at closed (walked.in_spaces n))) (after_semicolon (closed_parts top sub closed))
-  at_name : (top sub n name : List ℕ) (closed : ClosedParameters)
+  at_name : {top sub n name : List ℕ} {closed : ClosedParameters}
       → Alike (walked.in_list top sub (list_at closed (walked.in_name n name))) (in_name (closed_parts top sub closed) name)
-  at_value : (top sub n name value : List ℕ) (closed : ClosedParameters)
+  at_value : {top sub n name value : List ℕ} {closed : ClosedParameters}
       → Alike (walked.in_list top sub (list_at closed (walked.in_value n name value))) (in_value (closed_parts top sub closed) name value)
-  at_text : (top sub n name content : List ℕ) (closed : ClosedParameters)
-      → Alike (walked.in_list top sub (list_at closed (walked.in_quotes n name content)))
-      (in_string (closed_parts top sub closed) name content)
-  at_quote : (top sub n name content m : List ℕ) (closed : ClosedParameters)
+  at_text : {top sub n name content : List ℕ} {closed : ClosedParameters}
+      → Alike (walked.in_list top sub (list_at closed (walked.in_quotes n name content))) (in_string (closed_parts top sub closed) name content)
+  at_quote : {top sub n name content m : List ℕ} {closed : ClosedParameters}
       → Alike (walked.in_list top sub (list_at closed (walked.after_quotes n name content m)))
       (before_semicolon (with_parameter (closed_parts top sub closed) name content))
 
@@ -70,35 +69,29 @@ module _ (b : ℕ) where
 
   -- and so in each state
   side_by_side : (begun : Begun) (state : State) → Alike begun state → Follows (λ it. it) (grow begun b) (next state b)
-  side_by_side _ _ at_start = both _ (is_token_byte b) _ _ _ _ (λ token. (_, refl, at_type b [])) (λ other space semicolon. rw space refl)
-  side_by_side _ _ (at_type t top) =
-      both _ (is_token_byte b) _ _ _ _ (λ token. (_, refl, at_type t (top ++ (b ∷ []))))
-      (λ other. both _ (b == 47) _ _ _ _ (λ same. (_, refl, at_subtype (t ∷ top) [])) (λ no space semicolon. refl))
-  side_by_side _ _ (at_subtype top []) =
-      both _ (is_token_byte b) _ _ _ _ (λ token. (_, refl, at_subtype top (b ∷ []))) (λ no space semicolon. refl)
-  side_by_side _ _ (at_subtype top (s ∷ sub)) =
-      both _ (is_token_byte b) _ _ _ _ (λ token. (_, refl, at_subtype top (s ∷ sub ++ (b ∷ []))))
-      (λ other. ended _ _ _ (at_spaces top (s ∷ sub) [] []))
-  side_by_side _ _ (at_spaces top sub n closed) = in_list top sub _ _
-      (both _ (is_space b) _ _ _ _ (λ space. (_, refl, at_spaces top sub (n ++ (b ∷ [])) closed))
-      (λ other. both _ (is_token_byte b) _ _ _ _ (λ token. (_, refl, at_name top sub n (b ∷ []) closed))
-      (λ no space semicolon. rw semicolon refl)))
-  side_by_side _ _ (at_name top sub n name closed) = in_list top sub _ _
-      (both _ (is_token_byte b) _ _ _ _ (λ token. (_, refl, at_name top sub n (name ++ (b ∷ [])) closed))
-      (λ other. both _ (b == 61) _ _ _ _ (λ same. (_, refl, at_value top sub n name [] closed)) (λ no space semicolon. refl)))
-  side_by_side _ _ (at_value top sub n name [] closed) = in_list top sub _ _
-      (both _ (is_token_byte b) _ _ _ _ (λ token. (_, refl, at_value top sub n name (b ∷ []) closed))
-      (λ other. both _ (b == 34) _ _ _ _ (λ same. (_, refl, at_text top sub n name [] closed)) (λ no space semicolon. refl)))
-  side_by_side _ _ (at_value top sub n name (v ∷ value) closed) = in_list top sub _ _
-      (both _ (is_token_byte b) _ _ _ _ (λ token. (_, refl, at_value top sub n name (v ∷ value ++ (b ∷ [])) closed))
-      (λ other. ended _ _ _ (at_spaces top sub [] ((n, plain name (v ∷ value)) ∷ closed))))
-  side_by_side _ _ (at_text top sub n name content closed) = in_list top sub _ _
-      (both _ (continues content b) _ _ _ _ (λ more. (_, refl, at_text top sub n name (content ++ (b ∷ [])) closed))
-      (λ other. both _ (b == 34) _ _ _ _ (λ same. (_, refl, at_quote top sub n name content [] closed)) (λ no space semicolon. refl)))
-  side_by_side _ _ (at_quote top sub n name content m closed) = in_list top sub _ _
-      (both _ (is_space b) _ _ _ _ (λ space. (_, refl, at_quote top sub n name content (m ++ (b ∷ [])) closed))
-      (λ other. both _ (b == 59) _ _ _ _ (λ same. (_, refl, at_spaces top sub [] ((n, quoted name content m) ∷ closed)))
-      (λ no space semicolon. refl)))
+  side_by_side _ _ at_start = both _ (is_token_byte b) _ _ _ _ (λ token. (_, refl, at_type)) (λ other space semicolon. rw space refl)
+  side_by_side (walked.in_type (t ∷ top)) _ at_type = both _ (is_token_byte b) _ _ _ _ (λ token. (_, refl, at_type))
+      (λ other. both _ (b == 47) _ _ _ _ (λ same. (_, refl, at_subtype)) (λ no space semicolon. refl))
+  side_by_side (walked.in_subtype top []) _ at_subtype =
+      both _ (is_token_byte b) _ _ _ _ (λ token. (_, refl, at_subtype)) (λ no space semicolon. refl)
+  side_by_side (walked.in_subtype top (s ∷ sub)) _ at_subtype =
+      both _ (is_token_byte b) _ _ _ _ (λ token. (_, refl, at_subtype)) (λ other. ended _ _ _ at_spaces)
+  side_by_side _ _ (at_spaces {top = top} {sub = sub}) = in_list top sub _ _ (both _ (is_space b) _ _ _ _ (λ space. (_, refl, at_spaces))
+      (λ other. both _ (is_token_byte b) _ _ _ _ (λ token. (_, refl, at_name)) (λ no space semicolon. rw semicolon refl)))
+  side_by_side _ _ (at_name {top = top} {sub = sub}) = in_list top sub _ _ (both _ (is_token_byte b) _ _ _ _ (λ token. (_, refl, at_name))
+      (λ other. both _ (b == 61) _ _ _ _ (λ same. (_, refl, at_value)) (λ no space semicolon. refl)))
+  side_by_side _ _ (at_value {top = top} {sub = sub} {value = []}) = in_list top sub _ _
+      (both _ (is_token_byte b) _ _ _ _ (λ token. (_, refl, at_value))
+      (λ other. both _ (b == 34) _ _ _ _ (λ same. (_, refl, at_text)) (λ no space semicolon. refl)))
+  side_by_side _ _ (at_value {top = top} {sub = sub} {n = n} {name = name} {value = v ∷ value} {closed = closed}) = in_list top sub _ _
+      (both _ (is_token_byte b) _ _ _ _ (λ token. (_, refl, at_value))
+      (λ other. ended _ _ _ (at_spaces {closed = (n, plain name (v ∷ value)) ∷ closed})))
+  side_by_side _ _ (at_text {top = top} {sub = sub} {content = content}) = in_list top sub _ _
+      (both _ (continues content b) _ _ _ _ (λ more. (_, refl, at_text))
+      (λ other. both _ (b == 34) _ _ _ _ (λ same. (_, refl, at_quote)) (λ no space semicolon. refl)))
+  side_by_side _ _ (at_quote {top = top} {sub = sub} {n = n} {name = name} {content = content} {m = m} {closed = closed}) = in_list top sub _ _
+      (both _ (is_space b) _ _ _ _ (λ space. (_, refl, at_quote)) (λ other. both _ (b == 59) _ _ _ _
+      (λ same. (_, refl, at_spaces {closed = (n, quoted name content m) ∷ closed})) (λ no space semicolon. refl)))
 
 -- so over each byte of a text that the library walks
 over_front : (front : List ℕ) (begun last : Begun) (state : State) → Alike begun state → walk_from begun front ≡ Some last
@@ -148,13 +141,13 @@ has_parts top sub closed rest pairs tree is same =
 -- and so it is at the end of any text
 ends : (begun : Begun) (state : State) (tree : SyntaxTree) → Alike begun state → tree_of begun ≡ Some tree
     → (parts : Parts) × (answer_at_end state ≡ read parts) × HasParts tree parts
-ends _ _ tree (at_subtype top (s ∷ sub)) is =
+ends _ _ tree (at_subtype {top = top} {sub = s ∷ sub}) is =
     (_, refl, subst (λ (it : SyntaxTree). HasParts it (record { top = top; sub = s ∷ sub; pairs = [] })) (same_Some _ tree is) refl)
-ends _ _ tree (at_spaces top sub n closed) is =
+ends _ _ tree (at_spaces {top = top} {sub = sub} {n = n} {closed = closed}) is =
     (_, refl, has_parts top sub closed (blank n) (closed_pairs closed) tree is (sym (append-nil _)))
-ends _ _ tree (at_value top sub n name (v ∷ value) closed) is =
+ends _ _ tree (at_value {top = top} {sub = sub} {n = n} {name = name} {value = v ∷ value} {closed = closed}) is =
     (_, refl, has_parts top sub closed (final n (plain name (v ∷ value))) _ tree is (map-append lowered_pair (closed_pairs closed) _))
-ends _ _ tree (at_quote top sub n name content m closed) is =
+ends _ _ tree (at_quote {top = top} {sub = sub} {n = n} {name = name} {content = content} {m = m} {closed = closed}) is =
     (_, refl, has_parts top sub closed (final n (quoted name content m)) _ tree is (map-append lowered_pair (closed_pairs closed) _))
 ends _ _ tree alike is = absurd (none-some tree is)
 

@@ -1,5 +1,5 @@
 -- Private: a header's value read byte by byte by HTTP's own grammar (RFC 9110, 8.3.1 and 5.6.6), and what is written of a media type.
-use Rattle.std.specs.Prelude.{◌≡◌, ◌<◌, ◌≤◌, ℕ, ◌+◌, ◌==◌, Bool, false, List, [], ◌∷◌, ◌++◌, Option, Some, None, codes, length, take, drop, slice_index, slice_range, map, unwrap_or, if◌then◌else◌}
+use Rattle.std.specs.Prelude.{◌≡◌, ◌<◌, ◌≤◌, ℕ, ◌+◌, ◌==◌, Bool, false, List, [], ◌∷◌, ◌++◌, Option, Some, None, length, take, drop, slice_index, slice_range, map, unwrap_or, if◌then◌else◌}
 use Rattle.std.specs.List.{prefix_len}
 use Rattle.std.specs.Option.{option_map}
 use Rattle.mime.specs.Bytes.{is_token_byte, slash_byte, semicolon_byte, equals_byte, quote_byte}
@@ -9,7 +9,7 @@ use Rattle.mime.specs.Inner.KeptText.{lowered_pair}
 use Rattle.mime.specs.Inner.Quoted.{awaits_after, continues}
 use Rattle.mime.specs.declared.scan.fault.ParseError.{ParseError}
 use Rattle.mime.specs.declared.scan.fault.ParseError.TheVariants.{MissingSlash, MissingSubtype, MissingEqual, MissingValue, MissingQuote, InvalidToken}
-use Rattle.mime_http.specs.Written.{quote_of, text_of_pair, text_of_pairs, with_pairs}
+use Rattle.mime_http.specs.Written.{quote_of, text_of_pairs, with_pairs}
 use Rattle.mime_http.specs.declared.reader.Spans.{Spans}
 
 -- the parts of a media type as they stand in a value: its type, its subtype, and its parameters, quoted values without their quotes
@@ -58,8 +58,7 @@ next (in_name parts name) b =
 next (in_value parts name []) b =
     if is_token_byte b then Some (in_value parts name (b ∷ [])) else if b == quote_byte then Some (in_string parts name []) else None
 next (in_value parts name (v ∷ value)) b =
-    if is_token_byte b then Some (in_value parts name ((v ∷ value) ++ (b ∷ []))) else
-    next_after (with_parameter parts name (v ∷ value)) b
+    if is_token_byte b then Some (in_value parts name ((v ∷ value) ++ (b ∷ []))) else next_after (with_parameter parts name (v ∷ value)) b
 next (in_string parts name content) b =
     if continues content b then Some (in_string parts name (content ++ (b ∷ []))) else
     if b == quote_byte then Some (before_semicolon (with_parameter parts name content)) else None
@@ -124,39 +123,21 @@ pub record IsClosedAt (value : List ℕ) (from close : ℕ) : Type 0 where
   pub content : IsContent (slice_range value from close)
   pub quote : slice_index value close ≡ quote_byte
 
--- a parameter's value stands from a position on, and what is written of it is a part of the value
-pub record IsValueAt (value : List ℕ) (from : ℕ) (spans : Spans) : Type 0 where
-  pub content : List ℕ
-  pub read : (parts : Parts) (name : List ℕ)
-      → answer_at value (in_value parts name []) from ≡ answer_at value (before_semicolon (with_parameter parts name content)) spans.end
-  pub written : quote_of content ++ (content ++ quote_of content) ≡ slice_range value spans.begin spans.last
-  pub first : spans.first ≡ from
-  pub apart : from ≤ spans.begin
-  pub some : spans.begin ≤ spans.last
-  pub most : spans.last ≤ spans.end
-  pub within : spans.end ≤ length value
-
--- reading a parameter's value from a position on gives this fault
-abbrev pub IsValueFault : List ℕ → ℕ → ParseError → Type 0
-IsValueFault value from fault = (parts : Parts) (name : List ℕ) → answer_at value (in_value parts name []) from ≡ rejected fault
-
--- a parameter stands from a position on, and what is written of it are two parts of the value
-pub record IsParameterAt (value : List ℕ) (from : ℕ) (spans : Spans) : Type 0 where
-  pub name : List ℕ
+-- in a state, from a position on, a parameter of this name is read, and what is written of its value is a part of the whole value
+pub record IsParameterAt (value name : List ℕ) (state : Parts → State) (from : ℕ) (spans : Spans) : Type 0 where
   pub content : List ℕ
   pub read : (parts : Parts)
-      → answer_at value (after_semicolon parts) from ≡ answer_at value (before_semicolon (with_parameter parts name content)) spans.end
-  pub written : text_of_pair (name, content)
-      ≡ codes "; " ++ (slice_range value from spans.first ++ slice_range value spans.begin spans.last)
+      → answer_at value (state parts) from ≡ answer_at value (before_semicolon (with_parameter parts name content)) spans.end
+  pub written : quote_of content ++ (content ++ quote_of content) ≡ slice_range value spans.begin spans.last
   pub least : from ≤ spans.first
   pub apart : spans.first ≤ spans.begin
   pub some : spans.begin ≤ spans.last
   pub most : spans.last ≤ spans.end
   pub within : spans.end ≤ length value
 
--- reading a parameter from a position on gives this fault
-abbrev pub IsParameterFault : List ℕ → ℕ → ParseError → Type 0
-IsParameterFault value from fault = (parts : Parts) → answer_at value (after_semicolon parts) from ≡ rejected fault
+-- or there is this fault
+abbrev pub IsFaultFrom : List ℕ → (Parts → State) → ℕ → ParseError → Type 0
+IsFaultFrom value state from fault = (parts : Parts) → answer_at value (state parts) from ≡ rejected fault
 
 -- the essence of a value stands from one position to another
 pub record IsEssenceAt (value : List ℕ) (from to : ℕ) : Type 0 where

@@ -1,5 +1,5 @@
 -- The essence is written, and then each parameter that is read, up to a fault or the end.
-use Rattle.mime_http.proofs.Common.{Holds, IsEssenceAt, List, Parts, after_semicolon, answer_at, answer_of, ap, append-nil, arith, before_semicolon, is_space, is_token_byte, length, refl, rejected, run_end, slice_index, slice_range, subst, sym, take, text_of_pair, text_of_parts, with_parameter, [], ℕ, ◌*◌, ◌+◌, ◌++◌, ◌-◌, ◌<◌, ◌∙◌, ◌∷◌, ◌≡◌, ◌≤◌}
+use Rattle.mime_http.proofs.Common.{Holds, IsEssenceAt, List, Parts, after_semicolon, answer_at, answer_of, ap, ap₂, append_assoc, codes, append-nil, arith, before_semicolon, is_space, is_token_byte, length, refl, rejected, run_end, slice_index, slice_range, subst, sym, take, text_of_pair, text_of_parts, with_parameter, [], ℕ, ◌*◌, ◌+◌, ◌++◌, ◌-◌, ◌<◌, ◌∙◌, ◌∷◌, ◌≡◌, ◌≤◌}
 use Rattle.mime_http.proofs.ReadAt.{length-part, nothing_between, one_written, over_semicolon, over_white_after, over_white_inside, run_is}
 use Rattle.mime_http.proofs.reader.write_anew.Goals as goal
 
@@ -46,14 +46,15 @@ loop-at-preserved-then-is_token_at c =
     let keeps = c.loop-at.invariant in
     let next = c.spaces_end-at-in-loop-at in
     let sign = c.is_at.ensures.yes c.loop-at-test.true in
-    let is = c.in-Ok-parameter_at.ensures in
+    let (name, front, is) = c.in-Ok-parameter_at.ensures in
     let spans = c.in-Ok-parameter_at.spans in
-    let parts : Parts = with_parameter keeps.parts is.name is.content in
+    let parts : Parts = with_parameter keeps.parts name is.content in
     let at = c.spaces_end-at-then-is_token_at in
     let inside = run_is is_space value (c.loop-at.at + 1) next.result next.ensures.end in
     let white = run_is is_space value spans.end at.result at.ensures.end in
     let put = c.put_parameter-len in
-    let text = ap (λ xs. text_of_parts keeps.parts ++ xs) (sym is.written) ∙ one_written keeps.parts is.name is.content in
+    let one = ap₂ (λ xs ys. codes "; " ++ (xs ++ ys)) (sym front) (sym is.written) ∙ ap (λ xs. codes "; " ++ xs) (append_assoc name (61 ∷ []) _) in
+    let text = ap (λ xs. text_of_parts keeps.parts ++ xs) one ∙ one_written keeps.parts name is.content in
     record {
       parts = parts;
       read = to_next keeps.parts value c.loop-at.at next.result keeps.read sign.0 sign.1 next.ensures.end next.ensures.within

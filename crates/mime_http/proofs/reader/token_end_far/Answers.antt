@@ -2,7 +2,7 @@
 use Rattle.mime_http.proofs.Common.{arith, is_token_byte, sym, ◌+◌, ◌∙◌}
 use Rattle.std.proofs.lemmas.List.Sums.{prefix_len-drop_yes}
 use Rattle.mime_http.proofs.ReadAt.{are_token_bytes, run_goes_on}
-use Rattle.mime_http.proofs.reader.token_end.Goals as goal
+use Rattle.mime_http.proofs.reader.token_end_far.Goals as goal
 
 pub loop-at-init : goal.loop-at-init
 loop-at-init c =
