@@ -96,21 +96,6 @@ many_kept value media parts reads answered long either = ⊎_elim
 
 -- ---- what is read of it
 
--- what is written anew of a value is a text that the library reads as the value's media type
-pub anew_is_utf8 : {value bytes text : List ℕ} (parts : Parts) → bytes ≡ value → IsUtf8 value → answer_of bytes ≡ read parts
-    → text ≡ text_of_parts parts → IsUtf8 text
-anew_is_utf8 {value} parts same utf8 answered is =
-    subst IsUtf8 (sym is) (written_is_utf8 value parts utf8 (ap answer_of (sym same) ∙ answered))
-
-pub anew_reads : (bytes : List ℕ) {text : List ℕ} (parts : Parts) → answer_of bytes ≡ read parts → text ≡ text_of_parts parts
-    → Reads text (media_of parts)
-anew_reads bytes parts answered is = subst (λ t. Reads t (media_of parts)) (sym is) (written_reads bytes parts answered)
-
-pub read_anew_is : (bytes : List ℕ) {text : List ℕ} {media : MediaType} (parts : Parts) → answer_of bytes ≡ read parts → text ≡ text_of_parts parts
-    → Reads text media → media ≡ media_of parts
-read_anew_is bytes {text} {media} parts answered is reads =
-    one_reading text media (media_of parts) reads (anew_reads bytes parts answered is)
-
 -- a room of as many bytes as are written holds them
 pub room_is : (room rest text : List ℕ) (size len : ℕ) → length room ≡ size → len ≡ size → take len room ≡ text → take size (room ++ rest) ≡ text
 room_is room rest text size len same all copied =

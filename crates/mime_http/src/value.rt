@@ -1,6 +1,6 @@
 //! The media type of a header's value, which comes as bytes.
 
-ghost use Rattle.std.specs.Prelude.{◌≡◌, ◌≢◌, ◌<◌, ◌≤◌, true, codes, length, Some, IfOk, IfErr, IfSome, IsOk, MatchResult};
+ghost use Rattle.std.specs.Prelude.{◌≡◌, ◌≢◌, ◌<◌, ◌≤◌, ℕ, List, true, codes, length, Some, IfOk, IfErr, IfSome, IsOk, MatchResult};
 ghost use Rattle.std.specs.Fmt.InlineText.{inline_text};
 ghost use Rattle.std.specs.Str.{IsAscii, IsUtf8, IsValidUpTo, valid_up_to};
 ghost use Rattle.mime.specs.Values.{MediaType, Reads, IsAccepted};
@@ -102,9 +102,9 @@ fn trimmed(text: &str) -> &str
 
 /// Reads what is written anew of a value. It takes no memory for at most 40 bytes.
 fn read_written(alloc: Global, text: &[u8]) -> Result<Mime, FieldError>
-    requires utf8 { IsUtf8 text.now }
-    requires accepted { IsAccepted text.now }
-    ensures read { IfOk result (λ mime. Reads text.now mime.media) }
+    requires { (value : List ℕ) × (parts : Parts) × IsUtf8 value × (answer_of value ≡ read parts) × (text.now ≡ text_of_parts parts) }
+    ensures read { (value : List ℕ) (parts : Parts) → answer_of value ≡ read parts → text.now ≡ text_of_parts parts
+        → IfOk result (λ mime. mime.media ≡ media_of parts) }
     ensures memory { IfErr result (λ error. (error ≡ FieldError.NoMemory) × (40 < length text.now)) }
 {
     // SAFETY: what is written of a text is a text.
@@ -207,7 +207,6 @@ pub(crate) fn read_rejected(
     requires { Explains (trimmed value.now) fault }
     ensures http { IfOk result (λ mime. HttpReads value.now mime.media × IsPrinted value.now mime.media) }
     ensures explained { IfErr result (λ error. HttpExplains value.now error) }
-    ensures accepted { IsHttpMediaType value.now → IfErr result (λ error. error ≡ FieldError.NoMemory) }
 {
     match fault {
         ParseError::NoMemory => read_essence(alloc, value),
