@@ -38,6 +38,10 @@ fn spaces_end(value: &[u8], from: usize) -> usize
     ensures within { result ≤ length value.now }
 {
     let mut at = from;
+    // The short way for no white space.
+    if at < value.len() && value[at] > b' ' {
+        return at;
+    }
     while at < value.len() && is_space(value[at]) {
         at += 1;
     }
@@ -70,10 +74,13 @@ fn token_end(value: &[u8], from: usize) -> usize
 {
     let near = value.len().min(from + LONG);
     let mut at = from;
-    while at < near && is_token(value[at]) {
+    while at < near {
+        if !is_token(value[at]) {
+            return at;
+        }
         at += 1;
     }
-    if at - from < LONG {
+    if at == value.len() {
         return at;
     }
     token_end_far(value, at)

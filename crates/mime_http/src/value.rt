@@ -259,8 +259,9 @@ pub fn content_type(alloc: Global, value: &[u8]) -> Result<Mime, FieldError>
             return Err(FieldError::NotUtf8 { pos });
         }
     };
-    match Mime::from_str(alloc, trimmed(text)) {
-        Ok(mime) => Ok(mime),
-        Err(error) => read_rejected(alloc, text, *error.fault()),
-    }
+    let fault = match Mime::from_str(alloc, trimmed(text)) {
+        Ok(mime) => return Ok(mime),
+        Err(error) => *error.fault(),
+    };
+    read_rejected(alloc, text, fault)
 }
