@@ -96,12 +96,6 @@ many_kept value media parts reads answered long either = ⊎_elim
 
 -- ---- what is read of it
 
--- a room of as many bytes as are written holds them
-pub room_is : (room rest text : List ℕ) (size len : ℕ) → length room ≡ size → len ≡ size → take len room ≡ text → take size (room ++ rest) ≡ text
-room_is room rest text size len same all copied =
-    ap (λ n. take n (room ++ rest)) (sym same) ∙ take-append_seam room rest ∙ sym (take-length room)
-    ∙ ap (λ n. take n room) (same ∙ sym all) ∙ copied
-
 -- that is printed of a value that the library rejects without the white space around it
 pub printed_anew : {value bytes : List ℕ} {media : MediaType} (parts : Parts) → bytes ≡ value → answer_of bytes ≡ read parts
     → ¬ (IsAccepted (trimmed value)) → media ≡ media_of parts → HttpReads value media × IsPrinted value media

@@ -56,7 +56,7 @@ pub use Rattle.mime_http.specs.HttpPrinted.{field_error_text}
 pub use Rattle.mime_http.specs.ListLaws.{AreElements, AreHttpLists, AreSame, BadIsAlone, HttpListsAreRead, OneCut, OneHeader, ReadAreHttpLists, element, nothing, without_kept}
 pub use Rattle.mime_http.specs.Ranges.{AreInOrder, Rank, best_offer, closeness, closest, demanded, first_value, given_weight, has, merit, merit_at, named_parts, rank_cmp, weight_of}
 pub use Rattle.mime_http.specs.RangesLaws.{BestIsAcceptable, BestIsFirst, ClosestIsClosest, CoversItself, IsAtMost, IsQvalue, MeanTheSame, MeaningCounts, StrangerChangesNothing, WeightIsNumber, meaning_of, one_digit, one_dot, three_digits, two_digits, zero_dot}
-pub use Rattle.mime_http.specs.Reader.{Answer, Holds, IsClosedAt, IsEssenceAt, IsFaultFrom, IsParameterAt, IsStringFault, Parts, State, after_semicolon, answer_at, answer_at_end, answer_from, answer_of, before_semicolon, before_type, fault_at, in_name, in_string, in_subtype, in_type, in_value, media_of, next, next_after, read, rejected, run_end, text_of_parts, with_parameter}
+pub use Rattle.mime_http.specs.Reader.{Answer, Holds, IsClosedAt, IsEssenceAt, IsFaultFrom, IsParameterAt, IsStringFault, Parts, State, after_semicolon, answer_at, answer_at_end, answer_from, answer_of, before_semicolon, before_type, fault_at, in_name, in_string, in_subtype, in_type, in_value, media_of, next, next_after, read, rejected, text_of_parts, with_parameter}
 pub use Rattle.mime_http.specs.Unescaped.{unescaped}
 pub use Rattle.mime_http.specs.LineCut.{AreKept, AreUnmarked, At, Outside, Takes, after, after_outside, cut, cut_after, cut_from, ends, is_mark}
 pub use Rattle.mime_http.specs.Weight.{thousandths_of}

@@ -1,5 +1,5 @@
 -- Reading on from a position of a value: over a byte, a run, and quoted content; and where nothing goes on.
-use Rattle.mime_http.proofs.Common.{Bool, InvalidToken, IsClosedAt, IsContent, List, None, ParseError, Some, State, [], IsStringFault, IsToken, Parts, after_semicolon, and_from, and_parts, answer_at, answer_at_end, answer_from, ap, append-nil, append_assoc, ap₂, arith, awaits_after, awaits_after-append, before_semicolon, before_type, cases_lt, drop, drop-drop, drop_more, drop_of_length-le, drop_split, false, fault_at, flat_map-append, get_or-drop, if◌then◌else◌, in_name, in_ranges, in_string, in_subtype, in_type, in_value, is_quoted_byte, is_quoted_text_byte, is_space, is_token_byte, is_token_value, length, length-drop, length-take-le, nat_tests, list_all, list_all-append, list_all-wider, next, no_byte, not, prefix_len, option_map, prefix_len_stops, quoted_pair, refl, rejected, run_end, slice_index, slice_range, subst, suc, sym, take, take-add, text_byte, text_of_pair, text_of_pairs, text_of_parts, true, unwrap_or, with_parameter, ℕ, ⊎_elim, ◌++◌, ◌+◌, ◌-◌, ◌<◌, ◌∙◌, ◌∷◌, ◌≡◌, ◌≢◌, ◌≤◌}
+use Rattle.mime_http.proofs.Common.{Bool, InvalidToken, IsClosedAt, IsContent, List, None, ParseError, Some, State, [], IsStringFault, IsToken, Parts, after_semicolon, and_from, and_parts, answer_at, answer_at_end, answer_from, ap, append-nil, append_assoc, ap₂, arith, awaits_after, awaits_after-append, before_semicolon, before_type, cases_lt, drop, drop-drop, drop_more, drop_of_length-le, drop_split, false, fault_at, flat_map-append, get_or-drop, if◌then◌else◌, in_name, in_ranges, in_string, in_subtype, in_type, in_value, is_quoted_byte, is_quoted_text_byte, is_space, is_token_byte, is_token_value, length, length-drop, length-take-le, nat_tests, list_all, list_all-append, list_all-wider, next, no_byte, not, prefix_len, option_map, prefix_len_stops, quoted_pair, refl, rejected, slice_index, slice_range, subst, suc, sym, take, take-add, text_byte, text_of_pair, text_of_pairs, text_of_parts, true, unwrap_or, with_parameter, ℕ, ⊎_elim, ◌++◌, ◌+◌, ◌-◌, ◌<◌, ◌∙◌, ◌∷◌, ◌≡◌, ◌≢◌, ◌≤◌}
 use Rattle.std.proofs.lemmas.Bool.{not-true}
 use Rattle.mime.proofs.GrammarLemmas.Content.{content-awaits}
 use Rattle.mime_search.specs.Classes.{is_stop}
@@ -32,6 +32,10 @@ parts_joined value from at to least most =
     ∙ ap (λ rest. slice_range value from at ++ take (to - at) rest) (drop-drop (at - from) from value ∙ ap (λ n. drop n value) there)
 
 -- ---- runs
+
+-- the position, from one on, of the first byte that isn't of a class, or the length
+abbrev pub run_end : (ℕ → Bool) → List ℕ → ℕ → ℕ
+run_end class value from = from + prefix_len class (drop from value)
 
 -- one more, counted in front
 one_more : (n : ℕ) → suc n ≡ 1 + n
@@ -185,12 +189,12 @@ over_content parts name value from close closed =
 -- and a fault after content is the string's
 pub fault_after : (value : List ℕ) (from at : ℕ) (fault : ParseError) → from ≤ at → at ≤ length value
     → IsContent (slice_range value from at) → IsStringFault value at fault → IsStringFault value from fault
-fault_after value from at fault least within content is = λ parts name done none.
+fault_after value from at fault least within content is = λ name done none parts.
     let more : List ℕ = done ++ slice_range value from at in
     let awaits : awaits_after false more ≡ false = awaits_after-append false done _
     ∙ ap (λ awaiting. awaits_after awaiting (slice_range value from at)) none ∙ content-awaits _ content in
     over value from at (in_string parts name done) (in_string parts name more) least within
-    (on_content content parts name done none from (drop at value)) ∙ is parts name more awaits
+    (on_content content parts name done none from (drop at value)) ∙ is name more awaits parts
 
 -- a byte that isn't quoted text, a quote or a backslash goes nowhere
 pub no_text : (parts : Parts) (name content : List ℕ) (b : ℕ) → awaits_after false content ≡ false → is_quoted_text_byte b ≡ false → b ≢ 34

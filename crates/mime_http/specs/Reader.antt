@@ -1,6 +1,5 @@
 -- Private: a header's value read byte by byte by HTTP's own grammar (RFC 9110, 8.3.1 and 5.6.6), and what is written of a media type.
 use Rattle.std.specs.Prelude.{◌≡◌, ◌<◌, ◌≤◌, ℕ, ◌+◌, ◌==◌, Bool, false, List, [], ◌∷◌, ◌++◌, Option, Some, None, length, take, drop, slice_index, slice_range, map, unwrap_or, if◌then◌else◌}
-use Rattle.std.specs.List.{prefix_len}
 use Rattle.std.specs.Option.{option_map}
 use Rattle.mime.specs.Bytes.{is_token_byte, slash_byte, semicolon_byte, equals_byte, quote_byte}
 use Rattle.mime.specs.Grammar.{is_space, IsContent, no_list}
@@ -23,7 +22,7 @@ abbrev pub with_parameter : Parts → List ℕ → List ℕ → Parts
 with_parameter parts name value = record parts { pairs = parts.pairs ++ ((name, value) ∷ []) }
 
 -- What is read of the bytes of a value so far: white space or nothing; a part of the type, of the subtype, of a parameter's name, of its
--- value, or of the content of a quoted string; or all before a semicolon or the end, or before the next parameter.
+-- value, or of a quoted string's content; or all before a semicolon or the end, or before the next parameter.
 pub data State : Type 0 where
   before_type : State
   in_type : (top : List ℕ) → State
@@ -47,8 +46,7 @@ next (in_type top) b =
     if is_token_byte b then Some (in_type (top ++ (b ∷ []))) else if b == slash_byte then Some (in_subtype top []) else None
 next (in_subtype top []) b = if is_token_byte b then Some (in_subtype top (b ∷ [])) else None
 next (in_subtype top (s ∷ sub)) b =
-    if is_token_byte b then Some (in_subtype top ((s ∷ sub) ++ (b ∷ []))) else
-    next_after (record { top = top; sub = s ∷ sub; pairs = [] }) b
+    if is_token_byte b then Some (in_subtype top (s ∷ sub ++ (b ∷ []))) else next_after (record { top = top; sub = s ∷ sub; pairs = [] }) b
 next (before_semicolon parts) b = next_after parts b
 next (after_semicolon parts) b =
     if is_space b then Some (after_semicolon parts) else if is_token_byte b then Some (in_name parts (b ∷ [])) else
@@ -97,24 +95,21 @@ text_of_parts parts = parts.top ++ (slash_byte ∷ (parts.sub ++ text_of_pairs p
 abbrev pub media_of : Parts → MediaType
 media_of parts = with_pairs (value_of (record { top = parts.top; sub = parts.sub; tail = no_list })) (map lowered_pair parts.pairs)
 
--- ---- what the reader's functions promise
-
 -- the answer from a state and a position of a value on
 abbrev pub answer_at : List ℕ → State → ℕ → Answer
 answer_at value state at = answer_from state at (drop at value)
-
--- the position, from one on, of the first byte that isn't of a class, or the length
-abbrev pub run_end : (ℕ → Bool) → List ℕ → ℕ → ℕ
-run_end class value from = from + prefix_len class (drop from value)
 
 -- the fault of a value in which nothing goes on at a position
 abbrev pub fault_at : List ℕ → ℕ → ParseError → ParseError
 fault_at value pos missing = if pos == length value then missing else InvalidToken pos (slice_index value pos)
 
--- in a quoted string from a position on there is this fault, if no backslash stands before it that pairs a byte
+-- in a state, from a position on, there is this fault; and so in a quoted string, if no backslash stands before it that pairs a byte
+abbrev pub IsFaultFrom : List ℕ → (Parts → State) → ℕ → ParseError → Type 0
+IsFaultFrom value state from fault = (parts : Parts) → answer_at value (state parts) from ≡ rejected fault
+
 abbrev pub IsStringFault : List ℕ → ℕ → ParseError → Type 0
-IsStringFault value from fault = (parts : Parts) (name content : List ℕ) → awaits_after false content ≡ false
-    → answer_at value (in_string parts name content) from ≡ rejected fault
+IsStringFault value from fault =
+    (name content : List ℕ) → awaits_after false content ≡ false → IsFaultFrom value (λ parts. in_string parts name content) from fault
 
 -- the content of a quoted string, from a position on, ends before the quote at another
 pub record IsClosedAt (value : List ℕ) (from close : ℕ) : Type 0 where
@@ -134,10 +129,6 @@ pub record IsParameterAt (value name : List ℕ) (state : Parts → State) (from
   pub some : spans.begin ≤ spans.last
   pub most : spans.last ≤ spans.end
   pub within : spans.end ≤ length value
-
--- or there is this fault
-abbrev pub IsFaultFrom : List ℕ → (Parts → State) → ℕ → ParseError → Type 0
-IsFaultFrom value state from fault = (parts : Parts) → answer_at value (state parts) from ≡ rejected fault
 
 -- the essence of a value stands from one position to another
 pub record IsEssenceAt (value : List ℕ) (from to : ℕ) : Type 0 where

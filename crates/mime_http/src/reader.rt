@@ -1,10 +1,10 @@
 //! A header's value read in one pass, by HTTP's own grammar (RFC 9110, 8.3.1 and 5.6.6), and written anew.
 
-ghost use Rattle.std.specs.Prelude.{◌≡◌, ◌<◌, ◌≤◌, ◌+◌, ◌-◌, ◌^◌, ◌++◌, ◌≢◌, true, false, ℕ, List, [], ◌∷◌, codes, length, slice_index, slice_range, MatchResult};
-ghost use Rattle.std.specs.List.{list_all};
+ghost use Rattle.std.specs.Prelude.{◌≡◌, ◌<◌, ◌≤◌, ◌+◌, ◌-◌, ◌^◌, ◌++◌, ◌≢◌, true, false, ℕ, List, [], ◌∷◌, codes, drop, length, slice_index, slice_range, MatchResult};
+ghost use Rattle.std.specs.List.{list_all, prefix_len};
 ghost use Rattle.mime.specs.Bytes.{is_token_byte, is_quoted_byte, is_quoted_text_byte, equals_byte, quote_byte, backslash_byte};
 ghost use Rattle.mime.specs.Grammar.{is_space};
-ghost use Rattle.mime_http.specs.Reader.{Parts, Holds, IsClosedAt, IsEssenceAt, IsFaultFrom, IsParameterAt, IsStringFault, after_semicolon, answer_of, fault_at, in_value, read, rejected, run_end, text_of_parts};
+ghost use Rattle.mime_http.specs.Reader.{Parts, Holds, IsClosedAt, IsEssenceAt, IsFaultFrom, IsParameterAt, IsStringFault, after_semicolon, answer_of, fault_at, in_value, read, rejected, text_of_parts};
 
 use crate::list::is_space;
 use mime::{ParseError, is_quoted_byte, is_quoted_text_byte, is_token};
@@ -34,7 +34,7 @@ const LONG: usize = 16;
 /// The position, from one on, of the first byte that isn't white space, or the length.
 fn spaces_end(value: &[u8], from: usize) -> usize
     requires { from ≤ length value.now }
-    ensures end { result ≡ run_end is_space value.now from }
+    ensures end { result ≡ from + prefix_len is_space (drop from value.now) }
     ensures within { result ≤ length value.now }
 {
     let mut at = from;
@@ -53,7 +53,7 @@ fn spaces_end(value: &[u8], from: usize) -> usize
 #[inline(never)]
 fn token_end_far(value: &[u8], from: usize) -> usize
     requires { from ≤ length value.now }
-    ensures end { result ≡ run_end is_token_byte value.now from }
+    ensures end { result ≡ from + prefix_len is_token_byte (drop from value.now) }
     ensures within { result ≤ length value.now }
 {
     let mut at = first_stop(value, from, &COMMON_TOKEN_BYTES);
@@ -69,7 +69,7 @@ fn token_end_far(value: &[u8], from: usize) -> usize
 /// The position that `token_end_far` finds, in few instructions for a short token.
 fn token_end(value: &[u8], from: usize) -> usize
     requires { from ≤ length value.now }
-    ensures end { result ≡ run_end is_token_byte value.now from }
+    ensures end { result ≡ from + prefix_len is_token_byte (drop from value.now) }
     ensures within { result ≤ length value.now }
 {
     let near = value.len().min(from + LONG);

@@ -16,7 +16,7 @@ unpaired value at parts name content within first isnt none =
     ∙ stuck value (at + 1) (in_string parts name more) MissingQuote (omega (arith, within)) refl (λ here. rw begun (grind (arith, nat_tests, isnt here)))
 
 pub returns : goal.returns
-returns c = λ parts name content none.
+returns c = λ name content none parts.
     unpaired c.args.value.now c.args.backslash parts name content c.requires.within c.requires.first (elim c.else-paired-value.branch [
       | else-paired-value-via-then-paired-value+else-is_quoted_byte w ↦ λ more. sym w.is_quoted_byte.ensures ∙ w.if-is_quoted_byte.false
       | else-paired-value-via-else-paired-value w ↦ λ more. absurd (omega (arith, more, w.if-paired-value.false))

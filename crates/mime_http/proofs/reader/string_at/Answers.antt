@@ -36,7 +36,7 @@ returns-in-Err c = λ name parts.
     let run = run_is is_token_byte value (quote + 1) plain.result plain.ensures.end in
     opens parts name value quote c.requires.within c.requires.quote
     ∙ fault_after value (quote + 1) plain.result c.in-Err.fault run.least plain.ensures.within
-    (run_content value (quote + 1) plain.result run) c.in-Err.ensures parts name [] refl
+    (run_content value (quote + 1) plain.result run) c.in-Err.ensures name [] refl parts
 
 pub returns-then-plain-close : goal.returns-then-plain-close
 returns-then-plain-close c =

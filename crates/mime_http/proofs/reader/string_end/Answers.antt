@@ -44,7 +44,7 @@ returns-else-is_quoted_text_byte c =
     let value = c.args.value.now in
     let at = c.loop-at.at in
     let keeps = c.loop-at.invariant in
-    fault_after value c.args.from at _ keeps.least keeps.within keeps.content (λ parts name content none.
+    fault_after value c.args.from at _ keeps.least keeps.within keeps.content (λ name content none parts.
     at_byte value at (in_string parts name content) c.loop-at-test.true
     (no_text parts name content _ none (sym c.is_quoted_text_byte.ensures ∙ c.if-is_quoted_text_byte.false) c.if-byte-eq34.false c.if-byte-eq92.false))
 
@@ -54,4 +54,4 @@ returns c =
     let at = c.loop-at.at in
     let keeps = c.loop-at.invariant in
     fault_after value c.args.from at _ keeps.least keeps.within keeps.content
-    (λ parts name content none. at_end value at (in_string parts name content) (omega (arith, c.loop-at-test.false)))
+    (λ name content none parts. at_end value at (in_string parts name content) (omega (arith, c.loop-at-test.false)))

@@ -1,6 +1,5 @@
 -- A block has room for all that is written.
-use Rattle.mime_http.proofs.Common.{Holds, IfOk-weaker, IsUtf8, List, OwnedMedia, Parts, answer_of, ap, arith, length, media_of, read, subst, sym, take, text_of_parts, ℕ, ◌++◌, ◌∙◌, ◌≡◌}
-use Rattle.mime_http.proofs.Bare.{room_is}
+use Rattle.mime_http.proofs.Common.{Holds, IfOk-weaker, IsUtf8, List, OwnedMedia, Parts, answer_of, ap, arith, length, media_of, read, subst, sym, take, take-append_seam, take-length, text_of_parts, ℕ, ◌++◌, ◌∙◌, ◌≡◌}
 use Rattle.mime_http.proofs.value.read_in_block.Goals as goal
 
 -- as many bytes are written as at first, so the whole block is what is written
@@ -10,7 +9,8 @@ block_is : {value bytes text room : List ℕ} {first second : Parts} {size len :
 block_is {room = room} {first = first} {second = second} {size = size} {len = len} rest same one two wanted holds long is =
     let parts : first ≡ second = cc (sym one ∙ ap answer_of (sym same) ∙ two) in
     let all = ap (λ p. length (text_of_parts p)) (sym parts) ∙ wanted in
-    is ∙ room_is room rest (text_of_parts second) size len long (omega (arith, all, holds.long)) (holds.held (omega (arith, all, holds.long, long)))
+    is ∙ ap (λ n. take n (room ++ rest)) (sym long) ∙ take-append_seam room rest ∙ sym (take-length room)
+    ∙ ap (λ n. take n room) (omega (arith, all, holds.long, long)) ∙ holds.held (omega (arith, all, holds.long, long))
 
 pub read_written-requires : goal.read_written-requires
 read_written-requires c =
