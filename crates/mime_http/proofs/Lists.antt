@@ -5,7 +5,7 @@ use Rattle.mime_http.specs.ListLaws.{no_text as no_element}
 use Rattle.mime_http.proofs.Around.{reads_around, white_more}
 use Rattle.mime_http.proofs.HttpLaws.{one_printed_text, same_anew}
 use Rattle.mime_http.proofs.PlainIsHttp.{plain_is_http}
-use Rattle.mime_http.proofs.Runs.{white_before}
+use Rattle.mime_http.proofs.Runs.{keeps_before, over_white}
 use Rattle.mime_http.proofs.Takes.{sorted_both}
 use Rattle.mime_http.proofs.Cuts.{IsOutside, IsWhole, is_piece, only_cut, opens_none}
 use Rattle.mime_http.proofs.ReadFaults.{rejected_is_none}
@@ -143,7 +143,7 @@ read_are_http_lists lines header is none = record {
 -- white space is no media type, which begins with a token byte after white space
 http_is_not_blank : {piece : List ℕ} → AreSpaces piece → ¬ (IsHttpMediaType piece)
 http_is_not_blank {piece} white =
-    rejected_is_none piece MissingSlash (ap answer_of (sym (append-nil piece)) ∙ white_before piece white 0 [])
+    rejected_is_none piece MissingSlash (ap answer_of (sym (append-nil piece)) ∙ over_white before_type keeps_before piece white 0 [])
 
 -- texts are sorted in one way
 one_sorting : {texts : List (List ℕ)} {ranges others : List MediaType} {bad poor : List (List ℕ)} → AreSorted texts ranges bad

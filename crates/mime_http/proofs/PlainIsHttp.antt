@@ -1,15 +1,13 @@
 -- What the library walks over HTTP reads in the same way. So what the library reads is what HTTP writes there, and where the library stops
 -- HTTP stops as well, but at white space and at a semicolon.
 use Rattle.mime_http.proofs.Common.{Bool, Reads, ⊎_elim, ap₂, blank, final, listed, lowered_parameter, stopped-from_walk, takes, IsAccepted, Parameter, AreSpaces, Begun, BegunList, ClosedParameters, EndsIn, Explains, NoMemory, HttpReads, InvalidToken, IsDeadAt, IsFault, IsHttpFault, IsHttpMediaType, List, MatchOption, MediaType, None, Option, ParseError, Parameters, Parts, PlainIsHttp, Some, State, SyntaxTree, [], after_semicolon, answer_at_end, answer_from, answer_of, ap, append_assoc, append-nil, arith, awaits_after, awaits_after-append, before_semicolon, before_type, by_option, cases_Bool, completion_of, continues, eqb-true, false, grow, grow_list, grow_state, if◌then◌else◌, in_name, in_string, in_subtype, in_type, in_value, is_quoted_byte, is_quoted_text_byte, is_space, is_token_byte, last_byte_of, length, list_at, lowered_list, map, map-append, media_of, more, nat_tests, ne_eqb, next, next_after, none-some, not_viable-at_dead, one_fault, one_reading, option_map, pair_of, pairs_of_list, plain, quoted, read, refl, rejected, same_Some, subst, sym, tree_of, true, value_of, viable-from_walk, walk, walk-accepted, walk_from, with_pairs, with_parameter, ℕ, ⊤, ◌++◌, ◌+◌, ◌==◌, ◌∙◌, ◌∷◌, ◌≡◌, ◌≢◌}
-use Rattle.mime.proofs.GrammarLemmas.Begun as walked
-use Rattle.mime.proofs.GrammarLemmas.Begun.{with_closed}
-use Rattle.mime.proofs.GrammarLemmas.Viability.{dead-from_stop, stop-from_walk}
-use Rattle.mime.proofs.GrammarLemmas.Readings.{accepted-from_walk}
+use Rattle.mime.proofs.HandedOut as walked
+use Rattle.mime.proofs.HandedOut.{accepted-from_walk, dead-from_stop, stop-from_walk, with_closed}
 use Rattle.mime.specs.Inner.KeptText.{lowered_pair}
 use Rattle.mime_http.proofs.Around.{white_more}
 use Rattle.mime_http.proofs.ReadBack.{answered_is_http}
 use Rattle.mime_http.proofs.ReadFaults.{answered_fault}
-use Rattle.mime_http.proofs.Runs.{no_way, one_byte, same_from, space_is_no_token, white_before}
+use Rattle.mime_http.proofs.Runs.{no_way, one_byte, keeps_before, over_white, same_from}
 
 -- ---- side by side
 
@@ -33,7 +31,8 @@ data Alike : Begun → State → Type 0 where
   at_value : {top sub n name value : List ℕ} {closed : ClosedParameters}
       → Alike (walked.in_list top sub (list_at closed (walked.in_value n name value))) (in_value (closed_parts top sub closed) name value)
   at_text : {top sub n name content : List ℕ} {closed : ClosedParameters}
-      → Alike (walked.in_list top sub (list_at closed (walked.in_quotes n name content))) (in_string (closed_parts top sub closed) name content)
+      → Alike (walked.in_list top sub (list_at closed (walked.in_quotes n name content)))
+      (in_string (closed_parts top sub closed) name content)
   at_quote : {top sub n name content m : List ℕ} {closed : ClosedParameters}
       → Alike (walked.in_list top sub (list_at closed (walked.after_quotes n name content m)))
       (before_semicolon (with_parameter (closed_parts top sub closed) name content))
@@ -89,8 +88,8 @@ module _ (b : ℕ) where
   side_by_side _ _ (at_text {top = top} {sub = sub} {content = content}) = in_list top sub _ _
       (both _ (continues content b) _ _ _ _ (λ more. (_, refl, at_text))
       (λ other. both _ (b == 34) _ _ _ _ (λ same. (_, refl, at_quote)) (λ no space semicolon. refl)))
-  side_by_side _ _ (at_quote {top = top} {sub = sub} {n = n} {name = name} {content = content} {m = m} {closed = closed}) = in_list top sub _ _
-      (both _ (is_space b) _ _ _ _ (λ space. (_, refl, at_quote)) (λ other. both _ (b == 59) _ _ _ _
+  side_by_side _ _ (at_quote {top = top} {sub = sub} {n = n} {name = name} {content = content} {m = m} {closed = closed}) =
+      in_list top sub _ _ (both _ (is_space b) _ _ _ _ (λ space. (_, refl, at_quote)) (λ other. both _ (b == 59) _ _ _ _
       (λ same. (_, refl, at_spaces {closed = (n, quoted name content m) ∷ closed})) (λ no space semicolon. refl)))
 
 -- so over each byte of a text that the library walks
@@ -119,7 +118,8 @@ pairs_closed ((n, parameter) ∷ closed) rest =
     pairs_closed closed (more n parameter rest)
     ∙ ap (λ pair. map lowered_pair (closed_pairs closed) ++ (pair ∷ pairs_of_list (lowered_list rest))) (lowered_one parameter)
     ∙ sym (append_assoc (map lowered_pair (closed_pairs closed)) (lowered_pair (pair_of parameter) ∷ []) _)
-    ∙ ap (λ pairs. pairs ++ pairs_of_list (lowered_list rest)) (sym (map-append lowered_pair (closed_pairs closed) (pair_of parameter ∷ [])))
+    ∙ ap (λ pairs. pairs ++ pairs_of_list (lowered_list rest))
+    (sym (map-append lowered_pair (closed_pairs closed) (pair_of parameter ∷ [])))
   where
     lowered_one : (parameter : Parameter) → pair_of (lowered_parameter parameter) ≡ lowered_pair (pair_of parameter)
     lowered_one (plain name value) = refl
@@ -176,12 +176,14 @@ same_byte before text after pos byte white dead space other = by_option (walk te
     let there : length stop.prefix ≡ pos = cc same in
     let here : stop.byte ≡ byte = cc same in
     let (state, alike, over) = over_front stop.prefix (walked.in_type []) stop.begun before_type at_start stop.walked in
-    let follows = subst (λ it. Follows stop.byte (λ x. x) it (next state stop.byte)) stop.dead (side_by_side stop.byte stop.begun state alike) in
+    let follows = subst (λ it. Follows stop.byte (λ x. x) it (next state stop.byte)) stop.dead
+    (side_by_side stop.byte stop.begun state alike) in
     let stops = follows (ap is_space here ∙ space) (ap (λ b. b == 59) here ∙ ne_eqb byte 59 other) in
     let whole : before ++ (text ++ after) ≡ before ++ (stop.prefix ++ (stop.byte ∷ (stop.rest ++ after))) =
-    ap (λ bytes. before ++ (bytes ++ after)) stop.spelled ∙ ap (λ bytes. before ++ bytes) (append_assoc stop.prefix (stop.byte ∷ stop.rest) after) in
-    answered_fault _ _ (ap answer_of whole ∙ white_before before white 0 _ ∙ over (0 + length before) _ ∙ no_way state _ stop.byte _ stops
-    ∙ ap₂ (λ n b. rejected (InvalidToken n b)) (omega (arith, there)) here))
+    ap (λ bytes. before ++ (bytes ++ after)) stop.spelled
+    ∙ ap (λ bytes. before ++ bytes) (append_assoc stop.prefix (stop.byte ∷ stop.rest) after) in
+    answered_fault _ _ (ap answer_of whole ∙ over_white before_type keeps_before before white 0 _ ∙ over (0 + length before) _
+    ∙ no_way state _ stop.byte _ stops ∙ ap₂ (λ n b. rejected (InvalidToken n b)) (omega (arith, there)) here))
     (λ begun goes. absurd (not_viable-at_dead text pos byte dead (viable-from_walk text begun goes)))
 
 -- and so is what is missing at the end.

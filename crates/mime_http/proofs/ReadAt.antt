@@ -1,11 +1,11 @@
 -- Reading on from a position of a value: over a byte, a run, and quoted content; and where nothing goes on.
 use Rattle.mime_http.proofs.Common.{Bool, InvalidToken, IsClosedAt, IsContent, List, None, ParseError, Some, State, [], IsStringFault, IsToken, Parts, after_semicolon, and_from, and_parts, answer_at, answer_at_end, answer_from, ap, append-nil, append_assoc, ap₂, arith, awaits_after, awaits_after-append, before_semicolon, before_type, cases_lt, drop, drop-drop, drop_more, drop_of_length-le, drop_split, false, fault_at, flat_map-append, get_or-drop, if◌then◌else◌, in_name, in_ranges, in_string, in_subtype, in_type, in_value, is_quoted_byte, is_quoted_text_byte, is_space, is_token_byte, is_token_value, length, length-drop, length-take-le, nat_tests, list_all, list_all-append, list_all-wider, next, no_byte, not, prefix_len, option_map, prefix_len_stops, quoted_pair, refl, rejected, slice_index, slice_range, subst, suc, sym, take, take-add, text_byte, text_of_pair, text_of_pairs, text_of_parts, true, unwrap_or, with_parameter, ℕ, ⊎_elim, ◌++◌, ◌+◌, ◌-◌, ◌<◌, ◌∙◌, ◌∷◌, ◌≡◌, ◌≢◌, ◌≤◌}
 use Rattle.std.proofs.lemmas.Bool.{not-true}
-use Rattle.mime.proofs.GrammarLemmas.Content.{content-awaits}
+use Rattle.mime.proofs.HandedOut.{content-awaits}
 use Rattle.mime_search.specs.Classes.{is_stop}
 use Rattle.mime_http.specs.declared.reader.TheConstants.{COMMON_TOKEN_BYTES, COMMON_TEXT_BYTES}
 use Rattle.mime_http.proofs.ReadBack.{content_more}
-use Rattle.mime_http.proofs.Runs.{EndsToken, content_ends, name_begins, no_way, on_content, on_subtype, on_value, one_byte, subtype_ends, type_begins, value_ends, white_after, white_before, white_inside}
+use Rattle.mime_http.proofs.Runs.{EndsToken, KeepsSpace, content_ends, name_begins, no_way, on_content, on_subtype, on_value, one_byte, over_white, subtype_ends, type_begins, value_ends}
 
 -- ---- a part of a value
 
@@ -275,23 +275,11 @@ over_value parts name value from to some within run =
 
 -- ---- white space
 
--- white space before the type,
-pub over_white_before : (value : List ℕ) (from to : ℕ) → IsRun is_space value from to → to ≤ length value
-    → answer_at value before_type from ≡ answer_at value before_type to
-over_white_before value from to run within =
-    over value from to before_type before_type run.least within (white_before _ run.all from (drop to value))
-
--- before a semicolon,
-pub over_white_after : (parts : Parts) (value : List ℕ) (from to : ℕ) → IsRun is_space value from to → to ≤ length value
-    → answer_at value (before_semicolon parts) from ≡ answer_at value (before_semicolon parts) to
-over_white_after parts value from to run within =
-    over value from to (before_semicolon parts) (before_semicolon parts) run.least within (white_after parts _ run.all from (drop to value))
-
--- and after one
-pub over_white_inside : (parts : Parts) (value : List ℕ) (from to : ℕ) → IsRun is_space value from to → to ≤ length value
-    → answer_at value (after_semicolon parts) from ≡ answer_at value (after_semicolon parts) to
-over_white_inside parts value from to run within =
-    over value from to (after_semicolon parts) (after_semicolon parts) run.least within (white_inside parts _ run.all from (drop to value))
+-- where it changes nothing
+pub over_white_at : (state : State) → KeepsSpace state → (value : List ℕ) (from to : ℕ) → IsRun is_space value from to → to ≤ length value
+    → answer_at value state from ≡ answer_at value state to
+over_white_at state keeps value from to run within =
+    over value from to state state run.least within (over_white state keeps _ run.all from (drop to value))
 
 -- a semicolon after the parts so far
 pub over_semicolon : (parts : Parts) (value : List ℕ) (at : ℕ) → at < length value → slice_index value at ≡ 59

@@ -1,6 +1,6 @@
 -- The fault of a value that isn't read is the answer: where reading stops nothing helps, and at each byte before that something does.
 use Rattle.mime_http.proofs.Common.{Answer, Bool, EndsIn, HttpLacks, HttpReads, InvalidToken, IsHttpFault, IsHttpLongestPrefix, IsHttpMediaType, IsHttpViable, List, MissingEqual, MissingQuote, MissingSlash, MissingSubtype, MissingValue, NoMemory, None, OneHttpFault, ParseError, Parts, State, [], awaits_after, before_semicolon, is_quoted_text_byte, list_all, true, with_parameter, answer_at_end, answer_from, answer_of, ap, append-nil, append_assoc, arith, before_type, by_option, false, codes, completion_of, cons_option, in_name, in_string, in_subtype, in_type, in_value, is_quoted_byte, is_token_byte, last_byte_of, length, length-append, media_of, next, read, refl, rejected, same_Some, slice_get, slice_get-prefix, slice_get_within, subst, suc, sym, take, take-append-add, take-append_seam, take-length, unwrap_or, ℕ, ⊤, ◌++◌, ◌+◌, ◌-◌, ◌<◌, ◌∙◌, ◌∷◌, ◌≡◌, ◌≢◌}
-use Rattle.mime.proofs.GrammarLemmas.Content.{closed-letter, takes_all-any}
+use Rattle.mime.proofs.HandedOut.{closed-letter, takes_all-any}
 use Rattle.mime_http.proofs.Runs.{no_way, on_open, one_byte}
 use Rattle.mime_http.proofs.ReadBack.{Follows, IsRead, Indented, Spells, follows, indented, answered_is_http, read_at_end, read_from, spelled_after}
 use Rattle.mime_http.proofs.ReadForth.{http_is_answered}
@@ -49,7 +49,11 @@ answered_at_end (in_name parts name) value is = ((_, read_from (codes "=x") (in_
 answered_at_end (in_value parts name []) value is =
     ((_, read_from (codes "x") (in_value parts name []) 0 value is), after_equals parts name value is.2)
 answered_at_end (in_string parts name content) value is = (
-  (_, subst (IsRead (value ++ codes "x\"")) (letter_closes parts name content 0) (read_from (codes "x\"") (in_string parts name content) 0 value is)),
+  (
+    _,
+    subst (IsRead (value ++ codes "x\"")) (letter_closes parts name content 0)
+        (read_from (codes "x\"") (in_string parts name content) 0 value is),
+  ),
   tt,
 )
 answered_at_end state value is = read_at_end state value is
@@ -141,7 +145,8 @@ more_of fault = unwrap_or (completion_of fault) (0 ∷ [])
 go_on : (before : Parts) (name content letters : List ℕ) (at : ℕ) (parts : Parts) → list_all is_quoted_text_byte letters ≡ true
     → answer_from (in_string before name content) at letters ≢ read parts
 go_on before name content letters at parts all is =
-    absurd (cc (ap (answer_from (in_string before name content) at) (sym (append-nil letters)), letters_go_on before name content letters at [] all, is))
+    let same = ap (answer_from (in_string before name content) at) (sym (append-nil letters)) in
+    absurd (cc (same, letters_go_on before name content letters at [] all, is))
 
 -- and a zero byte stands in none,
 no_byte_0 : (awaiting : Bool) (before : Parts) (name content : List ℕ) (at : ℕ) (parts : Parts) → awaits_after false content ≡ awaiting
@@ -164,7 +169,8 @@ has_fault MissingSlash (in_string before name content) at parts is = absurd (go_
 has_fault MissingSubtype (in_string before name content) at parts is = absurd (go_on before name content (codes "/x") at parts refl is)
 has_fault MissingEqual (in_string before name content) at parts is = absurd (go_on before name content (codes "=x") at parts refl is)
 has_fault MissingValue (in_string before name content) at parts is = absurd (go_on before name content (codes "=x") at parts refl is)
-has_fault fault (in_string before name content) at parts is = absurd (no_byte_0 (awaits_after false content) before name content at parts refl is)
+has_fault fault (in_string before name content) at parts is =
+    absurd (no_byte_0 (awaits_after false content) before name content at parts refl is)
 has_fault fault (in_subtype top []) at parts is = absurd cc
 has_fault fault (in_value _ name []) at parts is = absurd cc
 has_fault fault state at parts is = absurd cc

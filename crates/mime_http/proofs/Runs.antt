@@ -1,6 +1,6 @@
 -- How reading goes on over white space, over a token, and over quoted content.
 use Rattle.mime_http.proofs.Common.{AreSpaces, AreTokenBytes, Bool, InvalidToken, IsContent, IsToken, List, None, Parts, Some, State, [], after_semicolon, and_from, and_parts, ap, append-nil, awaits_after, awaits_after-append, continues, takes_all, append_assoc, ap₂, answer_from, arith, before_semicolon, before_type, in_name, in_string, in_subtype, in_type, in_value, is_quoted_byte, is_space, is_token_byte, length, list_all, list_all-append, nat_tests, next, no_byte, quoted_pair, refl, rejected, subst, sym, text_byte, true, false, with_parameter, ℕ, ⊤, ◌++◌, ◌+◌, ◌∙◌, ◌∷◌, ◌≡◌}
-use Rattle.mime.proofs.GrammarLemmas.Content.{content-closed, content-taken}
+use Rattle.mime.proofs.HandedOut.{content-closed, content-taken}
 
 -- how joined lists are grouped, for `simp`, which doesn't compute a list with a first byte
 pub regrouping-cons : (b : ℕ) (xs ys : List ℕ) → (b ∷ xs) ++ ys ≡ b ∷ (xs ++ ys)
@@ -51,28 +51,24 @@ token_is_no_space : (b : ℕ) → is_token_byte b ≡ true → is_space b ≡ fa
 unfolding is_token_byte
 token_is_no_space b is = grind (arith, nat_tests)
 
--- a space leads on from a state to itself
-abbrev KeepsSpace : State → Type 0
+-- a space leads on from a state to itself: before the type,
+abbrev pub KeepsSpace : State → Type 0
 KeepsSpace state = (b : ℕ) → is_space b ≡ true → next state b ≡ Some state
 
-over_white : (state : State) → KeepsSpace state → (white : List ℕ) → AreSpaces white → (at : ℕ) (bytes : List ℕ)
+pub keeps_before : KeepsSpace before_type
+keeps_before b is = rw (space_is_no_token b is, is) refl
+
+-- before a semicolon or the end, and after a semicolon
+pub keeps_after : (parts : Parts) → KeepsSpace (before_semicolon parts)
+keeps_after parts b is = rw is refl
+
+pub keeps_inside : (parts : Parts) → KeepsSpace (after_semicolon parts)
+keeps_inside parts b is = rw is refl
+
+-- So white space there changes nothing.
+pub over_white : (state : State) → KeepsSpace state → (white : List ℕ) → AreSpaces white → (at : ℕ) (bytes : List ℕ)
     → answer_from state at (white ++ bytes) ≡ answer_from state (at + length white) bytes
 over_white state keeps white all at bytes = goes_on is_space (λ done. state) (λ done. keeps) white all [] at bytes
-
--- White space before the type,
-pub white_before : (white : List ℕ) → AreSpaces white → (at : ℕ) (bytes : List ℕ)
-    → answer_from before_type at (white ++ bytes) ≡ answer_from before_type (at + length white) bytes
-white_before = over_white before_type (λ b is. rw (space_is_no_token b is, is) refl)
-
--- before a semicolon or the end,
-pub white_after : (parts : Parts) (white : List ℕ) → AreSpaces white → (at : ℕ) (bytes : List ℕ)
-    → answer_from (before_semicolon parts) at (white ++ bytes) ≡ answer_from (before_semicolon parts) (at + length white) bytes
-white_after parts = over_white (before_semicolon parts) (λ b is. rw is refl)
-
--- and after one.
-pub white_inside : (parts : Parts) (white : List ℕ) → AreSpaces white → (at : ℕ) (bytes : List ℕ)
-    → answer_from (after_semicolon parts) at (white ++ bytes) ≡ answer_from (after_semicolon parts) (at + length white) bytes
-white_inside parts = over_white (after_semicolon parts) (λ b is. rw is refl)
 
 -- ---- tokens
 

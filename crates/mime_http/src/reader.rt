@@ -244,7 +244,7 @@ fn parameter_at(value: &[u8], name: usize) -> Result<Spans, ParseError>
     requires token { is_token_byte (slice_index value.now name) ≡ true }
     ensures { MatchResult result
         (λ spans. (text : List ℕ) × (text ++ (equals_byte ∷ []) ≡ slice_range value.now name spans.first)
-            × IsParameterAt value.now text after_semicolon name spans)
+        × IsParameterAt value.now text after_semicolon name spans)
         (IsFaultFrom value.now after_semicolon name) }
 {
     let equals = token_end(value, name);

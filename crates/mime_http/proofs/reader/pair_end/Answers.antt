@@ -12,8 +12,10 @@ unfolding is_quoted_byte
 unpaired value at parts name content within first isnt none =
     let more : List ℕ = content ++ (92 ∷ []) in
     let begun : awaits_after false more ≡ true = awaits_after-append false content (92 ∷ []) ∙ rw none refl in
-    over_byte value at (in_string parts name content) (in_string parts name more) within (ap (next (in_string parts name content)) first ∙ rw none refl)
-    ∙ stuck value (at + 1) (in_string parts name more) MissingQuote (omega (arith, within)) refl (λ here. rw begun (grind (arith, nat_tests, isnt here)))
+    over_byte value at (in_string parts name content) (in_string parts name more) within
+    (ap (next (in_string parts name content)) first ∙ rw none refl)
+    ∙ stuck value (at + 1) (in_string parts name more) MissingQuote (omega (arith, within)) refl
+    (λ here. rw begun (grind (arith, nat_tests, isnt here)))
 
 pub returns : goal.returns
 returns c = λ name content none parts.

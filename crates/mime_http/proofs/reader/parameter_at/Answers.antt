@@ -45,7 +45,8 @@ parameter_is value name equals spans some within is run first at =
     let text : List ℕ = slice_range value name equals in
     let sign = one_part value equals within ∙ ap (λ b. b ∷ []) is in (
       text,
-      sym (ap (slice_range value name) first ∙ parts_joined value name equals (equals + 1) run.least (omega arith) ∙ ap (λ xs. text ++ xs) sign),
+      sym (ap (slice_range value name) first ∙ parts_joined value name equals (equals + 1) run.least (omega arith)
+          ∙ ap (λ xs. text ++ xs) sign),
       record {
         content = at.content;
         read = λ parts. to_value parts value name equals some within is run ∙ at.read parts;
@@ -66,7 +67,9 @@ returns c =
     let run = run_is is_token_byte value name equals.result equals.ensures.end in
     let some = some_name value name equals.result c.requires.within c.requires.token run in
     let sign = c.is_at.ensures.yes c.if-not-is_at.false in
-    matched (c.value_at.result) (λ spans at. parameter_is value name equals.result spans some sign.0 sign.1 run at.0 (at.1 (slice_range value name equals.result)))
+    matched (c.value_at.result)
+    (λ spans at.
+    parameter_is value name equals.result spans some sign.0 sign.1 run at.0 (at.1 (slice_range value name equals.result)))
     (λ fault is parts. to_value parts value name equals.result some sign.0 sign.1 run ∙ is (slice_range value name equals.result) parts)
     c.value_at.ensures
   where

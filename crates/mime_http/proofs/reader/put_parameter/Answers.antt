@@ -19,4 +19,5 @@ returns-clause-holds c = λ text held.
     let value = c.args.value.now in
     let begun = slice_range value c.args.name c.args.spans.first in
     subst (Holds c.put-2.new.room c.put-2.result) (append_assoc (text ++ codes "; ") begun _ ∙ append_assoc text (codes "; ") _)
-    (c.put-2.ensures.holds ((text ++ codes "; ") ++ begun) (c.put-len-2.ensures.holds (text ++ codes "; ") (c.put-len.ensures.holds text held)))
+    (c.put-2.ensures.holds ((text ++ codes "; ") ++ begun)
+    (c.put-len-2.ensures.holds (text ++ codes "; ") (c.put-len.ensures.holds text held)))

@@ -48,18 +48,20 @@ returns-then-plain-close c =
     let closed = closed_from value begin plain.result close run c.in-Ok.ensures in
     let token = token_part value begin plain.result c.if-begin-plain.true plain.ensures.within run in
     let is : is_token_value (slice_range value begin close) ≡ true =
-    ap (λ n. is_token_value (slice_range value begin n)) (sym c.if-plain-close.true) ∙ token_value _ token in
-    (refl, λ name. record {
-      content = slice_range value begin close;
-      read = λ parts.
-          opens parts name value c.args.quote c.requires.within c.requires.quote ∙ over_content parts name value begin close closed;
-      written = rw is (append-nil (slice_range value begin close));
-      least = omega arith;
-      apart = omega arith;
-      some = closed.least;
-      most = omega arith;
-      within = omega (arith, closed.within);
-    })
+    ap (λ n. is_token_value (slice_range value begin n)) (sym c.if-plain-close.true) ∙ token_value _ token in (
+      refl,
+      λ name. record {
+        content = slice_range value begin close;
+        read = λ parts.
+            opens parts name value c.args.quote c.requires.within c.requires.quote ∙ over_content parts name value begin close closed;
+        written = rw is (append-nil (slice_range value begin close));
+        least = omega arith;
+        apart = omega arith;
+        some = closed.least;
+        most = omega arith;
+        within = omega (arith, closed.within);
+      },
+    )
 
 pub returns : goal.returns
 returns c =
@@ -78,15 +80,17 @@ returns c =
     let first = one_part value quote c.requires.within ∙ ap (λ b. b ∷ []) c.requires.quote in
     let last = one_part value close closed.within ∙ ap (λ b. b ∷ []) closed.quote in
     let joined = parts_joined value quote (quote + 1) (close + 1) (omega arith) (omega (arith, closed.least)) in
-    let inner = parts_joined value (quote + 1) close (close + 1) closed.least (omega arith) in
-    (refl, λ name. record {
-      content = content;
-      read = λ parts.
-          opens parts name value quote c.requires.within c.requires.quote ∙ over_content parts name value (quote + 1) close closed;
-      written = rw isnt (sym (joined ∙ ap₂ (λ xs ys. xs ++ ys) first (inner ∙ ap (λ ys. content ++ ys) last)));
-      least = omega arith;
-      apart = omega arith;
-      some = omega (arith, closed.least);
-      most = omega arith;
-      within = omega (arith, closed.within);
-    })
+    let inner = parts_joined value (quote + 1) close (close + 1) closed.least (omega arith) in (
+      refl,
+      λ name. record {
+        content = content;
+        read = λ parts.
+            opens parts name value quote c.requires.within c.requires.quote ∙ over_content parts name value (quote + 1) close closed;
+        written = rw isnt (sym (joined ∙ ap₂ (λ xs ys. xs ++ ys) first (inner ∙ ap (λ ys. content ++ ys) last)));
+        least = omega arith;
+        apart = omega arith;
+        some = omega (arith, closed.least);
+        most = omega arith;
+        within = omega (arith, closed.within);
+      },
+    )

@@ -46,7 +46,8 @@ returns-else-is_quoted_text_byte c =
     let keeps = c.loop-at.invariant in
     fault_after value c.args.from at _ keeps.least keeps.within keeps.content (λ name content none parts.
     at_byte value at (in_string parts name content) c.loop-at-test.true
-    (no_text parts name content _ none (sym c.is_quoted_text_byte.ensures ∙ c.if-is_quoted_text_byte.false) c.if-byte-eq34.false c.if-byte-eq92.false))
+    (no_text parts name content _ none (sym c.is_quoted_text_byte.ensures ∙ c.if-is_quoted_text_byte.false) c.if-byte-eq34.false
+    c.if-byte-eq92.false))
 
 pub returns : goal.returns
 returns c =

@@ -17,7 +17,8 @@ pub returns-then-len-gt40-clause-explained : goal.returns-then-len-gt40-clause-e
 returns-then-len-gt40-clause-explained c =
     let (parts, answered, holds) = c.in-Ok.ensures.answer in (
       c.utf8.value,
-      stands_needs parts c.as_bytes.ensures.value answered c.requires.accepted c.requires.long (inl (omega (arith, holds.long, c.if-len-gt40.true))),
+      stands_needs parts c.as_bytes.ensures.value answered c.requires.accepted c.requires.long
+          (inl (omega (arith, holds.long, c.if-len-gt40.true))),
     )
 
 pub read_written-requires : goal.read_written-requires

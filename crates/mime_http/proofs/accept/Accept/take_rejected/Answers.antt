@@ -19,4 +19,5 @@ returns-in_default c =
     let text = c.from_utf8_unchecked-text.ensures in
     takes_bad c.args.keeps_bad piece c.args.self.now c.trim_end.result.now c.take_bad.new.self c.take_bad.result
     (c.trim_end.ensures ∙ ap trim_end c.trim_start.ensures) c.requires.some
-    (λ both. c.in_default.not-NoMemory (error_is_memory piece c.in-Err.error both.0 both.1 (subst (λ t. HttpExplains t c.in-Err.error) text c.in-Err.ensures.explained))) c.take_bad.ensures
+    (λ both. c.in_default.not-NoMemory (error_is_memory piece c.in-Err.error both.0 both.1
+    (subst (λ t. HttpExplains t c.in-Err.error) text c.in-Err.ensures.explained))) c.take_bad.ensures
