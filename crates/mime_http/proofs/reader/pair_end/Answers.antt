@@ -1,5 +1,5 @@
 -- After a backslash a byte is awaited that it may pair.
-use Rattle.mime_http.proofs.Common.{List, MissingQuote, Parts, None, Some, answer_at, ap, arith, awaits_after, awaits_after-append, continues, false, fault_at, in_string, is_quoted_byte, length, nat_tests, next, refl, rejected, slice_index, sym, takes, true, [], ℕ, ◌+◌, ◌++◌, ◌<◌, ◌∙◌, ◌∷◌, ◌≡◌, ◌≤◌}
+use Rattle.mime_http.proofs.Common.{List, MissingQuote, Parts, answer_at, ap, arith, awaits_after, awaits_after-append, false, fault_at, in_string, is_quoted_byte, length, nat_tests, next, refl, rejected, slice_index, sym, true, [], ℕ, ◌+◌, ◌++◌, ◌<◌, ◌∙◌, ◌∷◌, ◌≡◌}
 use Rattle.mime_http.proofs.ReadAt.{over_byte, stuck}
 use Rattle.mime_http.proofs.reader.pair_end.Goals.{else-paired-value-via-then-paired-value+else-is_quoted_byte, else-paired-value-via-else-paired-value}
 use Rattle.mime_http.proofs.reader.pair_end.Goals as goal

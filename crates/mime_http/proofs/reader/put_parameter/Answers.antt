@@ -1,5 +1,5 @@
 -- The name and the value are written together where nothing between them is left out.
-use Rattle.mime_http.proofs.Common.{Holds, List, ap, append_assoc, arith, codes, slice_range, subst, ℕ, ◌++◌, ◌∙◌, ◌≡◌}
+use Rattle.mime_http.proofs.Common.{Holds, ap, append_assoc, arith, codes, slice_range, subst, ◌++◌, ◌∙◌}
 use Rattle.mime_http.proofs.ReadAt.{parts_joined}
 use Rattle.mime_http.proofs.reader.put_parameter.Goals as goal
 

@@ -1,5 +1,5 @@
 -- Text and pairs go on the content, and another byte, or the end, is the string's fault.
-use Rattle.mime_http.proofs.Common.{IsContent, IsStringFault, arith, in_string, refl, sym, subst, ◌+◌, ◌∙◌, no_byte}
+use Rattle.mime_http.proofs.Common.{IsContent, arith, in_string, sym, subst, ◌∙◌, no_byte}
 use Rattle.mime_http.proofs.ReadAt.{at_byte, at_end, content_on, fault_after, no_part, no_text, pair_content, text_content}
 use Rattle.mime_http.proofs.reader.string_end.Goals as goal
 

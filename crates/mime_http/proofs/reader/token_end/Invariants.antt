@@ -1,5 +1,5 @@
 -- The end of the run from here on stays the same.
-use Rattle.mime_http.proofs.Common.{is_token_byte, length, ◌-◌, ◌≡◌, ◌≤◌}
+use Rattle.mime_http.proofs.Common.{is_token_byte, ◌-◌, ◌≡◌, ◌≤◌}
 use Rattle.mime_http.proofs.ReadAt.{run_end}
 use Rattle.mime_http.proofs.reader.token_end.Given as goal
 

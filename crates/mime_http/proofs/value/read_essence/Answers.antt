@@ -1,5 +1,5 @@
 -- A value without parameters is printed as its essence.
-use Rattle.mime_http.proofs.Common.{IsUtf8, MediaType, answer_of, arith, ap, length, media_of, trimmed, sym, inl, inr, subst, ◌∙◌, ◌≡◌}
+use Rattle.mime_http.proofs.Common.{IsUtf8, MediaType, answer_of, arith, ap, length, trimmed, sym, inl, inr, subst, ◌∙◌}
 use Rattle.mime_http.proofs.Around.{reads_around}
 use Rattle.mime_http.proofs.PlainIsHttp.{plain_is_http}
 use Rattle.mime_http.proofs.ReadFaults.{rejected_is_none}

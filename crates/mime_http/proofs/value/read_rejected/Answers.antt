@@ -1,5 +1,5 @@
 -- A fault of a text is of one that isn't accepted.
-use Rattle.mime_http.proofs.Common.{Explains, IsAccepted, IsHttpFault, InvalidToken, List, NoMemory, ParseError, refl, subst, trimmed, ℕ, ◌≡◌, ◌≢◌}
+use Rattle.mime_http.proofs.Common.{Explains, IsAccepted, IsHttpFault, InvalidToken, List, NoMemory, ParseError, refl, subst, trimmed, ℕ, ◌≢◌}
 use Rattle.mime.proofs.HandedOut.{rejected-from_fault}
 use Rattle.mime_http.proofs.value.read_rejected.Goals as goal
 

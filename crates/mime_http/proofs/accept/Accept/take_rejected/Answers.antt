@@ -1,5 +1,5 @@
 -- A piece that the library rejects is a media type, or bad.
-use Rattle.mime_http.proofs.Common.{HttpExplains, HttpReads, IsPrinted, ap, subst, sym, trim_end, ◌∙◌}
+use Rattle.mime_http.proofs.Common.{HttpExplains, HttpReads, IsPrinted, ap, subst, trim_end, ◌∙◌}
 use Rattle.mime_http.proofs.Around.{utf8_around}
 use Rattle.mime_http.proofs.Bare.{error_is_memory}
 use Rattle.mime_http.proofs.Takes.{takes_bad, takes_range}
