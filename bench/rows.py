@@ -89,9 +89,10 @@ def sixteen(text):
 
 def others():
     yield Row("content_type of a space", "field", " ", most=250)
-    yield Row("content_type of text", "field", "text")
+    yield Row("content_type of text", "field", "text", most=225)
     yield Row("content_type of text/html ; charset=utf-8", "field", "text/html ; charset=utf-8", differs=True)
-    yield Row("content_type of application/json, application/json", "field", "application/json, application/json")
+    yield Row("content_type of application/json, application/json", "field", "application/json, application/json",
+              most=340)
     yield Row("equality of text/html; charset=utf-8 and text/html", "eq", *map(sixteen, ("text/html; charset=utf-8", "text/html")), most=16)
     for label, text, most in (("x", "x" * 2_048, 1_600), ("\\\"-", '\\"-' * 683, 12_000)):
         yield Row(f"covers: a/b;p=1 and 2 KB of {label}", "covers", "a/b;p=1", f'a/b;charset="{text}"', most=most)

@@ -8,15 +8,15 @@ pub use Rattle.mime.proofs.StopsLemmas.{in_ranges}
 pub use Rattle.mime.proofs.LowercaseLemmas.{lowered-lowered, list_all-lowered, IsToken-lowered, lowered_value-either, lowered_value-lowered, pairs_of_tail-lowered}
 pub use Rattle.mime_search.proofs.IgnoringCase.{length-lowered}
 -- The walk over a text that may still become a media type: its steps, which begun tree it leads to, and how quoted content goes on there.
-pub use Rattle.mime.proofs.GrammarLemmas.Begun.{Closed as ClosedParameters, Begun, in_type, in_subtype, in_list, ListState, in_spaces, in_name, in_value, in_quotes, after_quotes, grow_state, grow_list, list_at, grow, walk, walk_from, tree_of, BegunList, walk_by-append, walk_by-append_some}
+pub use Rattle.mime.proofs.GrammarLemmas.Begun.{Closed as ClosedParameters, Begun, in_type, in_subtype, in_list, ListState, in_spaces, in_name, in_value, in_quotes, after_quotes, grow_state, grow_list, list_at, grow, walk, walk_from, tree_of, BegunList, walk_by-append, walk_by-append_some, with_closed}
 pub use Rattle.mime.proofs.GrammarLemmas.Spelling.{by_class, spelled-from_walk, IsBegun, IsState, walk_from-lengthens}
-pub use Rattle.mime.proofs.GrammarLemmas.Content.{awaits_after-append, IsContent-taken}
+pub use Rattle.mime.proofs.GrammarLemmas.Content.{IsContent-closed, IsContent-taken, IsOpenContent-push, awaits_after-append, closed-letter, content-awaits, content-closed, content-taken, takes_all-any}
 -- Readings: there is one at most; a text is accepted exactly if it is walked to a tree that may end, and else rejected.
-pub use Rattle.mime.proofs.GrammarLemmas.Readings.{one_reading, walk-accepted, rejected-from_walk, stopped-from_walk}
+pub use Rattle.mime.proofs.GrammarLemmas.Readings.{accepted-from_walk, one_reading, walk-accepted, rejected-from_walk, stopped-from_walk}
 pub use Rattle.mime.proofs.GrammarLemmas.Viability.{accepted-from_complete, accepted_is_viable, by_option, whole_prefix-from_walk}
 pub use Rattle.mime.proofs.CutLemmas.Cuts.{accepted_or_rejected, empty-cut, cut_unique, has_cut, split-size}
 -- Faults: a text is viable exactly if it can be walked, so are its prefixes, and a rejected one has one fault.
-pub use Rattle.mime.proofs.GrammarLemmas.Viability.{viable-from_walk, walk-from_viable, viable-from_lacks, dead-from_walk, not_viable-at_dead, prefix_of_viable_is_viable}
+pub use Rattle.mime.proofs.GrammarLemmas.Viability.{dead-from_stop, stop-from_walk, viable-from_walk, walk-from_viable, viable-from_lacks, dead-from_walk, not_viable-at_dead, prefix_of_viable_is_viable}
 pub use Rattle.mime.proofs.GrammarLemmas.Faults.{completed_is_rejected, one_fault}
 pub use Rattle.mime.proofs.ValueLemmas.Reading.{rejected-from_fault, Explains-from_fault}
 -- The essence of a value that was read is read as the value without its parameters; a token is quoted content.

@@ -1,5 +1,5 @@
 -- A value is a media type as HTTP writes it if it is so without the white space around it.
-use Rattle.mime_http.proofs.Common.{AreSpaces, HttpReads, IsUtf8, List, MediaType, [], ap, append-nil, append_assoc, cond_both, is_space, list_all, refl, subst, sym, trim_end, trim_start, trimmed, ℕ, ◌++◌, ◌+◌, ◌∙◌, ◌∷◌, ◌≡◌, IsUtf8-append, IsUtf8-nil}
+use Rattle.mime_http.proofs.Common.{AreSpaces, HttpReads, IsUtf8, List, MediaType, [], ap, append-nil, append_assoc, cond_both, is_space, list_all, refl, subst, sym, trim_end, trim_start, trimmed, ℕ, ◌++◌, ◌∙◌, ◌∷◌, ◌≡◌, IsUtf8-append, IsUtf8-nil}
 use Rattle.mime_http.proofs.HttpText.{before_ascii, past_ascii, spaces_ascii, put_ascii}
 use Rattle.mime_http.proofs.Runs.{spaces-append}
 use Rattle.mime_http.proofs.Trims.{split_white}
@@ -7,7 +7,7 @@ use Rattle.mime_http.proofs.Trims.{split_white}
 -- ---- the white space around a value
 
 -- bytes are what is left of them without white space after it, and white space
-split_end : (bytes : List ℕ) → (white : List ℕ) × AreSpaces white × (bytes ≡ trim_end bytes ++ white)
+pub split_end : (bytes : List ℕ) → (white : List ℕ) × AreSpaces white × (bytes ≡ trim_end bytes ++ white)
 split_end [] = ([], refl, refl)
 split_end (b ∷ bytes) =
     let rest = split_end bytes in

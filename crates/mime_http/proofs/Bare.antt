@@ -1,5 +1,5 @@
 -- What is printed of a value that the library reads: its essence if it has no parameters, else as many bytes as it has.
-use Rattle.mime_http.proofs.Common.{Err, HttpExplains, HttpReads, IfErr, IsAccepted, IsHttpMediaType, IsPrinted, IsUtf8, IsUtf8-nil, List, MediaType, NeedsMemory, Parameters, Ok, Parts, Reads, Result, SyntaxTree, Tail, [], anew, answer_of, ap, append-nil, arith, as_it_stands, blank, codes, essence_of, is_token_byte, final, inl, inr, kept_text, length, length-append, listed, lowered_list, lowered_tail, lowered_tree, media_of, more, no_list, one_reading, pairs_of_tail, plain, quoted, read, subst, sym, refl, take, take-append_seam, take-length, text_of, text_of_list, text_of_pairs, text_of_parts, trimmed, value_of, with_pairs, ℕ, ⊎_elim, ◌++◌, ◌+◌, ◌<◌, ◌≤◌, ◌∙◌, ◌∷◌, ◌≡◌, ◌⊎◌}
+use Rattle.mime_http.proofs.Common.{Err, HttpExplains, HttpReads, IfErr, IsAccepted, IsHttpMediaType, IsPrinted, IsUtf8, IsUtf8-nil, List, MediaType, NeedsMemory, Parameters, Ok, Parts, Reads, Result, SyntaxTree, Tail, [], anew, answer_of, ap, append-nil, arith, as_it_stands, blank, codes, essence_of, is_token_byte, final, inl, inr, kept_text, length, length-append, listed, lowered_list, lowered_tail, lowered_tree, media_of, more, no_list, pairs_of_tail, plain, quoted, read, subst, sym, refl, text_of, text_of_list, text_of_pairs, text_of_parts, trimmed, value_of, with_pairs, ℕ, ⊎_elim, ◌++◌, ◌+◌, ◌<◌, ◌≤◌, ◌∙◌, ◌∷◌, ◌≡◌, ◌⊎◌}
 use Rattle.std.specs.Prelude.{IsOk}
 use Rattle.mime_http.specs.declared.value.FieldError.{FieldError}
 use Rattle.mime_http.specs.declared.value.FieldError.TheVariants.{NotUtf8, Invalid}
@@ -9,7 +9,7 @@ use Rattle.mime_http.proofs.HttpText.{put_ascii}
 use Rattle.mime_http.proofs.HttpLaws.{one_printed_text}
 use Rattle.mime_http.proofs.ReadFaults.{no_fault}
 use Rattle.mime_http.proofs.PlainIsHttp.{plain_is_http}
-use Rattle.mime_http.proofs.ReadAnew.{written_is_utf8, written_length, written_reads}
+use Rattle.mime_http.proofs.ReadAnew.{written_length}
 use Rattle.mime_http.proofs.ReadBack.{answered_is_http}
 use Rattle.mime_http.proofs.ReadForth.{http_is_answered}
 use Rattle.mime_http.proofs.Written.{lengths}
@@ -95,27 +95,6 @@ many_kept value media parts reads answered long either = ⊎_elim
     (kept_with (trimmed value) media reads)
 
 -- ---- what is read of it
-
--- what is written anew of a value is a text that the library reads as the value's media type
-pub anew_is_utf8 : {value bytes text : List ℕ} (parts : Parts) → bytes ≡ value → IsUtf8 value → answer_of bytes ≡ read parts
-    → text ≡ text_of_parts parts → IsUtf8 text
-anew_is_utf8 {value} parts same utf8 answered is =
-    subst IsUtf8 (sym is) (written_is_utf8 value parts utf8 (ap answer_of (sym same) ∙ answered))
-
-pub anew_reads : (bytes : List ℕ) {text : List ℕ} (parts : Parts) → answer_of bytes ≡ read parts → text ≡ text_of_parts parts
-    → Reads text (media_of parts)
-anew_reads bytes parts answered is = subst (λ t. Reads t (media_of parts)) (sym is) (written_reads bytes parts answered)
-
-pub read_anew_is : (bytes : List ℕ) {text : List ℕ} {media : MediaType} (parts : Parts) → answer_of bytes ≡ read parts → text ≡ text_of_parts parts
-    → Reads text media → media ≡ media_of parts
-read_anew_is bytes {text} {media} parts answered is reads =
-    one_reading text media (media_of parts) reads (anew_reads bytes parts answered is)
-
--- a room of as many bytes as are written holds them
-pub room_is : (room rest text : List ℕ) (size len : ℕ) → length room ≡ size → len ≡ size → take len room ≡ text → take size (room ++ rest) ≡ text
-room_is room rest text size len same all copied =
-    ap (λ n. take n (room ++ rest)) (sym same) ∙ take-append_seam room rest ∙ sym (take-length room)
-    ∙ ap (λ n. take n room) (same ∙ sym all) ∙ copied
 
 -- that is printed of a value that the library rejects without the white space around it
 pub printed_anew : {value bytes : List ℕ} {media : MediaType} (parts : Parts) → bytes ≡ value → answer_of bytes ≡ read parts

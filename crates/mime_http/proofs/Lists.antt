@@ -1,15 +1,23 @@
 -- Lists as HTTP writes them are read as their elements, and what is read with nothing bad are such lists.
-use Rattle.mime_http.proofs.Common.{At, Outside, State, Parts, Option, MatchOption, MatchOption-at_some, MissingSlash, by_option, next, ends, after, answer_of, answer_from, answer_at_end, read, before_type, in_subtype, in_value, in_string, after_backslash, is_quoted_byte, ◌+◌, AreBetweenCommas, AreElements, AreSame, AreSorted, AreSpaces, BadIsAlone, BeginsPiece, HttpListsAreRead, HttpReads, IsAccepted, IsHttpMediaType, IsPiece, IsPrinted, List, MediaType, OneHeader, ReadAreHttpLists, [], a_bad, a_range, accepted_or_rejected, and_parts, anew, ap, append-nil, arith, as_it_stands, comma, element, false, is_space, is_token_byte, line_end, nat_tests, no_line, no_text, nothing, piece_byte, piece_end, refl, subst, sym, trimmed, with_pairs, without_kept, ℕ, ⊎_elim, ⊤, ◌++◌, ◌∙◌, ◌∷◌, ◌≡◌, Equals, Paired}
-use Rattle.mime_http.specs.{HttpList.blank, ListLaws.no_text as no_element, LineCut.Quoted}
-use Rattle.mime_http.proofs.{Around.reads_around, Around.white_more, HttpLaws.one_printed_text, HttpLaws.same_anew, PlainIsHttp.plain_is_http, Runs.white_before, Takes.sorted_both, Cuts.IsOutside, Cuts.IsWhole, Cuts.is_piece, Cuts.only_cut, Cuts.opens_none, ReadFaults.rejected_is_none, ReadForth.http_is_answered}
+use Rattle.mime_http.proofs.Common.{At, Outside, State, Parts, Option, MatchOption, MatchOption-at_some, MissingSlash, by_option, next, ends, after, answer_of, answer_from, answer_at_end, read, before_type, in_subtype, in_value, in_string, is_quoted_byte, ◌+◌, AreBetweenCommas, AreElements, AreSame, AreSorted, AreSpaces, BadIsAlone, BeginsPiece, HttpListsAreRead, HttpReads, IsAccepted, IsHttpMediaType, IsPiece, IsPrinted, List, MediaType, OneHeader, ReadAreHttpLists, [], a_bad, a_range, accepted_or_rejected, and_parts, anew, ap, append-nil, arith, as_it_stands, comma, element, false, is_space, is_token_byte, line_end, nat_tests, no_line, no_text, nothing, piece_byte, piece_end, refl, subst, sym, trimmed, with_pairs, without_kept, ℕ, ⊎_elim, ⊤, ◌++◌, ◌∙◌, ◌∷◌, ◌≡◌, Equals, Paired, awaits_after, awaits_after-append, cases_Bool, if◌then◌else◌}
+use Rattle.mime_http.specs.HttpList.{blank}
+use Rattle.mime_http.specs.ListLaws.{no_text as no_element}
+use Rattle.mime_http.specs.LineCut.{Quoted}
+use Rattle.mime_http.proofs.Around.{reads_around, white_more}
+use Rattle.mime_http.proofs.HttpLaws.{one_printed_text, same_anew}
+use Rattle.mime_http.proofs.PlainIsHttp.{plain_is_http}
+use Rattle.mime_http.proofs.Takes.{sorted_both}
+use Rattle.mime_http.proofs.Cuts.{IsOutside, IsWhole, is_piece, only_cut, opens_none}
+use Rattle.mime_http.proofs.ReadFaults.{rejected_is_none}
+use Rattle.mime_http.proofs.ReadForth.{http_is_answered}
+use Rattle.mime_http.proofs.Runs.{keeps_before, over_white}
 
 -- ---- what HTTP writes has no comma outside strings
 
 -- where in a line the next byte is, in each state of reading one of its pieces
 abbrev place_of : State → At
 place_of (in_value parts name []) = Equals
-place_of (in_string parts name content) = Quoted
-place_of (after_backslash parts name content) = Paired
+place_of (in_string parts name content) = if awaits_after false content then Paired else Quoted
 place_of state = Outside
 
 -- a byte that reading goes on with ends no piece, and leads to the place of the next state
@@ -22,6 +30,9 @@ follows (in_subtype top []) b = grind (arith, nat_tests)
 follows (in_subtype top (s ∷ sub)) b = grind (arith, nat_tests)
 follows (in_value parts name []) b = grind (arith, nat_tests)
 follows (in_value parts name (v ∷ value)) b = grind (arith, nat_tests)
+follows (in_string parts name content) b = ⊎_elim
+    (λ paired. grind (arith, nat_tests, paired, awaits_after-append false content (b ∷ [])))
+    (λ text. grind (arith, nat_tests, text, awaits_after-append false content (b ∷ []))) (cases_Bool (awaits_after false content))
 follows state b = grind (arith, nat_tests)
 
 -- so what is read ends in no string, and no piece before
@@ -32,7 +43,6 @@ whole_from [] state at parts is = ended state is
     ended : (state : State) → answer_at_end state ≡ read parts → IsOutside (place_of state)
     ended (in_value _ name []) is = absurd cc
     ended (in_string _ name content) is = absurd cc
-    ended (after_backslash _ name content) is = absurd cc
     ended state is = tt
 whole_from (b ∷ bytes) state at parts is = by_option (next state b)
     (λ stops. absurd (cc (rw stops at is)))
@@ -133,7 +143,7 @@ read_are_http_lists lines header is none = record {
 -- white space is no media type, which begins with a token byte after white space
 http_is_not_blank : {piece : List ℕ} → AreSpaces piece → ¬ (IsHttpMediaType piece)
 http_is_not_blank {piece} white =
-    rejected_is_none piece MissingSlash (ap answer_of (sym (append-nil piece)) ∙ white_before piece white 0 [])
+    rejected_is_none piece MissingSlash (ap answer_of (sym (append-nil piece)) ∙ over_white before_type keeps_before piece white 0 [])
 
 -- texts are sorted in one way
 one_sorting : {texts : List (List ℕ)} {ranges others : List MediaType} {bad poor : List (List ℕ)} → AreSorted texts ranges bad

@@ -1,10 +1,11 @@
 -- Reading on from a position of a value: over a byte, a run, and quoted content; and where nothing goes on.
-use Rattle.mime_http.proofs.Common.{Bool, InvalidToken, IsClosedAt, IsContent, List, None, ParseError, Some, State, [], IsStringFault, IsToken, Parts, after_semicolon, and_from, and_parts, answer_at, answer_at_end, answer_from, ap, append-nil, append_assoc, ap₂, arith, before_semicolon, before_type, cases_lt, drop, drop-drop, drop_more, drop_of_length-le, drop_split, false, fault_at, flat_map-append, get_or-drop, if◌then◌else◌, in_name, in_ranges, in_string, in_subtype, in_type, in_value, is_quoted_byte, is_quoted_text_byte, is_space, is_token_byte, is_token_value, length, length-drop, length-take-le, nat_tests, list_all, list_all-append, list_all-wider, next, no_byte, not, prefix_len, option_map, prefix_len_stops, quoted_pair, refl, rejected, run_end, slice_index, slice_range, subst, suc, sym, take, take-add, text_byte, text_of_pair, text_of_pairs, text_of_parts, true, unwrap_or, with_parameter, ℕ, ⊎_elim, ◌++◌, ◌+◌, ◌-◌, ◌<◌, ◌∙◌, ◌∷◌, ◌≡◌, ◌≢◌, ◌≤◌}
+use Rattle.mime_http.proofs.Common.{Bool, InvalidToken, IsClosedAt, IsContent, List, None, ParseError, Some, State, [], IsStringFault, IsToken, Parts, after_semicolon, and_from, and_parts, answer_at, answer_at_end, answer_from, ap, append-nil, append_assoc, ap₂, arith, awaits_after, awaits_after-append, before_semicolon, before_type, cases_lt, drop, drop-drop, drop_more, drop_of_length-le, drop_split, false, fault_at, flat_map-append, get_or-drop, if◌then◌else◌, in_name, in_ranges, in_string, in_subtype, in_type, in_value, is_quoted_byte, is_quoted_text_byte, is_space, is_token_byte, is_token_value, length, length-drop, length-take-le, nat_tests, list_all, list_all-append, list_all-wider, next, no_byte, not, prefix_len, option_map, prefix_len_stops, quoted_pair, refl, rejected, slice_index, slice_range, subst, suc, sym, take, take-add, text_byte, text_of_pair, text_of_pairs, text_of_parts, true, unwrap_or, with_parameter, ℕ, ⊎_elim, ◌++◌, ◌+◌, ◌-◌, ◌<◌, ◌∙◌, ◌∷◌, ◌≡◌, ◌≢◌, ◌≤◌}
 use Rattle.std.proofs.lemmas.Bool.{not-true}
+use Rattle.mime.proofs.HandedOut.{content-awaits}
 use Rattle.mime_search.specs.Classes.{is_stop}
 use Rattle.mime_http.specs.declared.reader.TheConstants.{TOKEN_STOPS, TEXT_STOPS}
 use Rattle.mime_http.proofs.ReadBack.{content_more}
-use Rattle.mime_http.proofs.Runs.{EndsToken, name_begins, no_way, on_content, on_subtype, on_value, one_byte, subtype_ends, type_begins, value_ends, white_after, white_before, white_inside}
+use Rattle.mime_http.proofs.Runs.{EndsToken, KeepsSpace, content_ends, name_begins, no_way, on_content, on_subtype, on_value, one_byte, over_white, subtype_ends, type_begins, value_ends}
 
 -- ---- a part of a value
 
@@ -31,6 +32,10 @@ parts_joined value from at to least most =
     ∙ ap (λ rest. slice_range value from at ++ take (to - at) rest) (drop-drop (at - from) from value ∙ ap (λ n. drop n value) there)
 
 -- ---- runs
+
+-- the position, from one on, of the first byte that isn't of a class, or the length
+abbrev pub run_end : (ℕ → Bool) → List ℕ → ℕ → ℕ
+run_end class value from = from + prefix_len class (drop from value)
 
 -- one more, counted in front
 one_more : (n : ℕ) → suc n ≡ 1 + n
@@ -177,23 +182,25 @@ unfolding is_quoted_byte
 over_content parts name value from close closed =
     let content : List ℕ = slice_range value from close in
     over value from close (in_string parts name []) (in_string parts name content) closed.least (omega (arith, closed.within))
-    (on_content closed.content parts name [] from (drop close value))
+    (on_content closed.content parts name [] refl from (drop close value))
     ∙ over_byte value close (in_string parts name content) (before_semicolon (with_parameter parts name content)) closed.within
-    (ap (next (in_string parts name content)) closed.quote)
+    (ap (next (in_string parts name content)) closed.quote ∙ content_ends closed.content parts name)
 
 -- and a fault after content is the string's
 pub fault_after : (value : List ℕ) (from at : ℕ) (fault : ParseError) → from ≤ at → at ≤ length value
     → IsContent (slice_range value from at) → IsStringFault value at fault → IsStringFault value from fault
-fault_after value from at fault least within content is = λ parts name done.
+fault_after value from at fault least within content is = λ name done none parts.
     let more : List ℕ = done ++ slice_range value from at in
+    let awaits : awaits_after false more ≡ false = awaits_after-append false done _
+    ∙ ap (λ awaiting. awaits_after awaiting (slice_range value from at)) none ∙ content-awaits _ content in
     over value from at (in_string parts name done) (in_string parts name more) least within
-    (on_content content parts name done from (drop at value)) ∙ is parts name more
+    (on_content content parts name done none from (drop at value)) ∙ is name more awaits parts
 
 -- a byte that isn't quoted text, a quote or a backslash goes nowhere
-pub no_text : (parts : Parts) (name content : List ℕ) (b : ℕ) → is_quoted_text_byte b ≡ false → b ≢ 34 → b ≢ 92
-    → next (in_string parts name content) b ≡ None
-no_text parts name content b text quote backslash =
-    grind (arith, nat_tests, text, quote, backslash)
+pub no_text : (parts : Parts) (name content : List ℕ) (b : ℕ) → awaits_after false content ≡ false → is_quoted_text_byte b ≡ false → b ≢ 34
+    → b ≢ 92 → next (in_string parts name content) b ≡ None
+no_text parts name content b none text quote backslash =
+    rw none (grind (arith, nat_tests, text, quote, backslash))
 
 -- ---- tokens
 
@@ -268,23 +275,11 @@ over_value parts name value from to some within run =
 
 -- ---- white space
 
--- white space before the type,
-pub over_white_before : (value : List ℕ) (from to : ℕ) → IsRun is_space value from to → to ≤ length value
-    → answer_at value before_type from ≡ answer_at value before_type to
-over_white_before value from to run within =
-    over value from to before_type before_type run.least within (white_before _ run.all from (drop to value))
-
--- before a semicolon,
-pub over_white_after : (parts : Parts) (value : List ℕ) (from to : ℕ) → IsRun is_space value from to → to ≤ length value
-    → answer_at value (before_semicolon parts) from ≡ answer_at value (before_semicolon parts) to
-over_white_after parts value from to run within =
-    over value from to (before_semicolon parts) (before_semicolon parts) run.least within (white_after parts _ run.all from (drop to value))
-
--- and after one
-pub over_white_inside : (parts : Parts) (value : List ℕ) (from to : ℕ) → IsRun is_space value from to → to ≤ length value
-    → answer_at value (after_semicolon parts) from ≡ answer_at value (after_semicolon parts) to
-over_white_inside parts value from to run within =
-    over value from to (after_semicolon parts) (after_semicolon parts) run.least within (white_inside parts _ run.all from (drop to value))
+-- where it changes nothing
+pub over_white_at : (state : State) → KeepsSpace state → (value : List ℕ) (from to : ℕ) → IsRun is_space value from to → to ≤ length value
+    → answer_at value state from ≡ answer_at value state to
+over_white_at state keeps value from to run within =
+    over value from to state state run.least within (over_white state keeps _ run.all from (drop to value))
 
 -- a semicolon after the parts so far
 pub over_semicolon : (parts : Parts) (value : List ℕ) (at : ℕ) → at < length value → slice_index value at ≡ 59

@@ -1,7 +1,6 @@
 -- What is read of a value is what HTTP writes: each state says what the bytes so far are.
-use Rattle.mime_http.proofs.Common.{Answer, AreHttpParameters, AreSpaces, AreTokenBytes, AreTokenBytes-from_token, Bool, HttpReads, IsContent, IsHttpParameter, IsToken, List, MatchOption, MatchOption-at_some, Option, Parts, Some, State, [], after_backslash, after_semicolon, and_from, answer_at_end, answer_from, answer_of, ap, append-nil, append_assoc, before_semicolon, before_type, by_option, cond_both, eqb-true, if◌then◌else◌, in_name, in_string, in_subtype, in_type, in_value, is_quoted_byte, is_quoted_text_byte, is_space, is_token_byte, list_all, list_all-append, map, map-append, media_of, next, next_after, next_empty, next_quoted, no_byte, no_more, quoted_pair, read, refl, rejected, semicolon, semicolon_and, subst, sym, text_byte, true, false, with_parameter, with_string, with_token, ℕ, ⊎_elim, ⊤, ◌++◌, ◌+◌, ◌==◌, ◌∙◌, ◌∷◌, ◌≡◌, ◌||◌}
-use Rattle.std.proofs.lemmas.Bool.{or_cases}
-use Rattle.mime.proofs.HandedOut.{lowered_pair}
+use Rattle.mime_http.proofs.Common.{Answer, AreHttpParameters, AreSpaces, AreTokenBytes, AreTokenBytes-from_token, Bool, HttpReads, IsContent, IsHttpParameter, IsToken, List, MatchOption, MatchOption-at_some, Option, Parts, Some, State, [], after_semicolon, and_from, answer_at_end, answer_from, answer_of, ap, append-nil, append_assoc, before_semicolon, before_type, by_option, cond_both, eqb-true, if◌then◌else◌, in_name, in_string, in_subtype, in_type, in_value, is_space, is_token_byte, list_all, list_all-append, map, map-append, media_of, next, next_after, no_byte, no_more, quoted_pair, read, refl, rejected, semicolon, semicolon_and, subst, sym, text_byte, true, false, with_parameter, with_string, with_token, ℕ, ⊤, ◌++◌, ◌+◌, ◌==◌, ◌∙◌, ◌∷◌, ◌≡◌, IsOpenContent, continues}
+use Rattle.mime.proofs.HandedOut.{lowered_pair, IsContent-closed, IsOpenContent-push}
 
 -- ---- what the bytes are in each state
 
@@ -27,9 +26,7 @@ Spells (before_semicolon parts) front = Whole parts front
 Spells (after_semicolon parts) front = Follows parts [] front
 Spells (in_name parts name) front = IsToken name × Follows parts name front
 Spells (in_value parts name value) front = IsToken name × AreTokenBytes value × Follows parts (name ++ (61 ∷ value)) front
-Spells (in_string parts name content) front = IsToken name × IsContent content × Follows parts (name ++ (61 ∷ 34 ∷ content)) front
-Spells (after_backslash parts name content) front =
-    IsToken name × IsContent content × Follows parts (name ++ (61 ∷ 34 ∷ (content ++ (92 ∷ [])))) front
+Spells (in_string parts name content) front = IsToken name × IsOpenContent content × Follows parts (name ++ (61 ∷ 34 ∷ content)) front
 
 -- ---- a byte more
 
@@ -130,28 +127,11 @@ module _ (b : ℕ) (front : List ℕ) where
       either (is_space b) _ _ (λ space. space_after b space is)
       (λ other. either (b == 59) _ _ (λ same. semicolon_after same is) (λ no. tt))
 
-  -- after a semicolon,
-  after_nothing : {parts : Parts} → Follows parts [] front → Fits (next_empty parts b)
-  after_nothing {parts} is =
-      either (is_space b || b == 59) _ _
-      (λ fits. ⊎_elim (λ space. space_inside b space is) (λ same. semicolon_after same (nothing_after is)) (or_cases (is_space b) _ fits))
-      (λ no. tt)
-
-  -- in a quoted string,
-  after_quoted : (parts : Parts) (name content : List ℕ) → Spells (in_string parts name content) front
-      → Fits (next_quoted parts name content b)
-  after_quoted parts name content is =
-      either (b == 34) _ _
-      (λ same. parameter_after name content (with_string name content is.0 is.1)
-      (follows_more b (rw (eqb-true b 34 same) (simp append_assoc)) is.2))
-      (λ other. either (b == 92) _ _
-      (λ same. (is.0, is.1, follows_more b (rw (eqb-true b 92 same) (append_assoc name (61 ∷ 34 ∷ content) (92 ∷ []))) is.2)) (λ no. tt))
-
   -- and so in each state
   after_state : (state : State) → Spells state front → Fits (next state b)
   after_state before_type is =
-      either (is_space b) _ _ (λ space. one_more is_space front b is space)
-      (λ other. either (is_token_byte b) _ _ (λ token. (token_more [] b refl token, indented front is)) (λ no. tt))
+      either (is_token_byte b) _ _ (λ token. (token_more [] b refl token, indented front is))
+      (λ other. either (is_space b) _ _ (λ space. one_more is_space front b is space) (λ no. tt))
   after_state (in_type top) is =
       either (is_token_byte b) _ _ (λ token. (token_more top b (AreTokenBytes-from_token top is.0) token, indented_more b refl is.1))
       (λ other. either (b == 47) _ _
@@ -163,7 +143,9 @@ module _ (b : ℕ) (front : List ℕ) where
       (λ other. after_whole (essence_read is.0 is.1 is.2))
   after_state (before_semicolon parts) is = after_whole is
   after_state (after_semicolon parts) is =
-      either (is_token_byte b) _ _ (λ token. (token_more [] b refl token, follows_more b refl is)) (λ other. after_nothing is)
+      either (is_space b) _ _ (λ space. space_inside b space is)
+      (λ other. either (is_token_byte b) _ _ (λ token. (token_more [] b refl token, follows_more b refl is))
+      (λ other. either (b == 59) _ _ (λ same. semicolon_after same (nothing_after is)) (λ no. tt)))
   after_state (in_name parts name) is =
       either (is_token_byte b) _ _ (λ token. (token_more name b (AreTokenBytes-from_token name is.0) token, follows_more b refl is.1))
       (λ other. either (b == 61) _ _
@@ -171,17 +153,15 @@ module _ (b : ℕ) (front : List ℕ) where
   after_state (in_value parts name []) is =
       either (is_token_byte b) _ _ (λ token. (is.0, token_more [] b refl token, follows_more b (simp append_assoc) is.2))
       (λ other. either (b == 34) _ _
-      (λ same. (is.0, no_byte, follows_more b (rw (eqb-true b 34 same) (append_assoc name (61 ∷ []) (34 ∷ []))) is.2)) (λ no. tt))
+      (λ same. (is.0, refl, follows_more b (rw (eqb-true b 34 same) (append_assoc name (61 ∷ []) (34 ∷ []))) is.2)) (λ no. tt))
   after_state (in_value parts name (v ∷ value)) is =
       either (is_token_byte b) _ _ (λ token. (is.0, token_more (v ∷ value) b is.1 token, follows_more b (simp append_assoc) is.2))
       (λ other. after_whole (parameter_after name (v ∷ value) (with_token name (v ∷ value) is.0 is.1) is.2))
   after_state (in_string parts name content) is =
-      either (is_quoted_text_byte b) _ _
-      (λ text. (is.0, content_more is.1 (text_byte b [] text no_byte), follows_more b (simp append_assoc) is.2))
-      (λ other. after_quoted parts name content is)
-  after_state (after_backslash parts name content) is =
-      either (is_quoted_byte b) _ _
-      (λ fits. (is.0, content_more is.1 (quoted_pair b [] fits no_byte), follows_more b (simp append_assoc) is.2)) (λ no. tt)
+      either (continues content b) _ _ (λ more. (is.0, IsOpenContent-push content b is.1 more, follows_more b (simp append_assoc) is.2))
+      (λ stopped. either (b == 34) _ _
+      (λ same. parameter_after name content (with_string name content is.0 (IsContent-closed content b is.1 stopped same))
+      (follows_more b (rw (eqb-true b 34 same) (simp append_assoc)) is.2)) (λ no. tt))
 
 -- the bytes are what the next state says
 pub spelled_after : (state after : State) (b : ℕ) (front : List ℕ) → next state b ≡ Some after → Spells state front

@@ -1,7 +1,8 @@
 -- The fault of a value that isn't read is the answer: where reading stops nothing helps, and at each byte before that something does.
-use Rattle.mime_http.proofs.Common.{Answer, EndsIn, HttpLacks, HttpReads, InvalidToken, IsHttpFault, IsHttpLongestPrefix, IsHttpMediaType, IsHttpViable, List, MissingEqual, MissingQuote, MissingSlash, MissingSubtype, MissingValue, NoMemory, None, OneHttpFault, ParseError, Parts, State, [], after_backslash, answer_at_end, answer_from, answer_of, ap, append-nil, append_assoc, arith, before_type, by_option, codes, completion_of, cons_option, in_name, in_string, in_subtype, in_type, in_value, is_quoted_byte, is_token_byte, last_byte_of, length, length-append, media_of, next, read, refl, rejected, same_Some, slice_get, slice_get-prefix, slice_get_within, subst, suc, sym, take, take-append-add, take-append_seam, take-length, unwrap_or, ℕ, ⊤, ◌++◌, ◌+◌, ◌-◌, ◌<◌, ◌∙◌, ◌∷◌, ◌≡◌}
-use Rattle.mime_http.proofs.Runs.{no_way, one_byte}
-use Rattle.mime_http.proofs.ReadBack.{Follows, Indented, Spells, follows, indented, answered_is_http, read_at_end, read_from, spelled_after}
+use Rattle.mime_http.proofs.Common.{Answer, Bool, EndsIn, HttpLacks, HttpReads, InvalidToken, IsHttpFault, IsHttpLongestPrefix, IsHttpMediaType, IsHttpViable, List, MissingEqual, MissingQuote, MissingSlash, MissingSubtype, MissingValue, NoMemory, None, OneHttpFault, ParseError, Parts, State, [], awaits_after, before_semicolon, is_quoted_text_byte, list_all, true, with_parameter, answer_at_end, answer_from, answer_of, ap, append-nil, append_assoc, arith, before_type, by_option, false, codes, completion_of, cons_option, in_name, in_string, in_subtype, in_type, in_value, is_quoted_byte, is_token_byte, last_byte_of, length, length-append, media_of, next, read, refl, rejected, same_Some, slice_get, slice_get-prefix, slice_get_within, subst, suc, sym, take, take-append-add, take-append_seam, take-length, unwrap_or, ℕ, ⊤, ◌++◌, ◌+◌, ◌-◌, ◌<◌, ◌∙◌, ◌∷◌, ◌≡◌, ◌≢◌}
+use Rattle.mime.proofs.HandedOut.{closed-letter, takes_all-any}
+use Rattle.mime_http.proofs.Runs.{no_way, on_open, one_byte}
+use Rattle.mime_http.proofs.ReadBack.{Follows, IsRead, Indented, Spells, follows, indented, answered_is_http, read_at_end, read_from, spelled_after}
 use Rattle.mime_http.proofs.ReadForth.{http_is_answered}
 
 -- what isn't read is no media type
@@ -17,6 +18,22 @@ after_slash top front (indented before white) = (before ++ top, sym (append_asso
 after_equals : (parts : Parts) (name front : List ℕ) → Follows parts (name ++ (61 ∷ [])) front → EndsIn front 61
 after_equals parts name front (follows first after is white) = (first ++ (59 ∷ (after ++ name)), simp append_assoc)
 
+-- letters go on in a quoted string, after a backslash, too,
+letters_go_on : (parts : Parts) (name content letters : List ℕ) (at : ℕ) (bytes : List ℕ) → list_all is_quoted_text_byte letters ≡ true
+    → answer_from (in_string parts name content) at (letters ++ bytes)
+    ≡ answer_from (in_string parts name (content ++ letters)) (at + length letters) bytes
+letters_go_on parts name content letters at bytes all =
+    on_open parts name letters content (takes_all-any (awaits_after false content) letters all) at bytes
+
+-- so a letter and a quote close it
+letter_closes : (parts : Parts) (name content : List ℕ) (at : ℕ)
+    → answer_from (in_string parts name content) at (codes "x\"") ≡ read (with_parameter parts name (content ++ (120 ∷ [])))
+unfolding is_quoted_byte
+letter_closes parts name content at =
+    letters_go_on parts name content (120 ∷ []) at (34 ∷ []) refl
+    ∙ one_byte (in_string parts name (content ++ (120 ∷ []))) (before_semicolon (with_parameter parts name (content ++ (120 ∷ [])))) _ 34 []
+    (rw (closed-letter content) refl)
+
 -- the value is the media type that is the answer, or lacks what it says
 abbrev IsAnswered : List ℕ → Answer → Type 0
 IsAnswered value (read parts) = HttpReads value (media_of parts)
@@ -31,9 +48,14 @@ answered_at_end (in_subtype top []) value is = ((_, read_from (codes "x") (in_su
 answered_at_end (in_name parts name) value is = ((_, read_from (codes "=x") (in_name parts name) 0 value is), tt)
 answered_at_end (in_value parts name []) value is =
     ((_, read_from (codes "x") (in_value parts name []) 0 value is), after_equals parts name value is.2)
-answered_at_end (in_string parts name content) value is = ((_, read_from (codes "x\"") (in_string parts name content) 0 value is), tt)
-answered_at_end (after_backslash parts name content) value is =
-    ((_, read_from (codes "x\"") (after_backslash parts name content) 0 value is), tt)
+answered_at_end (in_string parts name content) value is = (
+  (
+    _,
+    subst (IsRead (value ++ codes "x\"")) (letter_closes parts name content 0)
+        (read_from (codes "x\"") (in_string parts name content) 0 value is),
+  ),
+  tt,
+)
 answered_at_end state value is = read_at_end state value is
 
 -- the fault that is an answer is the value's
@@ -119,6 +141,20 @@ last_of fault = cons_option (last_byte_of fault) []
 abbrev more_of : ParseError → List ℕ
 more_of fault = unwrap_or (completion_of fault) (0 ∷ [])
 
+-- letters alone end no quoted string,
+go_on : (before : Parts) (name content letters : List ℕ) (at : ℕ) (parts : Parts) → list_all is_quoted_text_byte letters ≡ true
+    → answer_from (in_string before name content) at letters ≢ read parts
+go_on before name content letters at parts all is =
+    let same = ap (answer_from (in_string before name content) at) (sym (append-nil letters)) in
+    absurd (cc (same, letters_go_on before name content letters at [] all, is))
+
+-- and a zero byte stands in none,
+no_byte_0 : (awaiting : Bool) (before : Parts) (name content : List ℕ) (at : ℕ) (parts : Parts) → awaits_after false content ≡ awaiting
+    → answer_from (in_string before name content) at (0 ∷ []) ≢ read parts
+unfolding is_quoted_byte
+no_byte_0 true before name content at parts e is = absurd (cc (rw e at is))
+no_byte_0 false before name content at parts e is = absurd (cc (rw e at is))
+
 -- each state that is completed so has the fault
 has_fault : (fault : ParseError) (state : State) (at : ℕ) (parts : Parts)
     → answer_from state at (last_of fault ++ more_of fault) ≡ read parts → answer_from state at (last_of fault) ≡ rejected fault
@@ -129,7 +165,12 @@ has_fault MissingSubtype (in_type top) at parts is = refl
 has_fault MissingEqual (in_name _ name) at parts is = refl
 has_fault MissingValue (in_name _ name) at parts is = refl
 has_fault MissingQuote (in_string _ name content) at parts is = refl
-has_fault MissingQuote (after_backslash _ name content) at parts is = refl
+has_fault MissingSlash (in_string before name content) at parts is = absurd (go_on before name content (codes "x/x") at parts refl is)
+has_fault MissingSubtype (in_string before name content) at parts is = absurd (go_on before name content (codes "/x") at parts refl is)
+has_fault MissingEqual (in_string before name content) at parts is = absurd (go_on before name content (codes "=x") at parts refl is)
+has_fault MissingValue (in_string before name content) at parts is = absurd (go_on before name content (codes "=x") at parts refl is)
+has_fault fault (in_string before name content) at parts is =
+    absurd (no_byte_0 (awaits_after false content) before name content at parts refl is)
 has_fault fault (in_subtype top []) at parts is = absurd cc
 has_fault fault (in_value _ name []) at parts is = absurd cc
 has_fault fault state at parts is = absurd cc

@@ -1,8 +1,8 @@
 -- What HTTP writes is read, byte by byte, as the media type that it is; what is read is safe in a header, and in UTF-8.
-use Rattle.mime_http.proofs.Common.{AllByRecursion, AreHttpParameters, AreSpaces, AreTokenBytes-from_token, HttpReads, IsHttpParameter, IsSafePair, IsToken, IsUtf8, IsUtf8-nil, List, MediaType, Parts, Some, State, [], after_semicolon, and_parts, answer_at_end, answer_from, answer_of, ap, append-nil, append_assoc, arith, before_semicolon, content-from_token, in_name, in_string, in_subtype, in_type, in_value, is_quoted_byte, is_space, is_token_byte, length, map, media_of, next, no_more, read, refl, semicolon, semicolon_and, subst, sym, with_pairs, with_parameter, with_string, with_token, ℕ, ◌++◌, ◌+◌, ◌∙◌, ◌∷◌, ◌≡◌}
+use Rattle.mime_http.proofs.Common.{AllByRecursion, AreHttpParameters, AreSpaces, AreTokenBytes-from_token, HttpReads, IsHttpParameter, IsSafePair, IsToken, IsUtf8, IsUtf8-nil, List, MediaType, Parts, Some, State, [], after_semicolon, and_parts, answer_at_end, answer_from, answer_of, ap, append-nil, append_assoc, arith, before_semicolon, content-from_token, in_name, in_string, in_subtype, in_type, in_value, is_quoted_byte, is_space, is_token_byte, length, map, media_of, next, no_more, read, refl, semicolon, semicolon_and, subst, sym, with_pairs, with_parameter, with_string, with_token, ℕ, ◌++◌, ◌+◌, ◌∙◌, ◌∷◌, ◌≡◌, before_type}
 use Rattle.mime.proofs.HandedOut.{lowered_pair}
 use Rattle.mime_http.proofs.HttpText.{around, past_ascii, put_ascii, spaces_ascii, token_bytes_ascii}
-use Rattle.mime_http.proofs.Runs.{EndsToken, name_begins, on_content, on_subtype, on_value, one_byte, regrouping, space_is_no_token, subtype_ends, type_begins, value_ends, white_after, white_before, white_inside}
+use Rattle.mime_http.proofs.Runs.{EndsToken, content_ends, name_begins, on_content, on_subtype, on_value, one_byte, regrouping, space_is_no_token, subtype_ends, type_begins, value_ends, keeps_after, keeps_before, keeps_inside, over_white}
 
 -- ---- a parameter
 
@@ -59,8 +59,9 @@ reads_one (with_string name content named is) bytes ends =
             ∙ name_begins parts name named at (61 ∷ 34 ∷ (content ++ (34 ∷ bytes)))
             ∙ one_byte (in_name parts name) (in_value parts name []) (at + length name) 61 (34 ∷ (content ++ (34 ∷ bytes))) refl
             ∙ one_byte (in_value parts name []) (in_string parts name []) (at + length name + 1) 34 (content ++ (34 ∷ bytes)) refl
-            ∙ on_content is parts name [] (at + length name + 1 + 1) (34 ∷ bytes)
-            ∙ one_byte (in_string parts name content) (before_semicolon (with_parameter parts name content)) _ 34 bytes refl,
+            ∙ on_content is parts name [] refl (at + length name + 1 + 1) (34 ∷ bytes)
+            ∙ one_byte (in_string parts name content) (before_semicolon (with_parameter parts name content)) _ 34 bytes
+            (content_ends is parts name),
       );
     }
 
@@ -74,8 +75,8 @@ data IsBetween (parts : Parts) : State → Type 0 where
 -- there white space changes nothing,
 white_between : {parts : Parts} {state : State} → IsBetween parts state → (white : List ℕ) → AreSpaces white → (at : ℕ) (bytes : List ℕ)
     → answer_from state at (white ++ bytes) ≡ answer_from state (at + length white) bytes
-white_between {parts} outside = white_after parts
-white_between {parts} inside = white_inside parts
+white_between {parts} outside = over_white (before_semicolon parts) (keeps_after parts)
+white_between {parts} inside = over_white (after_semicolon parts) (keeps_inside parts)
 
 -- a semicolon may follow,
 semicolon_between : {parts : Parts} {state : State} → IsBetween parts state → next state 59 ≡ Some (after_semicolon parts)
@@ -111,7 +112,7 @@ after_white {parts} {state} between before after bytes first second at = (
   _,
   white_between between before first at (59 ∷ (after ++ bytes))
       ∙ one_byte state (after_semicolon parts) (at + length before) 59 (after ++ bytes) (semicolon_between between)
-      ∙ white_inside parts after second (at + length before + 1) bytes,
+      ∙ over_white (after_semicolon parts) (keeps_inside parts) after second (at + length before + 1) bytes,
 )
 
 -- so bytes after them are in UTF-8 if all are
@@ -182,7 +183,7 @@ http_is_answered value media reads =
     let bare : Parts = record { top = top; sub = sub; pairs = [] } in (
       record { top = top; sub = sub; pairs = from.found },
       ap answer_of (sym reads.spelled)
-          ∙ white_before reads.before reads.white_before 0 (top ++ (47 ∷ (sub ++ rest)))
+          ∙ over_white before_type keeps_before reads.before reads.white_before 0 (top ++ (47 ∷ (sub ++ rest)))
           ∙ type_begins top reads.is_top at (47 ∷ (sub ++ rest))
           ∙ one_byte (in_type top) (in_subtype top []) (at + length top) 47 (sub ++ rest) refl
           ∙ on_subtype top sub (AreTokenBytes-from_token sub reads.is_sub) [] (at + length top + 1) rest

@@ -1,5 +1,6 @@
 -- How reading goes on over white space, over a token, and over quoted content.
-use Rattle.mime_http.proofs.Common.{AreSpaces, AreTokenBytes, Bool, InvalidToken, IsContent, IsToken, List, None, Parts, Some, State, [], after_backslash, after_semicolon, and_from, and_parts, ap, append-nil, append_assoc, ap₂, answer_from, arith, before_semicolon, before_type, in_name, in_string, in_subtype, in_type, in_value, is_quoted_byte, is_space, is_token_byte, length, list_all, list_all-append, nat_tests, next, no_byte, quoted_pair, refl, rejected, sym, text_byte, true, false, with_parameter, ℕ, ⊤, ◌++◌, ◌+◌, ◌∙◌, ◌∷◌, ◌≡◌}
+use Rattle.mime_http.proofs.Common.{AreSpaces, AreTokenBytes, Bool, InvalidToken, IsContent, IsToken, List, None, Parts, Some, State, [], after_semicolon, and_from, and_parts, ap, append-nil, awaits_after, awaits_after-append, continues, takes_all, append_assoc, ap₂, answer_from, arith, before_semicolon, before_type, in_name, in_string, in_subtype, in_type, in_value, is_quoted_byte, is_space, is_token_byte, length, list_all, list_all-append, nat_tests, next, no_byte, quoted_pair, refl, rejected, subst, sym, text_byte, true, false, with_parameter, ℕ, ⊤, ◌++◌, ◌+◌, ◌∙◌, ◌∷◌, ◌≡◌}
+use Rattle.mime.proofs.HandedOut.{content-closed, content-taken}
 
 -- how joined lists are grouped, for `simp`, which doesn't compute a list with a first byte
 pub regrouping-cons : (b : ℕ) (xs ys : List ℕ) → (b ∷ xs) ++ ys ≡ b ∷ (xs ++ ys)
@@ -12,7 +13,7 @@ pub spaces-append : (n m : List ℕ) → AreSpaces n → AreSpaces m → AreSpac
 spaces-append n m first second = list_all-append is_space n m ∙ and_from _ _ first second
 
 -- the same state at the same position
-same_from : (bytes : List ℕ) {state other : State} {at to : ℕ} → state ≡ other → at ≡ to
+pub same_from : (bytes : List ℕ) {state other : State} {at to : ℕ} → state ≡ other → at ≡ to
     → answer_from state at bytes ≡ answer_from other to bytes
 same_from bytes same there = ap₂ (λ s n. answer_from s n bytes) same there
 
@@ -40,33 +41,34 @@ goes_on class state goes (b ∷ run) all done at bytes =
 
 -- ---- white space
 
--- a space leads on from a state to itself
-abbrev KeepsSpace : State → Type 0
-KeepsSpace state = (b : ℕ) → is_space b ≡ true → next state b ≡ Some state
-
-over_white : (state : State) → KeepsSpace state → (white : List ℕ) → AreSpaces white → (at : ℕ) (bytes : List ℕ)
-    → answer_from state at (white ++ bytes) ≡ answer_from state (at + length white) bytes
-over_white state keeps white all at bytes = goes_on is_space (λ done. state) (λ done. keeps) white all [] at bytes
-
--- White space before the type,
-pub white_before : (white : List ℕ) → AreSpaces white → (at : ℕ) (bytes : List ℕ)
-    → answer_from before_type at (white ++ bytes) ≡ answer_from before_type (at + length white) bytes
-white_before = over_white before_type (λ b is. rw is refl)
-
--- before a semicolon or the end,
-pub white_after : (parts : Parts) (white : List ℕ) → AreSpaces white → (at : ℕ) (bytes : List ℕ)
-    → answer_from (before_semicolon parts) at (white ++ bytes) ≡ answer_from (before_semicolon parts) (at + length white) bytes
-white_after parts = over_white (before_semicolon parts) (λ b is. rw is refl)
-
 -- a space is no token byte
 pub space_is_no_token : (b : ℕ) → is_space b ≡ true → is_token_byte b ≡ false
 unfolding is_token_byte
 space_is_no_token b is = grind (arith, nat_tests)
 
--- and after one.
-pub white_inside : (parts : Parts) (white : List ℕ) → AreSpaces white → (at : ℕ) (bytes : List ℕ)
-    → answer_from (after_semicolon parts) at (white ++ bytes) ≡ answer_from (after_semicolon parts) (at + length white) bytes
-white_inside parts = over_white (after_semicolon parts) (λ b is. rw (space_is_no_token b is, is) refl)
+-- nor the other way
+token_is_no_space : (b : ℕ) → is_token_byte b ≡ true → is_space b ≡ false
+unfolding is_token_byte
+token_is_no_space b is = grind (arith, nat_tests)
+
+-- a space leads on from a state to itself: before the type,
+abbrev pub KeepsSpace : State → Type 0
+KeepsSpace state = (b : ℕ) → is_space b ≡ true → next state b ≡ Some state
+
+pub keeps_before : KeepsSpace before_type
+keeps_before b is = rw (space_is_no_token b is, is) refl
+
+-- before a semicolon or the end, and after a semicolon
+pub keeps_after : (parts : Parts) → KeepsSpace (before_semicolon parts)
+keeps_after parts b is = rw is refl
+
+pub keeps_inside : (parts : Parts) → KeepsSpace (after_semicolon parts)
+keeps_inside parts b is = rw is refl
+
+-- So white space there changes nothing.
+pub over_white : (state : State) → KeepsSpace state → (white : List ℕ) → AreSpaces white → (at : ℕ) (bytes : List ℕ)
+    → answer_from state at (white ++ bytes) ≡ answer_from state (at + length white) bytes
+over_white state keeps white all at bytes = goes_on is_space (λ done. state) (λ done. keeps) white all [] at bytes
 
 -- ---- tokens
 
@@ -99,18 +101,13 @@ on_value parts name = goes_on is_token_byte (in_value parts name) goes
     goes [] b is = rw is refl
     goes (v ∷ value) b is = rw is refl
 
--- a token byte is no space
-pub token_is_no_space : (b : ℕ) → is_token_byte b ≡ true → is_space b ≡ false
-unfolding is_token_byte
-token_is_no_space b is = grind (arith, nat_tests)
-
 -- A token begins the type,
 pub type_begins : (token : List ℕ) → IsToken token → (at : ℕ) (bytes : List ℕ)
     → answer_from before_type at (token ++ bytes) ≡ answer_from (in_type token) (at + length token) bytes
 type_begins [] is at bytes = absurd is
 type_begins (b ∷ token) is at bytes =
     let parts = and_parts (is_token_byte b) _ is in
-    one_byte before_type (in_type (b ∷ [])) at b (token ++ bytes) (rw (token_is_no_space b parts.0, parts.0) refl)
+    one_byte before_type (in_type (b ∷ [])) at b (token ++ bytes) (rw parts.0 refl)
     ∙ on_type token parts.1 (b ∷ []) (at + 1) bytes ∙ same_from bytes refl (omega arith)
 
 -- and a parameter's name.
@@ -119,7 +116,7 @@ pub name_begins : (parts : Parts) (token : List ℕ) → IsToken token → (at :
 name_begins parts [] is at bytes = absurd is
 name_begins parts (b ∷ token) is at bytes =
     let here = and_parts (is_token_byte b) _ is in
-    one_byte (after_semicolon parts) (in_name parts (b ∷ [])) at b (token ++ bytes) (rw here.0 refl)
+    one_byte (after_semicolon parts) (in_name parts (b ∷ [])) at b (token ++ bytes) (rw (token_is_no_space b here.0, here.0) refl)
     ∙ on_name parts token here.1 (b ∷ []) (at + 1) bytes ∙ same_from bytes refl (omega arith)
 
 -- ---- the end of a token
@@ -145,17 +142,25 @@ value_ends parts name (v ∷ value) is at (b ∷ bytes) ends = rw ends refl
 
 -- ---- quoted content
 
--- Quoted content goes on what was read of one.
-pub on_content : {content : List ℕ} → IsContent content → (parts : Parts) (name done : List ℕ) (at : ℕ) (bytes : List ℕ)
-    → answer_from (in_string parts name done) at (content ++ bytes)
+-- What may go on in a quoted string goes on what was read of one,
+pub on_open : (parts : Parts) (name run done : List ℕ) → takes_all (awaits_after false done) run ≡ true → (at : ℕ) (bytes : List ℕ)
+    → answer_from (in_string parts name done) at (run ++ bytes) ≡ answer_from (in_string parts name (done ++ run)) (at + length run) bytes
+on_open parts name [] done all at bytes = same_from bytes (ap (in_string parts name) (sym (append-nil done))) (omega arith)
+on_open parts name (b ∷ run) done all at bytes =
+    let here = and_parts (continues done b) _ all in
+    one_byte (in_string parts name done) (in_string parts name (done ++ (b ∷ []))) at b (run ++ bytes) (rw here.0 refl)
+    ∙ on_open parts name run (done ++ (b ∷ []))
+    (subst (λ awaiting. takes_all awaiting run ≡ true) (sym (awaits_after-append false done (b ∷ []))) here.1) (at + 1) bytes
+    ∙ same_from bytes (ap (in_string parts name) (append_assoc done (b ∷ []) run)) (omega arith)
+
+-- and so does content, if no byte is paired before it.
+pub on_content : {content : List ℕ} → IsContent content → (parts : Parts) (name done : List ℕ) → awaits_after false done ≡ false
+    → (at : ℕ) (bytes : List ℕ) → answer_from (in_string parts name done) at (content ++ bytes)
     ≡ answer_from (in_string parts name (done ++ content)) (at + length content) bytes
-unfolding is_quoted_byte
-on_content no_byte parts name done at bytes = same_from bytes (ap (in_string parts name) (sym (append-nil done))) (omega arith)
-on_content (text_byte b content is rest) parts name done at bytes =
-    one_byte (in_string parts name done) (in_string parts name (done ++ (b ∷ []))) at b (content ++ bytes) (rw is refl)
-    ∙ on_content rest parts name (done ++ (b ∷ [])) (at + 1) bytes
-    ∙ same_from bytes (ap (in_string parts name) (append_assoc done (b ∷ []) content)) (omega arith)
-on_content (quoted_pair b content is rest) parts name done at bytes =
-    one_byte (after_backslash parts name done) (in_string parts name (done ++ (92 ∷ b ∷ []))) (at + 1) b (content ++ bytes) (rw is refl)
-    ∙ on_content rest parts name (done ++ (92 ∷ b ∷ [])) (at + 1 + 1) bytes
-    ∙ same_from bytes (ap (in_string parts name) (append_assoc done (92 ∷ b ∷ []) content)) (omega arith)
+on_content {content} is parts name done none at bytes =
+    on_open parts name content done (subst (λ awaiting. takes_all awaiting content ≡ true) (sym none) (content-taken content is)) at bytes
+
+-- A quote ends it.
+pub content_ends : {content : List ℕ} → IsContent content → (parts : Parts) (name : List ℕ)
+    → next (in_string parts name content) 34 ≡ Some (before_semicolon (with_parameter parts name content))
+content_ends {content} is parts name = rw (content-closed content is) refl

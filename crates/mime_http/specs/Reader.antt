@@ -1,14 +1,14 @@
 -- Private: a header's value read byte by byte by HTTP's own grammar (RFC 9110, 8.3.1 and 5.6.6), and what is written of a media type.
-use Rattle.std.specs.Prelude.{◌≡◌, ◌<◌, ◌≤◌, ℕ, ◌+◌, ◌==◌, ◌||◌, Bool, List, [], ◌∷◌, ◌++◌, Option, Some, None, codes, length, take, drop, slice_index, slice_range, map, unwrap_or, if◌then◌else◌}
-use Rattle.std.specs.List.{prefix_len}
+use Rattle.std.specs.Prelude.{◌≡◌, ◌<◌, ◌≤◌, ℕ, ◌+◌, ◌==◌, false, List, [], ◌∷◌, ◌++◌, Option, Some, None, length, take, drop, slice_index, slice_range, map, unwrap_or, if◌then◌else◌}
 use Rattle.std.specs.Option.{option_map}
-use Rattle.mime.specs.Bytes.{is_token_byte, is_quoted_byte, is_quoted_text_byte, slash_byte, semicolon_byte, equals_byte, quote_byte, backslash_byte}
-use Rattle.mime.specs.Grammar.{is_space, IsContent}
-use Rattle.mime.specs.Values.{MediaType, lowered, last_plus}
+use Rattle.mime.specs.Bytes.{is_token_byte, slash_byte, semicolon_byte, equals_byte, quote_byte}
+use Rattle.mime.specs.Grammar.{is_space, IsContent, no_list}
+use Rattle.mime.specs.Values.{MediaType, value_of}
 use Rattle.mime.specs.Inner.KeptText.{lowered_pair}
+use Rattle.mime.specs.Inner.Quoted.{awaits_after, continues}
 use Rattle.mime.specs.declared.scan.fault.ParseError.{ParseError}
 use Rattle.mime.specs.declared.scan.fault.ParseError.TheVariants.{MissingSlash, MissingSubtype, MissingEqual, MissingValue, MissingQuote, InvalidToken}
-use Rattle.mime_http.specs.Written.{quote_of, text_of_pair, text_of_pairs}
+use Rattle.mime_http.specs.Written.{quote_of, text_of_pairs, with_pairs}
 use Rattle.mime_http.specs.declared.reader.Spans.{Spans}
 
 -- the parts of a media type as they stand in a value: its type, its subtype, and its parameters, quoted values without their quotes
@@ -22,8 +22,7 @@ abbrev pub with_parameter : Parts → List ℕ → List ℕ → Parts
 with_parameter parts name value = record parts { pairs = parts.pairs ++ ((name, value) ∷ []) }
 
 -- What is read of the bytes of a value so far: white space or nothing; a part of the type, of the subtype, of a parameter's name, of its
--- value, or of the content of a quoted string, perhaps with a backslash after it; or all before a semicolon or the end, or before the
--- next parameter.
+-- value, or of a quoted string's content; or all before a semicolon or the end, or before the next parameter.
 pub data State : Type 0 where
   before_type : State
   in_type : (top : List ℕ) → State
@@ -33,46 +32,34 @@ pub data State : Type 0 where
   in_name : (parts : Parts) (name : List ℕ) → State
   in_value : (parts : Parts) (name value : List ℕ) → State
   in_string : (parts : Parts) (name content : List ℕ) → State
-  after_backslash : (parts : Parts) (name content : List ℕ) → State
 
--- the state after a byte other than a token byte: after a subtype or a parameter,
+-- the state after a byte that ends a subtype or a parameter,
 abbrev pub next_after : Parts → ℕ → Option State
 next_after parts b =
     if is_space b then Some (before_semicolon parts) else
     if b == semicolon_byte then Some (after_semicolon parts) else None
 
--- and after a semicolon;
-abbrev pub next_empty : Parts → ℕ → Option State
-next_empty parts b = if is_space b || b == semicolon_byte then Some (after_semicolon parts) else None
-
--- and after one that ends the text of a quoted string
-abbrev pub next_quoted : Parts → List ℕ → List ℕ → ℕ → Option State
-next_quoted parts name content b =
-    if b == quote_byte then Some (before_semicolon (with_parameter parts name content)) else
-    if b == backslash_byte then Some (after_backslash parts name content) else None
-
--- the state after a byte, if a media type may go on so
+-- and after any, if a media type may go on so
 abbrev pub next : State → ℕ → Option State
-next before_type b = if is_space b then Some before_type else if is_token_byte b then Some (in_type (b ∷ [])) else None
+next before_type b = if is_token_byte b then Some (in_type (b ∷ [])) else if is_space b then Some before_type else None
 next (in_type top) b =
     if is_token_byte b then Some (in_type (top ++ (b ∷ []))) else if b == slash_byte then Some (in_subtype top []) else None
 next (in_subtype top []) b = if is_token_byte b then Some (in_subtype top (b ∷ [])) else None
 next (in_subtype top (s ∷ sub)) b =
-    if is_token_byte b then Some (in_subtype top ((s ∷ sub) ++ (b ∷ []))) else
-    next_after (record { top = top; sub = s ∷ sub; pairs = [] }) b
+    if is_token_byte b then Some (in_subtype top (s ∷ sub ++ (b ∷ []))) else next_after (record { top = top; sub = s ∷ sub; pairs = [] }) b
 next (before_semicolon parts) b = next_after parts b
-next (after_semicolon parts) b = if is_token_byte b then Some (in_name parts (b ∷ [])) else next_empty parts b
+next (after_semicolon parts) b =
+    if is_space b then Some (after_semicolon parts) else if is_token_byte b then Some (in_name parts (b ∷ [])) else
+    if b == semicolon_byte then Some (after_semicolon parts) else None
 next (in_name parts name) b =
     if is_token_byte b then Some (in_name parts (name ++ (b ∷ []))) else if b == equals_byte then Some (in_value parts name []) else None
 next (in_value parts name []) b =
     if is_token_byte b then Some (in_value parts name (b ∷ [])) else if b == quote_byte then Some (in_string parts name []) else None
 next (in_value parts name (v ∷ value)) b =
-    if is_token_byte b then Some (in_value parts name ((v ∷ value) ++ (b ∷ []))) else
-    next_after (with_parameter parts name (v ∷ value)) b
+    if is_token_byte b then Some (in_value parts name ((v ∷ value) ++ (b ∷ []))) else next_after (with_parameter parts name (v ∷ value)) b
 next (in_string parts name content) b =
-    if is_quoted_text_byte b then Some (in_string parts name (content ++ (b ∷ []))) else next_quoted parts name content b
-next (after_backslash parts name content) b =
-    if is_quoted_byte b then Some (in_string parts name (content ++ (backslash_byte ∷ b ∷ []))) else None
+    if continues content b then Some (in_string parts name (content ++ (b ∷ []))) else
+    if b == quote_byte then Some (before_semicolon (with_parameter parts name content)) else None
 
 -- the answer: a media type of these parts, or the fault
 pub data Answer : Type 0 where
@@ -91,7 +78,6 @@ answer_at_end (in_name parts name) = rejected MissingEqual
 answer_at_end (in_value parts name []) = rejected MissingValue
 answer_at_end (in_value parts name (v ∷ value)) = read (with_parameter parts name (v ∷ value))
 answer_at_end (in_string parts name content) = rejected MissingQuote
-answer_at_end (after_backslash parts name content) = rejected MissingQuote
 
 -- the answer from a state on, for the bytes that follow, of which the first stands at this position
 abbrev pub answer_from : State → ℕ → List ℕ → Answer
@@ -107,35 +93,23 @@ abbrev pub text_of_parts : Parts → List ℕ
 text_of_parts parts = parts.top ++ (slash_byte ∷ (parts.sub ++ text_of_pairs parts.pairs))
 
 abbrev pub media_of : Parts → MediaType
-media_of parts =
-    let essence = lowered parts.top ++ (slash_byte ∷ lowered parts.sub) in
-    let pairs = map lowered_pair parts.pairs in
-    record {
-      essence = essence;
-      slash = length parts.top;
-      plus = last_plus (length parts.top + 2) (drop 1 (lowered parts.sub));
-      pairs = pairs;
-      kept = essence ++ text_of_pairs pairs;
-    }
-
--- ---- what the reader's functions promise
+media_of parts = with_pairs (value_of (record { top = parts.top; sub = parts.sub; tail = no_list })) (map lowered_pair parts.pairs)
 
 -- the answer from a state and a position of a value on
 abbrev pub answer_at : List ℕ → State → ℕ → Answer
 answer_at value state at = answer_from state at (drop at value)
 
--- the position, from one on, of the first byte that isn't of a class, or the length
-abbrev pub run_end : (ℕ → Bool) → List ℕ → ℕ → ℕ
-run_end class value from = from + prefix_len class (drop from value)
-
 -- the fault of a value in which nothing goes on at a position
 abbrev pub fault_at : List ℕ → ℕ → ParseError → ParseError
 fault_at value pos missing = if pos == length value then missing else InvalidToken pos (slice_index value pos)
 
--- in a quoted string from a position on there is this fault
+-- in a state, from a position on, there is this fault; and so in a quoted string, if no backslash stands before it that pairs a byte
+abbrev pub IsFaultFrom : List ℕ → (Parts → State) → ℕ → ParseError → Type 0
+IsFaultFrom value state from fault = (parts : Parts) → answer_at value (state parts) from ≡ rejected fault
+
 abbrev pub IsStringFault : List ℕ → ℕ → ParseError → Type 0
 IsStringFault value from fault =
-    (parts : Parts) (name content : List ℕ) → answer_at value (in_string parts name content) from ≡ rejected fault
+    (name content : List ℕ) → awaits_after false content ≡ false → IsFaultFrom value (λ parts. in_string parts name content) from fault
 
 -- the content of a quoted string, from a position on, ends before the quote at another
 pub record IsClosedAt (value : List ℕ) (from close : ℕ) : Type 0 where
@@ -144,39 +118,17 @@ pub record IsClosedAt (value : List ℕ) (from close : ℕ) : Type 0 where
   pub content : IsContent (slice_range value from close)
   pub quote : slice_index value close ≡ quote_byte
 
--- a parameter's value stands from a position on, and what is written of it is a part of the value
-pub record IsValueAt (value : List ℕ) (from : ℕ) (spans : Spans) : Type 0 where
-  pub content : List ℕ
-  pub read : (parts : Parts) (name : List ℕ)
-      → answer_at value (in_value parts name []) from ≡ answer_at value (before_semicolon (with_parameter parts name content)) spans.end
-  pub written : quote_of content ++ (content ++ quote_of content) ≡ slice_range value spans.begin spans.last
-  pub first : spans.first ≡ from
-  pub apart : from ≤ spans.begin
-  pub some : spans.begin ≤ spans.last
-  pub most : spans.last ≤ spans.end
-  pub within : spans.end ≤ length value
-
--- reading a parameter's value from a position on gives this fault
-abbrev pub IsValueFault : List ℕ → ℕ → ParseError → Type 0
-IsValueFault value from fault = (parts : Parts) (name : List ℕ) → answer_at value (in_value parts name []) from ≡ rejected fault
-
--- a parameter stands from a position on, and what is written of it are two parts of the value
-pub record IsParameterAt (value : List ℕ) (from : ℕ) (spans : Spans) : Type 0 where
-  pub name : List ℕ
+-- in a state, from a position on, a parameter of this name is read, and what is written of its value is a part of the whole value
+pub record IsParameterAt (value name : List ℕ) (state : Parts → State) (from : ℕ) (spans : Spans) : Type 0 where
   pub content : List ℕ
   pub read : (parts : Parts)
-      → answer_at value (after_semicolon parts) from ≡ answer_at value (before_semicolon (with_parameter parts name content)) spans.end
-  pub written : text_of_pair (name, content)
-      ≡ codes "; " ++ (slice_range value from spans.first ++ slice_range value spans.begin spans.last)
+      → answer_at value (state parts) from ≡ answer_at value (before_semicolon (with_parameter parts name content)) spans.end
+  pub written : quote_of content ++ (content ++ quote_of content) ≡ slice_range value spans.begin spans.last
   pub least : from ≤ spans.first
   pub apart : spans.first ≤ spans.begin
   pub some : spans.begin ≤ spans.last
   pub most : spans.last ≤ spans.end
   pub within : spans.end ≤ length value
-
--- reading a parameter from a position on gives this fault
-abbrev pub IsParameterFault : List ℕ → ℕ → ParseError → Type 0
-IsParameterFault value from fault = (parts : Parts) → answer_at value (after_semicolon parts) from ≡ rejected fault
 
 -- the essence of a value stands from one position to another
 pub record IsEssenceAt (value : List ℕ) (from to : ℕ) : Type 0 where

@@ -1,14 +1,14 @@
 //! A header's value read in one pass, by HTTP's own grammar (RFC 9110, 8.3.1 and 5.6.6), and written anew.
 
-ghost use Rattle.std.specs.Prelude.{◌≡◌, ◌<◌, ◌≤◌, ◌+◌, ◌-◌, ◌^◌, ◌++◌, ◌≢◌, true, false, ℕ, List, codes, length, slice_index, slice_range, MatchResult};
-ghost use Rattle.std.specs.List.{list_all};
-ghost use Rattle.mime.specs.Bytes.{is_token_byte, is_quoted_byte, is_quoted_text_byte, quote_byte, backslash_byte};
+ghost use Rattle.std.specs.Prelude.{◌≡◌, ◌<◌, ◌≤◌, ◌+◌, ◌-◌, ◌^◌, ◌++◌, ◌≢◌, true, false, ℕ, List, [], ◌∷◌, codes, drop, length, slice_index, slice_range, MatchResult};
+ghost use Rattle.std.specs.List.{list_all, prefix_len};
+ghost use Rattle.mime.specs.Bytes.{is_token_byte, is_quoted_byte, is_quoted_text_byte, equals_byte, quote_byte, backslash_byte};
 ghost use Rattle.mime.specs.Grammar.{is_space};
-ghost use Rattle.mime_http.specs.Reader.{Parts, Holds, IsClosedAt, IsEssenceAt, IsParameterAt, IsParameterFault, IsStringFault, IsValueAt, IsValueFault, answer_of, fault_at, read, rejected, run_end, text_of_parts};
+ghost use Rattle.mime_http.specs.Reader.{Parts, Holds, IsClosedAt, IsEssenceAt, IsFaultFrom, IsParameterAt, IsStringFault, after_semicolon, answer_of, fault_at, in_value, read, rejected, text_of_parts};
 
 use crate::list::is_space;
 use mime::{ParseError, is_quoted_byte, is_quoted_text_byte, is_token};
-use mime_search::{Class, Range, copy_bytes, first_stop_far};
+use mime_search::{Class, Range, copy_bytes, first_stop, first_stop_far};
 
 /// All but the letters, digits, hyphens and dots, which most bytes of tokens are.
 static TOKEN_STOPS: Class = Class {
@@ -34,23 +34,30 @@ const LONG: usize = 16;
 /// Returns the position of the first byte, from a position on, that isn't white space, or the length.
 fn spaces_end(value: &[u8], from: usize) -> usize
     requires { from ≤ length value.now }
-    ensures end { result ≡ run_end is_space value.now from }
+    ensures end { result ≡ from + prefix_len is_space (drop from value.now) }
     ensures within { result ≤ length value.now }
 {
     let mut at = from;
+    // The short way for no white space.
+    if at < value.len() && value[at] > b' ' {
+        return at;
+    }
     while at < value.len() && is_space(value[at]) {
         at += 1;
     }
     at
 }
 
-/// Returns the position of the first byte, from a position on, that may not occur in a token, or the length.
-fn token_end(value: &[u8], from: usize) -> usize
+/// Returns the position of the first byte, from a position on, that may not occur in a token, or the length. It isn't inlined: few tokens
+/// are long.
+#[cold]
+#[inline(never)]
+fn token_end_far(value: &[u8], from: usize) -> usize
     requires { from ≤ length value.now }
-    ensures end { result ≡ run_end is_token_byte value.now from }
+    ensures end { result ≡ from + prefix_len is_token_byte (drop from value.now) }
     ensures within { result ≤ length value.now }
 {
-    let mut at = from;
+    let mut at = first_stop(value, from, &TOKEN_STOPS);
     while at < value.len() && is_token(value[at]) {
         at += 1;
         if (at - from) % LONG == 0 {
@@ -58,6 +65,26 @@ fn token_end(value: &[u8], from: usize) -> usize
         }
     }
     at
+}
+
+/// Returns the position that `token_end_far` finds, in few instructions for a short token.
+fn token_end(value: &[u8], from: usize) -> usize
+    requires { from ≤ length value.now }
+    ensures end { result ≡ from + prefix_len is_token_byte (drop from value.now) }
+    ensures within { result ≤ length value.now }
+{
+    let near = value.len().min(from + LONG);
+    let mut at = from;
+    while at < near {
+        if !is_token(value[at]) {
+            return at;
+        }
+        at += 1;
+    }
+    if at == value.len() {
+        return at;
+    }
+    token_end_far(value, at)
 }
 
 /// Returns `true` if the byte at a position is this one.
@@ -162,7 +189,9 @@ struct Spans {
 fn string_at(value: &[u8], quote: usize) -> Result<Spans, ParseError>
     requires within { quote < length value.now }
     requires quote { slice_index value.now quote ≡ quote_byte }
-    ensures { MatchResult result (IsValueAt value.now quote) (IsValueFault value.now quote) }
+    ensures { MatchResult result
+        (λ spans. (spans.first ≡ quote) × ((name : List ℕ) → IsParameterAt value.now name (λ parts. in_value parts name []) quote spans))
+        (λ fault. (name : List ℕ) → IsFaultFrom value.now (λ parts. in_value parts name []) quote fault) }
 {
     let begin = quote + 1;
     let plain = token_end(value, begin);
@@ -191,7 +220,9 @@ fn string_at(value: &[u8], quote: usize) -> Result<Spans, ParseError>
 /// Returns the parameter whose value begins at a position, or the fault.
 fn value_at(value: &[u8], begin: usize) -> Result<Spans, ParseError>
     requires { begin ≤ length value.now }
-    ensures { MatchResult result (IsValueAt value.now begin) (IsValueFault value.now begin) }
+    ensures { MatchResult result
+        (λ spans. (spans.first ≡ begin) × ((name : List ℕ) → IsParameterAt value.now name (λ parts. in_value parts name []) begin spans))
+        (λ fault. (name : List ℕ) → IsFaultFrom value.now (λ parts. in_value parts name []) begin fault) }
 {
     if is_at(value, begin, b'"') {
         return string_at(value, begin);
@@ -212,7 +243,10 @@ fn value_at(value: &[u8], begin: usize) -> Result<Spans, ParseError>
 fn parameter_at(value: &[u8], name: usize) -> Result<Spans, ParseError>
     requires within { name < length value.now }
     requires token { is_token_byte (slice_index value.now name) ≡ true }
-    ensures { MatchResult result (IsParameterAt value.now name) (IsParameterFault value.now name) }
+    ensures { MatchResult result
+        (λ spans. (text : List ℕ) × (text ++ (equals_byte ∷ []) ≡ slice_range value.now name spans.first)
+        × IsParameterAt value.now text after_semicolon name spans)
+        (IsFaultFrom value.now after_semicolon name) }
 {
     let equals = token_end(value, name);
     if !is_at(value, equals, b'=') {
@@ -268,6 +302,9 @@ fn put_parameter(room: &mut [u8], len: usize, value: &[u8], name: usize, spans: 
     ensures room { length room.new ≡ length room.old }
 {
     let len = put(room, len, b"; ");
+    if spans.first == spans.begin {
+        return put(room, len, &value[name..spans.last]);
+    }
     let len = put(room, len, &value[name..spans.first]);
     put(room, len, &value[spans.begin..spans.last])
 }

@@ -1,17 +1,17 @@
 //! The media type of a header's value, which is passed as bytes.
 
-ghost use Rattle.std.specs.Prelude.{◌≡◌, ◌≢◌, ◌<◌, ◌≤◌, true, codes, length, Some, IfOk, IfErr, IsOk, MatchResult};
+ghost use Rattle.std.specs.Prelude.{◌≡◌, ◌≢◌, ◌<◌, ◌≤◌, ℕ, List, true, codes, length, Some, IfOk, IfErr, IfSome, IsOk, MatchResult};
 ghost use Rattle.std.specs.Fmt.InlineText.{inline_text};
 ghost use Rattle.std.specs.Str.{IsAscii, IsUtf8, IsValidUpTo, valid_up_to};
 ghost use Rattle.mime.specs.Values.{MediaType, Reads, IsAccepted};
 ghost use Rattle.mime.specs.Faults.{Explains};
 ghost use Rattle.mime_http.specs.HttpMediaType.{HttpReads, IsHttpMediaType};
 ghost use Rattle.mime_http.specs.HttpList.{trimmed, IsPrinted};
-ghost use Rattle.mime_http.specs.HttpFaults.{HttpExplains};
+ghost use Rattle.mime_http.specs.HttpFaults.{HttpExplains, IsHttpFault};
 ghost use Rattle.mime_http.specs.HttpPrinted.{not_utf8_text};
 ghost use Rattle.mime_http.specs.Reader.{Parts, answer_of, media_of, read, text_of_parts};
 
-use crate::list::{trim_end, trim_start};
+use crate::list::{is_space, trim_end, trim_start};
 use crate::reader::write_anew;
 use mime::{Mime, ParseError};
 use std::alloc::Global;
@@ -102,9 +102,9 @@ fn trimmed(text: &str) -> &str
 
 /// Reads what is written anew of a value. It doesn't allocate for at most 40 bytes.
 fn read_written(alloc: Global, text: &[u8]) -> Result<Mime, FieldError>
-    requires utf8 { IsUtf8 text.now }
-    requires accepted { IsAccepted text.now }
-    ensures read { IfOk result (λ mime. Reads text.now mime.media) }
+    requires { (value : List ℕ) × (parts : Parts) × IsUtf8 value × (answer_of value ≡ read parts) × (text.now ≡ text_of_parts parts) }
+    ensures read { (value : List ℕ) (parts : Parts) → answer_of value ≡ read parts → text.now ≡ text_of_parts parts
+        → IfOk result (λ mime. mime.media ≡ media_of parts) }
     ensures memory { IfErr result (λ error. (error ≡ FieldError.NoMemory) × (40 < length text.now)) }
 {
     // SAFETY: what is written of a text is a text.
@@ -171,6 +171,31 @@ fn read_essence(alloc: Global, value: &str) -> Result<Mime, FieldError>
     Ok(mime)
 }
 
+/// The fault of a value which the library rejects for this one without the white space around it, if that tells it: where the library
+/// stops, HTTP goes on at white space and at a semicolon alone, and at the end it lacks the same, if no white space stands there.
+fn same_fault(value: &[u8], fault: ParseError) -> Option<ParseError>
+    requires { Explains (trimmed value.now) fault }
+    ensures { IfSome result (λ same. IsHttpFault value.now same) }
+{
+    let text = trim_start(value);
+    match fault {
+        ParseError::NoMemory => None,
+        ParseError::InvalidToken { pos, byte } => {
+            if is_space(byte) || byte == b';' {
+                return None;
+            }
+            let pos = value.len() - text.len() + pos;
+            Some(ParseError::InvalidToken { pos, byte })
+        }
+        _ => {
+            if trim_end(text).len() < text.len() {
+                return None;
+            }
+            Some(fault)
+        }
+    }
+}
+
 /// Reads a value that the library rejects without the white space around it, for this fault, or for which its memory ran out. It isn't
 /// inlined, so that reading one that the library accepts stays short.
 #[inline(never)]
@@ -182,11 +207,13 @@ pub(crate) fn read_rejected(
     requires { Explains (trimmed value.now) fault }
     ensures http { IfOk result (λ mime. HttpReads value.now mime.media × IsPrinted value.now mime.media) }
     ensures explained { IfErr result (λ error. HttpExplains value.now error) }
-    ensures accepted { IsHttpMediaType value.now → IfErr result (λ error. error ≡ FieldError.NoMemory) }
 {
     match fault {
         ParseError::NoMemory => read_essence(alloc, value),
-        _ => read_anew(alloc, value),
+        _ => match same_fault(value.as_bytes(), fault) {
+            Some(fault) => Err(FieldError::Invalid(fault)),
+            None => read_anew(alloc, value),
+        },
     }
 }
 
@@ -232,8 +259,9 @@ pub fn content_type(alloc: Global, value: &[u8]) -> Result<Mime, FieldError>
             return Err(FieldError::NotUtf8 { pos });
         }
     };
-    match Mime::from_str(alloc, trimmed(text)) {
-        Ok(mime) => Ok(mime),
-        Err(error) => read_rejected(alloc, text, *error.fault()),
-    }
+    let fault = match Mime::from_str(alloc, trimmed(text)) {
+        Ok(mime) => return Ok(mime),
+        Err(error) => *error.fault(),
+    };
+    read_rejected(alloc, text, fault)
 }

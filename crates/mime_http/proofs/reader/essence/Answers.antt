@@ -1,13 +1,14 @@
 -- White space, a token, a slash and another token are read one after the other.
-use Rattle.mime_http.proofs.Common.{List, MissingSlash, MissingSubtype, None, ParseError, Some, answer_at, answer_of, ap, ap₂, arith, before_type, fault_at, if◌then◌else◌, in_subtype, in_type, is_space, is_token_byte, length, ne_eqb, next, refl, rejected, slice_index, slice_range, sym, [], ℕ, ◌+◌, ◌++◌, ◌<◌, ◌==◌, ◌∙◌, ◌∷◌, ◌≡◌, ◌≤◌}
-use Rattle.mime_http.proofs.ReadAt.{IsRun, neither, one_part, over_byte, over_subtype, over_type, over_white_before, parts_joined, run_is, stuck}
+use Rattle.mime_http.proofs.Common.{List, MissingSlash, MissingSubtype, None, Some, answer_at, answer_of, ap, arith, before_type, if◌then◌else◌, in_subtype, in_type, is_space, is_token_byte, length, ne_eqb, next, refl, rejected, slice_index, slice_range, sym, [], ℕ, ◌+◌, ◌++◌, ◌<◌, ◌==◌, ◌∙◌, ◌∷◌, ◌≡◌, ◌≤◌}
+use Rattle.mime_http.proofs.ReadAt.{IsRun, neither, one_part, over_byte, over_subtype, over_type, over_white_at, parts_joined, run_is, stuck}
+use Rattle.mime_http.proofs.Runs.{keeps_before}
 use Rattle.mime_http.proofs.reader.essence.Goals as goal
 
 -- up to the slash
 to_slash : (value : List ℕ) (top slash : ℕ) → IsRun is_space value 0 top → top < slash → slash ≤ length value
     → IsRun is_token_byte value top slash → answer_of value ≡ answer_at value (in_type (slice_range value top slash)) slash
 to_slash value top slash white some within run =
-    over_white_before value 0 top white (omega (arith, some, within)) ∙ over_type value top slash some within run
+    over_white_at before_type keeps_before value 0 top white (omega (arith, some, within)) ∙ over_type value top slash some within run
 
 -- over it
 over_slash : (value top : List ℕ) (slash : ℕ) → slash < length value → slice_index value slash ≡ 47
@@ -21,10 +22,10 @@ returns-then-slash-top c =
     let top = c.spaces_end-top in
     let white = run_is is_space value 0 top.result top.ensures.end in
     let run = run_is is_token_byte value top.result c.token_end-slash.result c.token_end-slash.ensures.end in
-    over_white_before value 0 top.result white top.ensures.within
+    over_white_at before_type keeps_before value 0 top.result white top.ensures.within
     ∙ stuck value top.result before_type MissingSlash top.ensures.within refl
-    (λ more. neither (is_space (slice_index value top.result)) (is_token_byte (slice_index value top.result)) _ _ (white.stops more)
-    (rw c.if-slash-top.true at run.stops more)) ∙ ap rejected (sym c.fault_at.ensures)
+    (λ more. neither (is_token_byte (slice_index value top.result)) (is_space (slice_index value top.result)) _ _
+    (rw c.if-slash-top.true at run.stops more) (white.stops more)) ∙ ap rejected (sym c.fault_at.ensures)
 
 pub returns-then-not-is_at : goal.returns-then-not-is_at
 returns-then-not-is_at c =

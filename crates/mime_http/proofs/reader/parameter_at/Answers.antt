@@ -1,6 +1,6 @@
 -- A name and an equals sign are read before the value.
-use Rattle.mime_http.proofs.Common.{IsParameterAt, IsValueAt, List, MatchResult, MissingEqual, Ok, Err, Result, after_semicolon, answer_at, ap, append_assoc, arith, cases_lt, codes, in_name, in_value, is_token_byte, length, ne_eqb, next, quote_of, refl, rejected, slice_index, slice_range, sym, true, true≢false, [], ℕ, ⊎_elim, ◌+◌, ◌++◌, ◌<◌, ◌==◌, ◌∙◌, ◌∷◌, ◌≡◌, ◌≤◌}
-use Rattle.mime_http.specs.Reader.{IsParameterFault, IsValueFault, Parts}
+use Rattle.mime_http.proofs.Common.{IsParameterAt, List, MatchResult, MissingEqual, Ok, Err, Result, after_semicolon, answer_at, ap, arith, cases_lt, in_name, in_value, is_token_byte, length, ne_eqb, next, refl, rejected, slice_index, slice_range, sym, true, true≢false, [], ℕ, ⊎_elim, ◌+◌, ◌++◌, ◌<◌, ◌==◌, ◌∙◌, ◌∷◌, ◌≡◌}
+use Rattle.mime_http.specs.Reader.{Parts}
 use Rattle.mime_http.specs.declared.reader.Spans.{Spans}
 use Rattle.mime_http.proofs.ReadAt.{IsRun, neither, one_part, over_byte, over_name, parts_joined, run_is, stuck}
 use Rattle.mime_http.proofs.reader.parameter_at.Goals as goal
@@ -36,27 +36,28 @@ returns-then-not-is_at c = λ parts.
     (λ more. neither (is_token_byte (slice_index value equals.result)) (slice_index value equals.result == 61) _ _ (run.stops more)
     (ne_eqb (slice_index value equals.result) 61 (c.is_at.ensures.no c.if-not-is_at.true more))) ∙ ap rejected (sym c.fault_at.ensures)
 
--- a parameter is its name, the sign, and its value
+-- a name, the sign, and a value are a parameter
 parameter_is : (value : List ℕ) (name equals : ℕ) (spans : Spans) → name < equals → equals < length value → slice_index value equals ≡ 61
-    → IsRun is_token_byte value name equals → IsValueAt value (equals + 1) spans → IsParameterAt value name spans
-parameter_is value name equals spans some within is run at =
+    → IsRun is_token_byte value name equals → spans.first ≡ equals + 1
+    → IsParameterAt value (slice_range value name equals) (λ parts. in_value parts (slice_range value name equals) []) (equals + 1) spans
+    → (text : List ℕ) × (text ++ (61 ∷ []) ≡ slice_range value name spans.first) × IsParameterAt value text after_semicolon name spans
+parameter_is value name equals spans some within is run first at =
     let text : List ℕ = slice_range value name equals in
-    let sign = one_part value equals within ∙ ap (λ b. b ∷ []) is in
-    let front : slice_range value name spans.first ≡ text ++ (61 ∷ []) =
-    ap (slice_range value name) at.first ∙ parts_joined value name equals (equals + 1) run.least (omega arith) ∙ ap (λ xs. text ++ xs) sign in
-    record {
-      name = text;
-      content = at.content;
-      read = λ parts. to_value parts value name equals some within is run ∙ at.read parts text;
-      written = ap (λ xs. codes "; " ++ xs) (sym (ap (λ xs. xs ++ slice_range value spans.begin spans.last) front
-          ∙ append_assoc text (61 ∷ []) (slice_range value spans.begin spans.last)
-          ∙ ap (λ xs. text ++ (61 ∷ xs)) (sym at.written)));
-      least = omega (arith, at.first, some);
-      apart = omega (arith, at.first, at.apart);
-      some = at.some;
-      most = at.most;
-      within = at.within;
-    }
+    let sign = one_part value equals within ∙ ap (λ b. b ∷ []) is in (
+      text,
+      sym (ap (slice_range value name) first ∙ parts_joined value name equals (equals + 1) run.least (omega arith)
+          ∙ ap (λ xs. text ++ xs) sign),
+      record {
+        content = at.content;
+        read = λ parts. to_value parts value name equals some within is run ∙ at.read parts;
+        written = at.written;
+        least = omega (arith, first, some);
+        apart = at.apart;
+        some = at.some;
+        most = at.most;
+        within = at.within;
+      },
+    )
 
 pub returns : goal.returns
 returns c =
@@ -66,8 +67,10 @@ returns c =
     let run = run_is is_token_byte value name equals.result equals.ensures.end in
     let some = some_name value name equals.result c.requires.within c.requires.token run in
     let sign = c.is_at.ensures.yes c.if-not-is_at.false in
-    matched (c.value_at.result) (λ spans at. parameter_is value name equals.result spans some sign.0 sign.1 run at)
-    (λ fault is parts. to_value parts value name equals.result some sign.0 sign.1 run ∙ is parts (slice_range value name equals.result))
+    matched (c.value_at.result)
+    (λ spans at.
+    parameter_is value name equals.result spans some sign.0 sign.1 run at.0 (at.1 (slice_range value name equals.result)))
+    (λ fault is parts. to_value parts value name equals.result some sign.0 sign.1 run ∙ is (slice_range value name equals.result) parts)
     c.value_at.ensures
   where
     matched : {X E : Type 0} {P P' : X → Type 0} {Q Q' : E → Type 0} (result : Result X E) → ((x : X) → P x → P' x)

@@ -1,5 +1,5 @@
 -- The quote, token bytes and more content are read; without quotes is written what is a token.
-use Rattle.mime_http.proofs.Common.{IsClosedAt, IsContent, List, answer_at, ap, ap₂, append-nil, arith, false, in_string, in_value, is_quoted_text_byte, is_token_byte, is_token_value, length, list_all-wider, next, quote_of, refl, slice_index, slice_range, sym, true, [], ℕ, ◌+◌, ◌++◌, ◌<◌, ◌∙◌, ◌∷◌, ◌≡◌, ◌≤◌}
+use Rattle.mime_http.proofs.Common.{IsClosedAt, IsContent, List, answer_at, ap, ap₂, append-nil, arith, false, in_string, in_value, is_quoted_text_byte, is_token_byte, is_token_value, length, list_all-wider, next, refl, slice_index, slice_range, sym, true, [], ℕ, ◌+◌, ◌++◌, ◌<◌, ◌∙◌, ◌∷◌, ◌≡◌}
 use Rattle.mime_http.specs.Reader.{Parts}
 use Rattle.mime_http.proofs.Contents.{token_byte_text}
 use Rattle.mime_http.proofs.ReadAt.{IsRun, content_on, fault_after, no_token_value, one_part, over_byte, over_content, parts_joined, run_is, text_content, token_part, token_value}
@@ -29,14 +29,14 @@ closed_from value from plain close run closed = record {
 }
 
 pub returns-in-Err : goal.returns-in-Err
-returns-in-Err c = λ parts name.
+returns-in-Err c = λ name parts.
     let value = c.args.value.now in
     let quote = c.args.quote in
     let plain = c.token_end-plain in
     let run = run_is is_token_byte value (quote + 1) plain.result plain.ensures.end in
     opens parts name value quote c.requires.within c.requires.quote
     ∙ fault_after value (quote + 1) plain.result c.in-Err.fault run.least plain.ensures.within
-    (run_content value (quote + 1) plain.result run) c.in-Err.ensures parts name []
+    (run_content value (quote + 1) plain.result run) c.in-Err.ensures name [] refl parts
 
 pub returns-then-plain-close : goal.returns-then-plain-close
 returns-then-plain-close c =
@@ -48,18 +48,20 @@ returns-then-plain-close c =
     let closed = closed_from value begin plain.result close run c.in-Ok.ensures in
     let token = token_part value begin plain.result c.if-begin-plain.true plain.ensures.within run in
     let is : is_token_value (slice_range value begin close) ≡ true =
-    ap (λ n. is_token_value (slice_range value begin n)) (sym c.if-plain-close.true) ∙ token_value _ token in
-    record {
-      content = slice_range value begin close;
-      read = λ parts name.
-          opens parts name value c.args.quote c.requires.within c.requires.quote ∙ over_content parts name value begin close closed;
-      written = rw is (append-nil (slice_range value begin close));
-      first = refl;
-      apart = omega arith;
-      some = closed.least;
-      most = omega arith;
-      within = omega (arith, closed.within);
-    }
+    ap (λ n. is_token_value (slice_range value begin n)) (sym c.if-plain-close.true) ∙ token_value _ token in (
+      refl,
+      λ name. record {
+        content = slice_range value begin close;
+        read = λ parts.
+            opens parts name value c.args.quote c.requires.within c.requires.quote ∙ over_content parts name value begin close closed;
+        written = rw is (append-nil (slice_range value begin close));
+        least = omega arith;
+        apart = omega arith;
+        some = closed.least;
+        most = omega arith;
+        within = omega (arith, closed.within);
+      },
+    )
 
 pub returns : goal.returns
 returns c =
@@ -78,15 +80,17 @@ returns c =
     let first = one_part value quote c.requires.within ∙ ap (λ b. b ∷ []) c.requires.quote in
     let last = one_part value close closed.within ∙ ap (λ b. b ∷ []) closed.quote in
     let joined = parts_joined value quote (quote + 1) (close + 1) (omega arith) (omega (arith, closed.least)) in
-    let inner = parts_joined value (quote + 1) close (close + 1) closed.least (omega arith) in
-    record {
-      content = content;
-      read = λ parts name.
-          opens parts name value quote c.requires.within c.requires.quote ∙ over_content parts name value (quote + 1) close closed;
-      written = rw isnt (sym (joined ∙ ap₂ (λ xs ys. xs ++ ys) first (inner ∙ ap (λ ys. content ++ ys) last)));
-      first = refl;
-      apart = omega arith;
-      some = omega (arith, closed.least);
-      most = omega arith;
-      within = omega (arith, closed.within);
-    }
+    let inner = parts_joined value (quote + 1) close (close + 1) closed.least (omega arith) in (
+      refl,
+      λ name. record {
+        content = content;
+        read = λ parts.
+            opens parts name value quote c.requires.within c.requires.quote ∙ over_content parts name value (quote + 1) close closed;
+        written = rw isnt (sym (joined ∙ ap₂ (λ xs ys. xs ++ ys) first (inner ∙ ap (λ ys. content ++ ys) last)));
+        least = omega arith;
+        apart = omega arith;
+        some = omega (arith, closed.least);
+        most = omega arith;
+        within = omega (arith, closed.within);
+      },
+    )

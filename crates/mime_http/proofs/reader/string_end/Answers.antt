@@ -1,5 +1,5 @@
 -- Text and pairs go on the content, and another byte, or the end, is the string's fault.
-use Rattle.mime_http.proofs.Common.{IsContent, IsStringFault, arith, in_string, refl, sym, subst, ◌+◌, ◌∙◌, no_byte}
+use Rattle.mime_http.proofs.Common.{IsContent, arith, in_string, sym, subst, ◌∙◌, no_byte}
 use Rattle.mime_http.proofs.ReadAt.{at_byte, at_end, content_on, fault_after, no_part, no_text, pair_content, text_content}
 use Rattle.mime_http.proofs.reader.string_end.Goals as goal
 
@@ -44,9 +44,10 @@ returns-else-is_quoted_text_byte c =
     let value = c.args.value.now in
     let at = c.loop-at.at in
     let keeps = c.loop-at.invariant in
-    fault_after value c.args.from at _ keeps.least keeps.within keeps.content (λ parts name content.
+    fault_after value c.args.from at _ keeps.least keeps.within keeps.content (λ name content none parts.
     at_byte value at (in_string parts name content) c.loop-at-test.true
-    (no_text parts name content _ (sym c.is_quoted_text_byte.ensures ∙ c.if-is_quoted_text_byte.false) c.if-byte-eq34.false c.if-byte-eq92.false))
+    (no_text parts name content _ none (sym c.is_quoted_text_byte.ensures ∙ c.if-is_quoted_text_byte.false) c.if-byte-eq34.false
+    c.if-byte-eq92.false))
 
 pub returns : goal.returns
 returns c =
@@ -54,4 +55,4 @@ returns c =
     let at = c.loop-at.at in
     let keeps = c.loop-at.invariant in
     fault_after value c.args.from at _ keeps.least keeps.within keeps.content
-    (λ parts name content. at_end value at (in_string parts name content) (omega (arith, c.loop-at-test.false)))
+    (λ name content none parts. at_end value at (in_string parts name content) (omega (arith, c.loop-at-test.false)))

@@ -1,14 +1,14 @@
 -- The end of the run from here on stays the same.
-use Rattle.mime_http.proofs.Common.{is_token_byte, length, ◌-◌, ◌≡◌, ◌≤◌}
-use Rattle.mime_http.specs.Reader.{run_end}
+use Rattle.mime_http.proofs.Common.{is_token_byte, ◌-◌, ◌≡◌, ◌≤◌}
+use Rattle.mime_http.proofs.ReadAt.{run_end}
 use Rattle.mime_http.proofs.reader.token_end.Given as goal
 
 abbrev pub invariant-loop-at : goal.invariant-loop-at
 invariant-loop-at l = record {
   least : l.from ≤ l.at;
-  within : l.at ≤ length l.value;
+  within : l.at ≤ l.near;
   end : run_end is_token_byte l.value l.at ≡ run_end is_token_byte l.value l.from;
 }
 
 abbrev pub decreases-loop-at : goal.decreases-loop-at
-decreases-loop-at l = length l.value - l.at
+decreases-loop-at l = l.near - l.at

@@ -9,14 +9,16 @@ returns c =
     let begin = c.args.begin in
     let end = c.token_end-end in
     let run = run_is is_token_byte value begin end.result end.ensures.end in
-    let some : begin < end.result = omega (arith, run.least, c.if-end-begin.false) in
-    record {
-      content = slice_range value begin end.result;
-      read = λ parts name. over_value parts name value begin end.result some end.ensures.within run;
-      written = rw (token_value _ (token_part value begin end.result some end.ensures.within run)) (append-nil (slice_range value begin end.result));
-      first = refl;
-      apart = omega arith;
-      some = run.least;
-      most = omega arith;
-      within = end.ensures.within;
-    }
+    let some : begin < end.result = omega (arith, run.least, c.if-end-begin.false) in (
+      refl,
+      λ name. record {
+        content = slice_range value begin end.result;
+        read = λ parts. over_value parts name value begin end.result some end.ensures.within run;
+        written = rw (token_value _ (token_part value begin end.result some end.ensures.within run)) (append-nil (slice_range value begin end.result));
+        least = omega arith;
+        apart = omega arith;
+        some = run.least;
+        most = omega arith;
+        within = end.ensures.within;
+      },
+    )

@@ -1,6 +1,7 @@
 -- The essence is written, and then each parameter that is read, up to a fault or the end.
-use Rattle.mime_http.proofs.Common.{Holds, IsEssenceAt, List, Parts, after_semicolon, answer_at, answer_of, ap, append-nil, arith, before_semicolon, is_space, is_token_byte, length, refl, rejected, run_end, slice_index, slice_range, subst, sym, take, text_of_pair, text_of_parts, with_parameter, [], ℕ, ◌*◌, ◌+◌, ◌++◌, ◌-◌, ◌<◌, ◌∙◌, ◌∷◌, ◌≡◌, ◌≤◌}
-use Rattle.mime_http.proofs.ReadAt.{length-part, nothing_between, one_written, over_semicolon, over_white_after, over_white_inside, run_is}
+use Rattle.mime_http.proofs.Common.{Holds, IsEssenceAt, List, Parts, after_semicolon, answer_at, answer_of, ap, ap₂, append_assoc, codes, append-nil, arith, before_semicolon, is_space, length, refl, slice_index, slice_range, subst, sym, text_of_parts, with_parameter, [], ℕ, ◌+◌, ◌++◌, ◌<◌, ◌∙◌, ◌∷◌, ◌≡◌, ◌≤◌}
+use Rattle.mime_http.proofs.ReadAt.{length-part, nothing_between, one_written, over_semicolon, over_white_at, run_end, run_is}
+use Rattle.mime_http.proofs.Runs.{keeps_after, keeps_inside}
 use Rattle.mime_http.proofs.reader.write_anew.Goals as goal
 
 -- up to what follows the white space after a semicolon
@@ -9,7 +10,7 @@ to_next : (parts : Parts) (value : List ℕ) (at next : ℕ) → answer_of value
     → answer_of value ≡ answer_at value (after_semicolon parts) next
 to_next parts value at next so_far within is end most =
     so_far ∙ over_semicolon parts value at within is
-    ∙ over_white_inside parts value (at + 1) next (run_is is_space value (at + 1) next end) most
+    ∙ over_white_at (after_semicolon parts) (keeps_inside parts) value (at + 1) next (run_is is_space value (at + 1) next end) most
 
 pub loop-at-init : goal.loop-at-init
 loop-at-init c =
@@ -24,7 +25,7 @@ loop-at-init c =
     sym is.written ∙ ap (λ sub. is.top ++ (47 ∷ sub)) (sym (append-nil is.sub)) in
     record {
       parts = parts;
-      read = is.read ∙ over_white_after parts value ends.1 at.result white at.ensures.within;
+      read = is.read ∙ over_white_at (before_semicolon parts) (keeps_after parts) value ends.1 at.result white at.ensures.within;
       holds = subst (Holds c.put-len.new.room c.put-len.result) text (c.put-len.ensures.holds [] nothing);
       within = at.ensures.within;
       other = white.stops;
@@ -46,18 +47,21 @@ loop-at-preserved-then-is_token_at c =
     let keeps = c.loop-at.invariant in
     let next = c.spaces_end-at-in-loop-at in
     let sign = c.is_at.ensures.yes c.loop-at-test.true in
-    let is = c.in-Ok-parameter_at.ensures in
+    let (name, front, is) = c.in-Ok-parameter_at.ensures in
     let spans = c.in-Ok-parameter_at.spans in
-    let parts : Parts = with_parameter keeps.parts is.name is.content in
+    let parts : Parts = with_parameter keeps.parts name is.content in
     let at = c.spaces_end-at-then-is_token_at in
     let inside = run_is is_space value (c.loop-at.at + 1) next.result next.ensures.end in
     let white = run_is is_space value spans.end at.result at.ensures.end in
     let put = c.put_parameter-len in
-    let text = ap (λ xs. text_of_parts keeps.parts ++ xs) (sym is.written) ∙ one_written keeps.parts is.name is.content in
+    let one = ap₂ (λ xs ys. codes "; " ++ (xs ++ ys)) (sym front) (sym is.written)
+    ∙ ap (λ xs. codes "; " ++ xs) (append_assoc name (61 ∷ []) _) in
+    let text = ap (λ xs. text_of_parts keeps.parts ++ xs) one ∙ one_written keeps.parts name is.content in
     record {
       parts = parts;
       read = to_next keeps.parts value c.loop-at.at next.result keeps.read sign.0 sign.1 next.ensures.end next.ensures.within
-          ∙ is.read keeps.parts ∙ over_white_after parts value spans.end at.result white at.ensures.within;
+          ∙ is.read keeps.parts
+          ∙ over_white_at (before_semicolon parts) (keeps_after parts) value spans.end at.result white at.ensures.within;
       holds = subst (Holds put.new.room put.result) text (put.ensures.holds (text_of_parts keeps.parts) keeps.holds);
       within = at.ensures.within;
       other = white.stops;

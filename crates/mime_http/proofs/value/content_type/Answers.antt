@@ -1,8 +1,10 @@
 -- What the library reads is what HTTP writes, with the white space around it; and a short value is always read.
 use Rattle.mime_http.proofs.Common.{HttpExplains, HttpReads, IfErr, IsPrinted, List, MediaType, OwnedMedia, Reads, ap, as_it_stands, subst, trimmed, ℕ, ◌∙◌, ◌≡◌}
 use Rattle.mime_http.proofs.Around.{reads_around}
-use Rattle.mime_http.proofs.Bare.{short_has_none, star_has_none}
+use Rattle.mime_http.proofs.Bare.{error_is_memory, short_has_none, star_has_none}
 use Rattle.mime_http.proofs.PlainIsHttp.{plain_is_http}
+use Rattle.std.proofs.lemmas.Result.{IfErr-weaker}
+use Rattle.mime_http.specs.declared.value.FieldError.TheVariants.{NoMemory}
 use Rattle.mime_http.proofs.value.content_type.Goals as goal
 
 as_it_is : (value text : List ℕ) (media : MediaType) → text ≡ trimmed value → Reads text media → HttpReads value media × IsPrinted value media
@@ -23,12 +25,18 @@ returns-in-Ok-from_str-clause-kept c =
     let text = c.in-Ok.ensures.cases.0 in
     (as_it_is c.args.value.now _ c.in-Ok-from_str.mime.media (c.trimmed.ensures ∙ ap trimmed text) c.in-Ok-from_str.ensures.read).1
 
-pub returns-in-Err-from_str-clause-star : goal.returns-in-Err-from_str-clause-star
-returns-in-Err-from_str-clause-star c = λ is.
+pub returns-clause-star : goal.returns-clause-star
+returns-clause-star c = λ is.
     (star_has_none c.args.value.now is).1 c.read_rejected.result
     (subst (λ text. IfErr c.read_rejected.result (HttpExplains text)) c.in-Ok.ensures.cases.0 c.read_rejected.ensures.explained)
 
-pub returns-in-Err-from_str-clause-short : goal.returns-in-Err-from_str-clause-short
-returns-in-Err-from_str-clause-short c = λ media utf8 reads printed few.
+pub returns-clause-short : goal.returns-clause-short
+returns-clause-short c = λ media utf8 reads printed few.
     short_has_none c.args.value.now media utf8 reads printed few c.read_rejected.result
+    (subst (λ text. IfErr c.read_rejected.result (HttpExplains text)) c.in-Ok.ensures.cases.0 c.read_rejected.ensures.explained)
+
+pub returns-clause-accepted : goal.returns-clause-accepted
+returns-clause-accepted c = λ utf8 is.
+    IfErr-weaker c.read_rejected.result (HttpExplains _) (λ error. error ≡ NoMemory)
+    (λ error. error_is_memory c.args.value.now error utf8 is)
     (subst (λ text. IfErr c.read_rejected.result (HttpExplains text)) c.in-Ok.ensures.cases.0 c.read_rejected.ensures.explained)

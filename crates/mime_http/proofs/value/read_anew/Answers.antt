@@ -1,8 +1,8 @@
 -- What is written anew is read as the value's media type.
-use Rattle.mime_http.proofs.Common.{IfOk-weaker, HttpExplains, HttpReads, IsPrinted, OwnedMedia, Parts, Reads, ap, answer_of, arith, media_of, read, refl, subst, sym, ◌∙◌, ◌≡◌}
+use Rattle.mime_http.proofs.Common.{IfOk-weaker, HttpExplains, HttpReads, IsPrinted, IsUtf8, OwnedMedia, Parts, ap, answer_of, arith, media_of, read, refl, subst, sym, ◌∙◌, ◌≡◌}
 use Rattle.std.proofs.lemmas.Result.{IfErr-weaker}
 use Rattle.mime_http.specs.declared.value.FieldError.TheVariants.{NoMemory}
-use Rattle.mime_http.proofs.Bare.{anew_is_utf8, anew_needs, anew_reads, printed_anew, read_anew_is}
+use Rattle.mime_http.proofs.Bare.{anew_needs, printed_anew}
 use Rattle.mime_http.proofs.ReadFaults.{answered_fault}
 use Rattle.mime_http.proofs.value.read_anew.Goals as goal
 
@@ -10,23 +10,20 @@ pub returns-in-Err-clause-explained : goal.returns-in-Err-clause-explained
 returns-in-Err-clause-explained c =
     (c.utf8.value, answered_fault c.args.value.now c.in-Err.fault (ap answer_of (sym c.as_bytes.ensures.value) ∙ c.in-Err.ensures.answer))
 
-pub read_written-requires-clause-utf8 : goal.read_written-requires-clause-utf8
-read_written-requires-clause-utf8 c =
+pub read_written-requires : goal.read_written-requires
+read_written-requires c =
     let (parts, answered, holds) = c.in-Ok.ensures.answer in
-    anew_is_utf8 parts c.as_bytes.ensures.value c.utf8.value answered (holds.held (omega (arith, c.write_anew.ensures.room, c.if-len-le40.true)))
-
-pub read_written-requires-clause-accepted : goal.read_written-requires-clause-accepted
-read_written-requires-clause-accepted c =
-    let (parts, answered, holds) = c.in-Ok.ensures.answer in (media_of parts, anew_reads c.as_bytes.result.now parts answered (holds.held (omega (arith, c.write_anew.ensures.room, c.if-len-le40.true))))
+    let text = holds.held (omega (arith, c.write_anew.ensures.room, c.if-len-le40.true)) in
+    (c.as_bytes.result.now, parts, subst IsUtf8 (sym c.as_bytes.ensures.value) c.utf8.value, answered, text)
 
 pub returns-then-len-le40-clause-http : goal.returns-then-len-le40-clause-http
 returns-then-len-le40-clause-http c =
     let (parts, answered, holds) = c.in-Ok.ensures.answer in
-    let value = c.args.value.now in
-    IfOk-weaker c.read_written.result (λ (mime : OwnedMedia). Reads _ mime.media) (λ mime. HttpReads value mime.media × IsPrinted value mime.media)
-    (λ mime reads.
-    printed_anew parts c.as_bytes.ensures.value answered c.requires (read_anew_is c.as_bytes.result.now parts answered (holds.held (omega (arith, c.write_anew.ensures.room, c.if-len-le40.true))) reads))
-    c.read_written.ensures.read
+    let text = holds.held (omega (arith, c.write_anew.ensures.room, c.if-len-le40.true)) in
+    IfOk-weaker c.read_written.result (λ (mime : OwnedMedia). mime.media ≡ media_of parts)
+    (λ mime. HttpReads c.args.value.now mime.media × IsPrinted c.args.value.now mime.media)
+    (λ mime. printed_anew parts c.as_bytes.ensures.value answered c.requires)
+    (c.read_written.ensures.read c.as_bytes.result.now parts answered text)
 
 pub returns-clause-http : goal.returns-clause-http
 returns-clause-http c =

@@ -1,5 +1,5 @@
 -- White space at the ends leaves UTF-8.
-use Rattle.mime_http.proofs.Common.{IsUtf8, ap, rules, subst, sym, trim_end, trim_start, trimmed, ◌∙◌, ◌≡◌}
+use Rattle.mime_http.proofs.Common.{IsUtf8, rules, subst, sym, trimmed, ◌≡◌}
 use Rattle.mime_http.proofs.Around.{utf8_trimmed}
 use Rattle.mime_http.proofs.value.trimmed.Goals as goal
 

@@ -1,6 +1,8 @@
 -- A piece that the library rejects is a media type, or bad.
-use Rattle.mime_http.proofs.Common.{HttpReads, IsHttpMediaType, IsPrinted, ap, subst, sym, trim_end, ◌∙◌}
-use Rattle.mime_http.proofs.{Around.utf8_around, Takes.takes_bad, Takes.takes_range}
+use Rattle.mime_http.proofs.Common.{HttpReads, IsPrinted, ap, subst, trim_end, ◌∙◌, HttpExplains}
+use Rattle.mime_http.proofs.Around.{utf8_around}
+use Rattle.mime_http.proofs.Takes.{takes_bad, takes_range}
+use Rattle.mime_http.proofs.Bare.{error_is_memory}
 use Rattle.mime_http.proofs.accept.Accept.take_rejected.Goals as goal
 
 pub returns-in-Ok : goal.returns-in-Ok
@@ -17,4 +19,5 @@ returns-in_default c =
     let text = c.from_utf8_unchecked-text.ensures in
     takes_bad c.args.keeps_bad piece c.args.self.now c.trim_end.result.now c.take_bad.new.self c.take_bad.result
     (c.trim_end.ensures ∙ ap trim_end c.trim_start.ensures) c.requires.some
-    (λ both. c.in_default.not-NoMemory (c.in-Err.ensures.accepted (subst IsHttpMediaType (sym text) both.1))) c.take_bad.ensures
+    (λ both. c.in_default.not-NoMemory (error_is_memory piece c.in-Err.error both.0 both.1
+    (subst (λ t. HttpExplains t c.in-Err.error) text c.in-Err.ensures.explained))) c.take_bad.ensures

@@ -2,7 +2,16 @@
 use Rattle.mime_http.proofs.Common.{arith, is_token_byte, sym, ◌+◌, ◌∙◌}
 use Rattle.std.proofs.lemmas.List.Sums.{prefix_len-drop_yes}
 use Rattle.mime_http.proofs.ReadAt.{are_token_bytes, run_goes_on}
-use Rattle.mime_http.proofs.reader.token_end.Goals as goal
+use Rattle.mime_http.proofs.reader.token_end_far.Goals as goal
+
+pub loop-at-init : goal.loop-at-init
+loop-at-init c =
+    let stop = c.first_stop-at in
+    record {
+      least = omega (arith, stop.ensures.end);
+      within = stop.ensures.within;
+      end = run_goes_on _ is_token_byte are_token_bytes c.args.value.now c.args.from stop.result stop.ensures.end;
+    }
 
 pub loop-at-preserved-then-at-from-eq0 : goal.loop-at-preserved-then-at-from-eq0
 loop-at-preserved-then-at-from-eq0 c =
