@@ -30,6 +30,6 @@ pub use Rattle.mime.proofs.ValueLemmas.Traits.{eq_by_cmp-tells, eq_by_cmp-same}
 -- The kept text of a value, with the positions of its parts.
 pub use Rattle.mime.specs.Inner.KeptText.{kept_text_of, lowered_pair}
 -- Quoted content, byte by byte: which byte may come next, and where the content ends.
-pub use Rattle.mime.specs.Inner.Quoted.{awaits_after, awaits_next, continues, takes}
+pub use Rattle.mime.specs.Inner.Quoted.{IsOpenContent, awaits_after, awaits_next, continues, takes, takes_all}
 -- What the reader has left, what a pass over it leaves, and what the scanner finds.
 pub use Rattle.mime.specs.Inner.Scanning.{positions_of}

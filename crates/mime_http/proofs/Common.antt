@@ -1,9 +1,8 @@
 -- The names that most proofs of a header's value cite, passed on from one place. Declares nothing.
-pub use Rattle.mime.proofs.HandedOut.{AreTokenBytes-from_token, IsContent-taken, IsToken-lowered, accepted_or_rejected, content-from_token, in_ranges, length-lowered, list_all-lowered, list_all-wider, lowered-lowered, lowered_value-either, lowered_value-lowered, one_reading, pairs_of_tail-lowered, slice_get-prefix, stopped-from_walk, kept_is_read, by_option, Begun, ClosedParameters, awaits_after-append, grow, BegunList, list_at, not_viable-at_dead, one_fault, tree_of, viable-from_walk, walk, walk-accepted, walk_from}
+pub use Rattle.mime.proofs.HandedOut.{IsOpenContent, awaits_after, continues, takes_all, AreTokenBytes-from_token, IsContent-taken, IsToken-lowered, accepted_or_rejected, content-from_token, in_ranges, length-lowered, list_all-lowered, list_all-wider, lowered-lowered, lowered_value-either, lowered_value-lowered, one_reading, pairs_of_tail-lowered, slice_get-prefix, stopped-from_walk, kept_is_read, by_option, Begun, ClosedParameters, awaits_after-append, grow, BegunList, list_at, not_viable-at_dead, one_fault, tree_of, viable-from_walk, walk, walk-accepted, walk_from}
 unfoldable pub use Rattle.mime.specs.Bytes.{is_quoted_byte, is_token_byte}
 pub use Rattle.mime.specs.Faults.{EndsIn, Explains, completion_of, last_byte_of, IsDeadAt}
 pub use Rattle.mime.specs.Grammar.{AreParameters, AreSpaces, AreTokenBytes, IsContent, IsParameter, IsToken, Parameter, Parameters, SyntaxTree, Tail, blank, final, is_space, listed, more, no_byte, no_list, plain, quoted, quoted_pair, text_byte, text_of, text_of_list, text_of_parameter, text_of_tail}
-pub use Rattle.mime.specs.Inner.Quoted.{IsOpenContent, awaits_after, continues, takes_all}
 pub use Rattle.mime.specs.Items.{IsFirstAccepted, Item, item_of, item_seen, items_of, name_seen, name_text}
 pub use Rattle.mime.specs.Values.{IsAccepted, MediaType, OwnedMedia, Reads, essence_of, is_charset, kept_text, lowered, lowered_list, lowered_parameter, lowered_tail, lowered_tree, lowered_value, pair_of, pairs_of_list, pairs_of_tail, value_of}
 pub use Rattle.mime.specs.declared.scan.fault.ParseError.TheVariants.{InvalidToken, MissingEqual, MissingQuote, MissingSlash, MissingSubtype, MissingValue, NoMemory}
