@@ -82,9 +82,7 @@ def is_right(tool, command, is_wanted, folder=TOP, **how):
 
 def exit_status(tool, tries, least=1):
     """The exit status of a tool, after its last line. Each of its tries says whether it passed; an error ends them; if there are fewer than
-    the least, some are lost. SIGTERM and SIGINT end the tool as an error does, so its folders are removed, and what it runs ends too."""
-    for number in (signal.SIGTERM, signal.SIGINT):
-        signal.signal(number, _end)
+    the least, some are lost."""
     results = []
     try:
         for well in tries:
@@ -98,12 +96,17 @@ def exit_status(tool, tries, least=1):
 
 
 def _end(number, _frame):
+    """SIGTERM and SIGINT end each tool as an error does, so its folders are removed, and what it runs ends too."""
     for it in (signal.SIGTERM, signal.SIGINT):
         signal.signal(it, signal.SIG_IGN)
     _signals.append(number)
     for process in list(_running):
         process.terminate()
     raise SystemExit(128 + number)
+
+
+for _number in (signal.SIGTERM, signal.SIGINT):
+    signal.signal(_number, _end)
 
 
 @functools.cache
