@@ -1,5 +1,6 @@
 -- A name and an equals sign are read before the value.
-use Rattle.mime_http.proofs.Common.{IsParameterAt, List, MatchResult, MissingEqual, Ok, Err, Result, after_semicolon, answer_at, ap, arith, cases_lt, in_name, in_value, is_token_byte, length, ne_eqb, next, refl, rejected, slice_index, slice_range, sym, true, true≢false, [], ℕ, ⊎_elim, ◌+◌, ◌++◌, ◌<◌, ◌==◌, ◌∙◌, ◌∷◌, ◌≡◌}
+use Rattle.mime_http.proofs.Common.{IsParameterAt, List, MissingEqual, after_semicolon, answer_at, ap, arith, cases_lt, in_name, in_value, is_token_byte, length, ne_eqb, next, refl, rejected, slice_index, slice_range, sym, true, true≢false, [], ℕ, ⊎_elim, ◌+◌, ◌++◌, ◌<◌, ◌==◌, ◌∙◌, ◌∷◌, ◌≡◌}
+use Rattle.std.proofs.lemmas.Result.{MatchResult-weaker}
 use Rattle.mime_http.specs.Reader.{Parts}
 use Rattle.mime_http.specs.declared.reader.Spans.{Spans}
 use Rattle.mime_http.proofs.ReadAt.{IsRun, neither, one_part, over_byte, over_name, parts_joined, run_is, stuck}
@@ -67,13 +68,8 @@ returns c =
     let run = run_is is_token_byte value name equals.result equals.ensures.end in
     let some = some_name value name equals.result c.requires.within c.requires.token run in
     let sign = c.is_at.ensures.yes c.if-not-is_at.false in
-    matched (c.value_at.result)
+    MatchResult-weaker c.value_at.result c.value_at.ensures
     (λ spans at.
     parameter_is value name equals.result spans some sign.0 sign.1 run at.0 (at.1 (slice_range value name equals.result)))
-    (λ fault is parts. to_value parts value name equals.result some sign.0 sign.1 run ∙ is (slice_range value name equals.result) parts)
-    c.value_at.ensures
-  where
-    matched : {X E : Type 0} {P P' : X → Type 0} {Q Q' : E → Type 0} (result : Result X E) → ((x : X) → P x → P' x)
-        → ((e : E) → Q e → Q' e) → MatchResult result P Q → MatchResult result P' Q'
-    matched (Ok x) ok err is = ok x is
-    matched (Err e) ok err is = err e is
+    (λ fault is parts.
+    to_value parts value name equals.result some sign.0 sign.1 run ∙ is (slice_range value name equals.result) parts)
