@@ -1,8 +1,8 @@
 -- After a backslash a byte is awaited that it may pair.
 use Rattle.mime_http.proofs.Common.{List, MissingQuote, Parts, answer_at, ap, arith, awaits_after, awaits_after-append, false, fault_at, in_string, is_quoted_byte, length, nat_tests, next, refl, rejected, slice_index, sym, true, [], ℕ, ◌+◌, ◌++◌, ◌<◌, ◌∙◌, ◌∷◌, ◌≡◌}
 use Rattle.mime_http.proofs.ReadAt.{over_byte, stuck}
-use Rattle.mime_http.proofs.reader.pair_end.Goals.{else-paired-value-via-then-paired-value+else-is_quoted_byte, else-paired-value-via-else-paired-value}
-use Rattle.mime_http.proofs.reader.pair_end.Goals as goal
+use Rattle.mime_http.proofs.reader.quoted_pair_end.Goals.{else-paired-value-via-then-paired-value+else-is_quoted_byte, else-paired-value-via-else-paired-value}
+use Rattle.mime_http.proofs.reader.quoted_pair_end.Goals as goal
 
 -- a byte that a backslash can't pair is the string's fault, and so is the end
 unpaired : (value : List ℕ) (at : ℕ) (parts : Parts) (name content : List ℕ) → at < length value → slice_index value at ≡ 92
