@@ -189,7 +189,8 @@ module _ {A B : Type 0} (seen : A → B) (eq : A → A → Bool) (agrees : (x y 
   same_items s t d = along d.1 d.2 d.3 d.4 s t d.5 d.6 d.8 (subst (λ j. YieldsThen Steps j d.2 d.4 d.6) d.7 d.9) d.10 d.11
 
 -- a list with no pair comes before one with some
-pub none-first : (xs ys : List (List ℕ × List ℕ)) → (length xs ≡ 0) ⊎ (length ys ≡ 0) → nat_cmp (length xs) (length ys) ≡ slice_cmp pair_cmp xs ys
+pub none-first : (xs ys : List (List ℕ × List ℕ)) → (length xs ≡ 0) ⊎ (length ys ≡ 0)
+    → nat_cmp (length xs) (length ys) ≡ slice_cmp pair_cmp xs ys
 none-first [] [] one = refl
 none-first [] (y ∷ ys) one = sym (nat_cmp_is 0 (suc (length ys)) Less (omega arith))
 none-first (x ∷ xs) [] one = sym (nat_cmp_is (suc (length xs)) 0 Greater (omega arith))

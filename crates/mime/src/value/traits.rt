@@ -26,7 +26,7 @@ fn same_parts(first: &Mime, second: &Mime) -> bool
     first.essence_str() == second.essence_str() && first.pairs().eq(second.pairs())
 }
 
-/// Returns `true` if two values have the same kept text. If both lie in their `Mime`, no text is searched for its end.
+/// Returns `true` if two values have the same kept text. Two that lie in their `Mime` are compared in whole blocks.
 #[inline(always)]
 fn have_same_text(first: &Mime, second: &Mime) -> bool
     ensures same { IsTrue result → Same first.now.media second.now.media }
@@ -158,6 +158,7 @@ impl Ord for Mime {
         if let Some(order) = order_short(self, other) {
             return order;
         }
+        // Equal texts are equal values.
         if self.essence_end == other.essence_end && have_same_owned_text(self, other) {
             return Ordering::Equal;
         }
