@@ -184,7 +184,8 @@ run_to (b ∷ []) (suc n) less = grind (arith, nat_tests, less)
 run_to (b ∷ c ∷ bytes) (suc n) less = grind (arith, nat_tests, less, run_to (c ∷ bytes) n)
 
 -- and all of them are a piece, if no quote is next
-pub piece_to : (bytes : List ℕ) → (get_or bytes (before_mark 44 34 bytes) 0 == 34) ≡ false → before_mark 44 34 bytes ≡ piece_len Outside bytes
+pub piece_to : (bytes : List ℕ) → (get_or bytes (before_mark 44 34 bytes) 0 == 34) ≡ false
+    → before_mark 44 34 bytes ≡ piece_len Outside bytes
 piece_to [] other = refl
 piece_to (b ∷ []) other = grind (arith, nat_tests, other)
 piece_to (b ∷ c ∷ bytes) other = grind (arith, nat_tests, other, piece_to (c ∷ bytes))

@@ -118,7 +118,9 @@ module _ {keeps_bad : Bool} where
         (taken : Takes keeps_bad (take (end - from) (drop from line) ∷ []) now new) where
       -- after one that ends at a position, too,
       passed : AreLeft keeps_bad old new (cut line) (cut_after (drop end line))
-      passed = rest_left (take (end - from) (drop from line) ∷ []) (subst (AreLeft keeps_bad old now (cut line)) (cut_at_end line from end is) left) taken
+      passed =
+          rest_left (take (end - from) (drop from line) ∷ [])
+          (subst (AreLeft keeps_bad old now (cut line)) (cut_at_end line from end is) left) taken
 
       -- after its comma,
       pub past_piece : end < length line → AreLeft keeps_bad old new (cut line) (cut (drop (end + 1) line))
@@ -129,5 +131,6 @@ module _ {keeps_bad : Bool} where
       past_last past = all_taken (subst (AreLeft keeps_bad old new (cut line)) (ap cut_after (drop_of_length-le line past)) passed)
 
     -- the first piece is white space if nothing is read of the line
-    pub blank_there : (end : ℕ) → end ≡ end_on Outside line from → AreSorted (cut line) [] [] → trimmed (take (end - from) (drop from line)) ≡ []
+    pub blank_there : (end : ℕ) → end ≡ end_on Outside line from → AreSorted (cut line) [] []
+        → trimmed (take (end - from) (drop from line)) ≡ []
     blank_there end is sorted = is_blank (subst (λ pieces. AreSorted pieces [] []) (cut_at_end line from end is) (left.nothing sorted))
