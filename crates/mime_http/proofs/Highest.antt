@@ -103,13 +103,7 @@ module _ {all : List Rank} {at : ℕ} {most : Rank} {best : Option ℕ} (is : Is
   best_is_found some =
       let found = is.first some in
       let place = found.3 in
-      let within : found.0 < length all =
-      ⊎_elim (λ less. less) (λ past. absurd (omega (
-        arith,
-        some,
-        ap (λ (rank : Rank). rank.0) (sym place.there
-            ∙ get_or_past all found.0 lowest past),
-      ))) (cases_lt found.0 (length all)) in
+      let within : found.0 < length all = grind (arith, some, place.there, get_or_past all found.0 lowest) in
       let inside : nat_lt found.0 (length all) ≡ true = grind (arith, nat_tests, within) in
       let weighs : nat_lt 0 most.0 ≡ true = grind (arith, nat_tests, some) in
       let none_above = list_all-from_AllPass (λ other. is_le (rank_cmp other most)) all
