@@ -105,8 +105,7 @@ boundary_means_itself bytes is = ap unescaped (sym (plain_text bytes (boundary_t
 lowered_escaped : (value : List ℕ) → lowered (escaped value) ≡ escaped (lowered value)
 lowered_escaped [] = refl
 lowered_escaped (b ∷ value) =
-    let same : is_special (to_ascii_lowercase b) ≡ is_special b = grind (arith, nat_tests) in
-    grind (arith, same, lowered_escaped value)
+    grind (arith, nat_tests, lowered_escaped value)
 
 -- so a value without capitals stays as it is written where it is read in lowercase
 pub kept_low : (name value : List ℕ) → lowered value ≡ value → lowered_value name (escaped value) ≡ escaped value

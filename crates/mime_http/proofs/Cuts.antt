@@ -1,5 +1,5 @@
 -- Lines are cut in one way, and each line is; and how far a line's first piece goes.
-use Rattle.mime_http.proofs.Common.{AreBetweenCommas, At, BeginsPiece, IsInString, IsPiece, List, OneCut, Outside, [], after, after_outside, ap, append-nil, append_assoc, arith, nat_tests, comma, cond_both, cut, cut_from, ends, eqb-true, false, flat_map, line_end, no_line, opens_string, piece_byte, piece_end, piece_string, refl, string_byte, string_end, string_pair, subst, sym, true, ℕ, ⊤, ◌++◌, ◌==◌, ◌∙◌, ◌∷◌, ◌≡◌, Equals, Paired, before_mark, Bool, ap₂, cond, cut_after, drop, drop-drop, drop_more, eq-eqb, get_or, get_or-drop, is_mark, length, length-drop, min, not, prefix_len, prefix_len-le-length, suc, take, zero, ◌&&◌, ◌+◌, ◌-◌, ◌<◌, ◌≤◌, IsNextOutside, piece_len, passes_at_first}
+use Rattle.mime_http.proofs.Common.{drop_of_length-le, AreBetweenCommas, At, BeginsPiece, IsInString, IsPiece, List, OneCut, Outside, [], after, after_outside, ap, append-nil, append_assoc, arith, nat_tests, comma, cond_both, cut, cut_from, ends, eqb-true, false, flat_map, line_end, no_line, opens_string, piece_byte, piece_end, piece_string, refl, string_byte, string_end, string_pair, subst, sym, true, ℕ, ⊤, ◌++◌, ◌==◌, ◌∙◌, ◌∷◌, ◌≡◌, Equals, Paired, before_mark, Bool, ap₂, cond, cut_after, drop, drop-drop, drop_more, eq-eqb, get_or, get_or-drop, is_mark, length, length-drop, min, not, prefix_len, prefix_len-le-length, suc, take, zero, ◌&&◌, ◌+◌, ◌-◌, ◌<◌, ◌≤◌, IsNextOutside, piece_len, passes_at_first}
 use Rattle.mime_http.specs.LineCut.{Quoted}
 use Rattle.mime_search.{specs.Classes.is_stop, specs.Classes.end_of_run, specs.Quoted.awaits_next, specs.Quoted.len_from, specs.declared.class.Class.Class}
 
@@ -168,13 +168,7 @@ outside_byte line at within on opens =
 
 -- a comma outside strings ends the piece, and so does the line's end
 pub ends_outside : (line : List ℕ) (at : ℕ) → (at < length line → get_or line at 0 ≡ 44) → end_on Outside line at ≡ at
-ends_outside line at is_comma =
-    ap (λ n. at + n) (by (drop at line) (λ more. get_or-drop at line 0 0 ∙ (ap (λ i. get_or line i 0) (omega arith)
-    ∙ is_comma (omega (arith, more, length-drop at line))))) ∙ omega arith
-  where
-    by : (rest : List ℕ) → (0 < length rest → get_or rest 0 0 ≡ 44) → piece_len Outside rest ≡ 0
-    by [] is_comma = refl
-    by (b ∷ rest) is_comma = let end : (b == 44) ≡ true = eq-eqb b 44 (is_comma (omega arith)) in rw end refl
+ends_outside line at is_comma = grind (arith, nat_tests, drop_more line at 0, drop_of_length-le line {i = at}, is_comma)
 
 -- bytes before the first comma or quote, but for the last of them, go on with a piece,
 pub run_to : (bytes : List ℕ) (n : ℕ) → n < before_mark 44 34 bytes → n + piece_len Outside (drop n bytes) ≡ piece_len Outside bytes
@@ -184,7 +178,8 @@ run_to (b ∷ []) (suc n) less = grind (arith, nat_tests, less)
 run_to (b ∷ c ∷ bytes) (suc n) less = grind (arith, nat_tests, less, run_to (c ∷ bytes) n)
 
 -- and all of them are a piece, if no quote is next
-pub piece_to : (bytes : List ℕ) → (get_or bytes (before_mark 44 34 bytes) 0 == 34) ≡ false → before_mark 44 34 bytes ≡ piece_len Outside bytes
+pub piece_to : (bytes : List ℕ) → (get_or bytes (before_mark 44 34 bytes) 0 == 34) ≡ false
+    → before_mark 44 34 bytes ≡ piece_len Outside bytes
 piece_to [] other = refl
 piece_to (b ∷ []) other = grind (arith, nat_tests, other)
 piece_to (b ∷ c ∷ bytes) other = grind (arith, nat_tests, other, piece_to (c ∷ bytes))

@@ -58,11 +58,7 @@ pub first_is : (name : List ℕ) (found : Option Name) (pairs : List (List ℕ �
     → option_map name_text found ≡ first_value name pairs
 first_is name found [] is = grind (arith, is)
 first_is name found (pair ∷ pairs) is =
-    let test = bytes_eq-Decides pair.0 name in
-    ⊎_elim
-    (λ (yes : bytes_eq pair.0 name ≡ true). rw yes (grind (arith, is.0 (test.0 yes))))
-    (λ no. rw no (first_is name found pairs (is.1 (λ accepted. absurd (true≢false (sym (test.1 accepted) ∙ no))))))
-    (cases_Bool (bytes_eq pair.0 name))
+    grind (arith, bytes_eq-Decides pair.0 name, is.0, is.1, first_is name found pairs)
 
 -- ---- a weight of one decimal, right after the essence
 

@@ -4,9 +4,7 @@ use Rattle.mime_http.proofs.Common.{AllPass-from_list_all, Bool, cases_Bool, cas
 -- the value of an item's value is the one at its position
 pub value_at : {X Y Z : Type 0} (f : Y → Z) (g : X → Y) (xs : List X) (i : ℕ) (x : X) (d : Z) → i < length xs → x ≡ get_or xs i x
     → f (g x) ≡ get_or (map f (map g xs)) i d
-value_at f g xs i x d within is =
-    ap (λ y. f (g y)) is ∙ sym (get_or-map f (map g xs) i (g x) d (omega (arith, within, length-map xs g))
-    ∙ ap f (get_or-map g xs i x (g x) within))
+value_at f g xs i x d within is = grind (arith, is, get_or-map f (map g xs) i (g x) d, get_or-map g xs i x (g x), length-map xs g)
 
 -- ---- ranks
 
@@ -103,13 +101,7 @@ module _ {all : List Rank} {at : ℕ} {most : Rank} {best : Option ℕ} (is : Is
   best_is_found some =
       let found = is.first some in
       let place = found.3 in
-      let within : found.0 < length all =
-      ⊎_elim (λ less. less) (λ past. absurd (omega (
-        arith,
-        some,
-        ap (λ (rank : Rank). rank.0) (sym place.there
-            ∙ get_or_past all found.0 lowest past),
-      ))) (cases_lt found.0 (length all)) in
+      let within : found.0 < length all = grind (arith, some, place.there, get_or_past all found.0 lowest) in
       let inside : nat_lt found.0 (length all) ≡ true = grind (arith, nat_tests, within) in
       let weighs : nat_lt 0 most.0 ≡ true = grind (arith, nat_tests, some) in
       let none_above = list_all-from_AllPass (λ other. is_le (rank_cmp other most)) all

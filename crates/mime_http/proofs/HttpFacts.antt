@@ -133,13 +133,10 @@ reasons = (
 differ : (text other : List ℕ) → bytes_eq text other ≡ false → text ≢ other
 differ text other is same = true≢false (sym ((bytes_eq-Decides text other).1 same) ∙ is)
 
--- `a\"b\\` means `a"b\`, and not itself
-unescapes : (unescaped (codes "a\\\"b\\\\") ≡ codes "a\"b\\") × (unescaped (codes "\\\"") ≢ codes "\\\"")
-unescapes = (refl, differ _ _ refl)
-
--- what is written for `a"b\` is `a\"b\\`; what is written for a quote isn't a quote
-escapes : (escaped (codes "a\"b\\") ≡ codes "a\\\"b\\\\") × (escaped (codes "\"") ≢ codes "\"")
-escapes = (refl, differ _ _ refl)
+-- `a\"b\\` means `a"b\`, and not itself; what is written for `a"b\` is `a\"b\\`, and for a quote not a quote
+contents : (unescaped (codes "a\\\"b\\\\") ≡ codes "a\"b\\") × (unescaped (codes "\\\"") ≢ codes "\\\"")
+    × (escaped (codes "a\"b\\") ≡ codes "a\\\"b\\\\") × (escaped (codes "\"") ≢ codes "\"")
+contents = (refl, differ _ _ refl, refl, differ _ _ refl)
 
 -- ---- parameters
 

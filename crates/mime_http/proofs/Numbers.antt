@@ -18,23 +18,17 @@ no_unit : (bytes : List ℕ) → worth 0 bytes ≡ 0
 no_unit [] = refl
 no_unit (b ∷ bytes) = grind (arith, nat_tests, no_unit bytes)
 
--- the first digits, with zeros if there are fewer
-abbrev padded : ℕ → List ℕ → List ℕ
-padded count bytes = take count (digits bytes ++ codes "000")
-
--- one digit more is read before those that are,
-digits_read : (count unit : ℕ) → ((n : ℕ) → fold step n (take (suc count) (codes "000")) ≡ 10 * unit * n)
-    → ((n : ℕ) (bytes : List ℕ) → fold step n (padded count bytes) ≡ unit * n + worth (unit / 10) bytes)
-    → (n : ℕ) (bytes : List ℕ) → fold step n (padded (suc count) bytes) ≡ 10 * unit * n + worth unit bytes
-digits_read count unit zeros rest n [] = omega (arith, zeros n)
-digits_read count unit zeros rest n (b ∷ bytes) =
-    rw (take_while-cons is_ascii_digit b bytes) (grind (arith, nat_tests, rest (step n b) bytes, zeros n))
-
--- so a number with three digits more is read
-three_digits_more : (n : ℕ) (bytes : List ℕ) → fold step n (padded 3 bytes) ≡ 1000 * n + worth 100 bytes
-three_digits_more =
-    digits_read 2 100 (λ n. omega arith) (digits_read 1 10 (λ n. omega arith)
-    (digits_read 0 1 (λ n. omega arith) (λ n bytes. omega (arith, no_unit bytes))))
+-- a number with the first three digits more, or with zeros if there are fewer
+three_digits_more : (n : ℕ) (bytes : List ℕ) → fold step n (take 3 (digits bytes ++ codes "000")) ≡ 1000 * n + worth 100 bytes
+three_digits_more n [] = omega arith
+three_digits_more n (a ∷ []) = grind (arith, nat_tests)
+three_digits_more n (a ∷ b ∷ []) = grind (arith, nat_tests)
+three_digits_more n (a ∷ b ∷ c ∷ bytes) =
+    rw (
+      take_while-cons is_ascii_digit a (b ∷ c ∷ bytes),
+      take_while-cons is_ascii_digit b (c ∷ bytes),
+      take_while-cons is_ascii_digit c bytes,
+    ) (grind (arith, nat_tests, no_unit bytes))
 
 -- digits are worth at most ten of the first one's unit
 worth_most : (unit : ℕ) (bytes : List ℕ) → worth unit bytes ≤ 10 * unit

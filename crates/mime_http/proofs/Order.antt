@@ -14,8 +14,7 @@ ComesBefore ranks at other =
 
 -- what weighs something is an offer's
 pub weighs_within : (ranks : List Rank) (at : ℕ) → 0 < (rank_at ranks at).0 → at < length ranks
-weighs_within ranks at weighs = ⊎_elim (λ within. within)
-    (λ past. absurd (omega (arith, weighs, ap (λ (rank : Rank). rank.0) (get_or_past ranks at lowest past)))) (cases_lt at (length ranks))
+weighs_within ranks at weighs = grind (arith, weighs, get_or_past ranks at lowest)
 
 -- ---- offers with their ranks
 

@@ -66,7 +66,8 @@ module _ (offer : MediaType) (k : ℕ) where
   moved_first range at to rest there = rw (sym there, covers_so offer range (shifted k) at) (grind arith)
 
   -- so do ranges one position later,
-  later : (at : ℕ) (ranges : List MediaType) → k ≤ at → ranks_from offer (at + 1) ranges ≡ map (moved (shifted k)) (ranks_from offer at ranges)
+  later : (at : ℕ) (ranges : List MediaType) → k ≤ at
+      → ranks_from offer (at + 1) ranges ≡ map (moved (shifted k)) (ranks_from offer at ranges)
   later at [] after = refl
   later at (range ∷ ranges) after =
       ap (cons_option (closeness offer (at + 1, range))) (later (at + 1) ranges (omega (arith, after)))

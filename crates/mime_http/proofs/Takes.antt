@@ -111,14 +111,13 @@ module _ {keeps_bad : Bool} where
     -- after an empty piece of a line those behind it are left,
     pub past_empty : from < length line → get_or line from 0 ≡ 44 → AreLeft keeps_bad old now (cut line) (cut (drop (from + 1) line))
     past_empty within comma =
-        rest_left ([] ∷ []) (subst (AreLeft keeps_bad old now (cut line)) (ap cut (drop_more line from 0 within
-        ∙ ap (λ b. b ∷ drop (from + 1) line) comma)) left) (takes_blank keeps_bad [] now refl)
+        rest_left ([] ∷ []) (rw (drop_more line from 0 within, comma) at left) (takes_blank keeps_bad [] now refl)
 
     module _ (end : ℕ) (is : end ≡ end_on Outside line from) {new : Header}
         (taken : Takes keeps_bad (take (end - from) (drop from line) ∷ []) now new) where
       -- after one that ends at a position, too,
       passed : AreLeft keeps_bad old new (cut line) (cut_after (drop end line))
-      passed = rest_left (take (end - from) (drop from line) ∷ []) (subst (AreLeft keeps_bad old now (cut line)) (cut_at_end line from end is) left) taken
+      passed = rest_left (take (end - from) (drop from line) ∷ []) (rw (cut_at_end line from end is) at left) taken
 
       -- after its comma,
       pub past_piece : end < length line → AreLeft keeps_bad old new (cut line) (cut (drop (end + 1) line))
@@ -129,5 +128,6 @@ module _ {keeps_bad : Bool} where
       past_last past = all_taken (subst (AreLeft keeps_bad old new (cut line)) (ap cut_after (drop_of_length-le line past)) passed)
 
     -- the first piece is white space if nothing is read of the line
-    pub blank_there : (end : ℕ) → end ≡ end_on Outside line from → AreSorted (cut line) [] [] → trimmed (take (end - from) (drop from line)) ≡ []
+    pub blank_there : (end : ℕ) → end ≡ end_on Outside line from → AreSorted (cut line) [] []
+        → trimmed (take (end - from) (drop from line)) ≡ []
     blank_there end is sorted = is_blank (subst (λ pieces. AreSorted pieces [] []) (cut_at_end line from end is) (left.nothing sorted))

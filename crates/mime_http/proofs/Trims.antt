@@ -27,9 +27,7 @@ trim_end-last (c ∷ bytes) b = grind (arith, trim_end-last bytes b, list_all-ap
 pub last_trimmed : (piece : List ℕ) (end : ℕ) → 0 < end → end ≤ length piece → trim_end (take end piece)
     ≡ (if is_space (get_or piece (end - 1) 0) then trim_end (take (end - 1) piece) else take end piece)
 last_trimmed piece end some within =
-    let last : take (end - 1) piece ++ (get_or piece (end - 1) 0 ∷ []) ≡ take end piece =
-    sym (take_more piece (end - 1) 0 (omega (arith, some, within))) ∙ ap (λ n. take n piece) (omega (arith, some)) in
-    rw last at (trim_end-last (take (end - 1) piece) (get_or piece (end - 1) 0))
+    grind (arith, take_more piece (end - 1) 0, trim_end-last (take (end - 1) piece) (get_or piece (end - 1) 0))
 
 -- so nothing is left out of bytes of which the last is no white space
 pub nothing_after : (piece : List ℕ) → (0 < length piece → is_space (get_or piece (length piece - 1) 0) ≡ false) → trim_end piece ≡ piece

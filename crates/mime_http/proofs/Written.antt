@@ -63,7 +63,8 @@ well_formed_list pair (next ∷ pairs) (is, all) = (refl, well_formed_one pair i
 text_of_one : (pair : List ℕ × List ℕ) → 59 ∷ 32 ∷ text_of_parameter (parameter_of pair) ≡ text_of_pair pair
 text_of_one (name, value) = grind (arith, append-nil value)
 
-text_of_all : (pair : List ℕ × List ℕ) (pairs : List (List ℕ × List ℕ)) → 59 ∷ text_of_list (list_of pair pairs) ≡ text_of_pairs (pair ∷ pairs)
+text_of_all : (pair : List ℕ × List ℕ) (pairs : List (List ℕ × List ℕ))
+    → 59 ∷ text_of_list (list_of pair pairs) ≡ text_of_pairs (pair ∷ pairs)
 text_of_all pair [] = text_of_one pair ∙ sym (append-nil _)
 text_of_all pair (next ∷ pairs) = λ i. text_of_one pair i ++ text_of_all next pairs i
 

@@ -13,10 +13,10 @@ loop-at-preserved c =
     let rank : found ≡ rank_at (map merit_of offers) at =
     c.merit-merit.ensures ∙ value_at merit_of (λ offer. offer.media) given at _ _ c.loop-at-test.true c.index-offers-at.is in
     elim c.if-merit-gt0.branch [
-      | then-merit-gt0+in_ok-push w ↦ subst (λ ranked. Ranked (map merit_of offers) (at + 1) (vec_items ranked)) (sym w.ranked-is)
-          (rw w.in_ok-push.ensures.items (one_ranked c.loop-at.invariant _ refl rank (omega (arith, w.if-merit-gt0.true))))
-      | else-merit-gt0 w ↦ subst (λ ranked. Ranked (map merit_of offers) (at + 1) (vec_items ranked)) (sym w.ranked-is)
-          (none_more c.loop-at.invariant (omega (arith, ap (λ (r : Rank). r.0) rank, w.if-merit-gt0.false)))
+      | then-merit-gt0+in_ok-push w ↦
+          rw (w.ranked-is, w.in_ok-push.ensures.items) (one_ranked c.loop-at.invariant _ refl rank (omega (arith, w.if-merit-gt0.true)))
+      | else-merit-gt0 w ↦
+          rw w.ranked-is (none_more c.loop-at.invariant (omega (arith, ap (λ (r : Rank). r.0) rank, w.if-merit-gt0.false)))
     ]
 
 pub returns-clause-order : goal.returns-clause-order
@@ -26,7 +26,5 @@ returns-clause-order c =
     let past : length offers ≤ c.loop-at.at = omega (arith, length-map c.args.offers.now (λ offer. offer.media)) in
     let are = are_in_order ranges offers c.loop-at.at (vec_items c.loop-at.ranked) (vec_items c.sort.new.self) past c.loop-at.invariant
     c.in_ok-sort.ensures.permutation c.in_ok-sort.ensures.sorted in
-    IfOk-weaker c.positions.result (λ order. vec_items order ≡ map (λ offer. offer.1) (vec_items c.sort.new.self))
-    (λ order. AreInOrder ranges offers (vec_items order)) (λ order is. subst (AreInOrder ranges offers) (sym is) are)
-    (subst (λ sorted. IfOk c.positions.result (λ order. vec_items order ≡ map
-    (λ offer. offer.1) sorted)) c.deref.ensures.value c.positions.ensures)
+    IfOk-weaker c.positions.result _ (λ order. AreInOrder ranges offers (vec_items order)) (λ order is. subst (AreInOrder ranges offers)
+    (sym is) are) (rw c.deref.ensures.value at c.positions.ensures)

@@ -36,15 +36,14 @@ returns-in_err-take_line-clause-nothing c = λ holds.
 pub loop-line-init : goal.loop-line-init
 loop-line-init c =
     let lines = c.args.lines.now in
-    let Left = λ (accept : Header). AreLeft c.args.keeps_bad nothing accept (pieces_or_any lines) (pieces_of lines) in
     elim c.if-is_empty.branch [
       | then-is_empty+in_ok-take_line w ↦
           let none : lines ≡ [] = nil_from_length _ (grind (arith, common_steps, w.if-is_empty.true)) in
           let taken = rw (c.new.ensures.items, c.new-2.ensures.items) at w.in_ok-take_line.ensures.taken in
-          subst Left (sym w.accept-is) (left_of_none c.args.keeps_bad lines none taken)
+          rw w.accept-is (left_of_none c.args.keeps_bad lines none taken)
       | else-is_empty w ↦
           let some : ¬ (lines ≡ []) = λ none. absurd (grind (arith, common_steps, w.if-is_empty.false, ap length none)) in
-          subst Left (sym (rw (c.new.ensures.items, c.new-2.ensures.items) at w.accept-is)) (left_of_some c.args.keeps_bad lines some)
+          rw (w.accept-is, c.new.ensures.items, c.new-2.ensures.items) (left_of_some c.args.keeps_bad lines some)
     ]
 
 pub loop-line-preserved : goal.loop-line-preserved
