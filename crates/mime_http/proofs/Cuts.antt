@@ -1,5 +1,5 @@
 -- Lines are cut in one way, and each line is; and how far a line's first piece goes.
-use Rattle.mime_http.proofs.Common.{drop_of_length-le, AreBetweenCommas, At, BeginsPiece, IsInString, IsPiece, List, OneCut, Outside, [], after, after_outside, ap, append-nil, append_assoc, arith, nat_tests, comma, cond_both, cut, cut_from, ends, eqb-true, false, flat_map, line_end, no_line, opens_string, piece_byte, piece_end, piece_string, refl, string_byte, string_end, string_pair, subst, sym, true, ℕ, ⊤, ◌++◌, ◌==◌, ◌∙◌, ◌∷◌, ◌≡◌, Equals, Paired, before_mark, Bool, ap₂, cond, cut_after, drop, drop-drop, drop_more, eq-eqb, get_or, get_or-drop, is_mark, length, length-drop, min, not, prefix_len, prefix_len-le-length, suc, take, zero, ◌&&◌, ◌+◌, ◌-◌, ◌<◌, ◌≤◌, IsNextOutside, piece_len, passes_at_first}
+use Rattle.mime_http.proofs.Common.{drop_of_length-le, AreBetweenCommas, At, BeginsPiece, IsInString, IsPiece, List, OneCut, Outside, [], after, after_outside, ap, append-nil, append_assoc, arith, nat_tests, comma, cond_both, cut, cut_from, ends, eqb-true, false, flat_map, line_end, no_line, opens_string, piece_byte, piece_end, piece_string, refl, string_byte, string_end, string_pair, subst, sym, true, ℕ, ⊤, ◌++◌, ◌==◌, ◌∙◌, ◌∷◌, ◌≡◌, Equals, Paired, before_mark, Bool, ap₂, cond, cut_after, drop, drop-drop, drop_more, get_or, get_or-drop, is_mark, length, length-drop, min, not, prefix_len, prefix_len-le-length, suc, take, zero, ◌&&◌, ◌+◌, ◌-◌, ◌<◌, ◌≤◌, IsNextOutside, piece_len, passes_at_first}
 use Rattle.mime_http.specs.LineCut.{Quoted}
 use Rattle.mime_search.{specs.Classes.is_stop, specs.Classes.end_of_run, specs.Quoted.awaits_next, specs.Quoted.len_from, specs.declared.class.Class.Class}
 

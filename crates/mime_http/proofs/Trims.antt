@@ -1,5 +1,5 @@
 -- A piece without the white space around it.
-use Rattle.mime_http.proofs.Common.{AreSpaces, List, [], and_from, and_parts, ap, arith, cond_both, false, get_or, if◌then◌else◌, is_space, length, list_all-append, refl, suc, sym, take, take_all, take_more, trim_end, trim_start, trimmed, ℕ, ◌++◌, ◌-◌, ◌<◌, ◌∙◌, ◌∷◌, ◌≡◌, ◌≤◌}
+use Rattle.mime_http.proofs.Common.{AreSpaces, List, [], and_from, and_parts, ap, arith, cond_both, false, get_or, if◌then◌else◌, is_space, length, list_all-append, refl, suc, take, take_all, take_more, trim_end, trim_start, trimmed, ℕ, ◌++◌, ◌-◌, ◌<◌, ◌∷◌, ◌≡◌, ◌≤◌}
 
 -- Bytes are white space, and what is left without it.
 pub split_white : (bytes : List ℕ) → (white : List ℕ) × AreSpaces white × (bytes ≡ white ++ trim_start bytes)

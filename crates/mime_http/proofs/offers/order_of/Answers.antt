@@ -1,6 +1,6 @@
 -- The next offer is put last, or it weighs nothing; sorted, they are in order.
-use Rattle.mime_http.proofs.Common.{AreInOrder, IfOk, IfOk-weaker, Rank, ap, arith, length, length-map, map, merit, refl, subst, sym, vec_items, ◌+◌, ◌∙◌, ◌≡◌, ◌≤◌}
-use Rattle.mime_http.proofs.{Highest.value_at, Order.Ranked, Order.are_in_order, Order.none_more, Order.one_ranked, Order.rank_at, offers.order_of.Goals.then-merit-gt0+in_ok-push, offers.order_of.Goals.else-merit-gt0}
+use Rattle.mime_http.proofs.Common.{AreInOrder, IfOk-weaker, Rank, ap, arith, length, length-map, map, merit, refl, subst, sym, vec_items, ◌∙◌, ◌≡◌, ◌≤◌}
+use Rattle.mime_http.proofs.{Highest.value_at, Order.are_in_order, Order.none_more, Order.one_ranked, Order.rank_at, offers.order_of.Goals.then-merit-gt0+in_ok-push, offers.order_of.Goals.else-merit-gt0}
 use Rattle.mime_http.proofs.offers.order_of.Goals as goal
 
 pub loop-at-preserved : goal.loop-at-preserved
