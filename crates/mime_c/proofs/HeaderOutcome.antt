@@ -11,7 +11,6 @@ use Rattle.mime_http.specs.HttpMediaType.{HttpReads, IsHttpMediaType}
 use Rattle.mime_http.specs.HttpList.{trimmed, IsPrinted, as_it_stands, anew, lines_or_any, AreSorted, no_text, blank, a_range, a_bad, Header, IsHeader}
 use Rattle.mime_http.specs.Ranges.{best_offer}
 use Rattle.mime_http.proofs.HandedOut.{Answer, read, rejected, answer_of, media_of, reads_around, one_cut, plain_is_http, one_header, answered_is_http, rejected_is_none}
-use Rattle.mime_http.specs.Unescaped.{unescaped}
 use Rattle.mime_c.specs.Strings.{strings, written}
 use Rattle.mime_c.specs.HeaderAnswers.{ranges_texts, lines_of, AcceptsTo, are_ranges, ranges_have_no_memory, ranges_have_no_room, BestIs, best_is, none_is_best, an_offer_is_bad, best_has_no_memory}
 use Rattle.mime_c.specs.ParameterAnswers.{UnescapesTo, is_unescaped, unescaped_has_no_room}
