@@ -2,7 +2,7 @@
 use Rattle.std.proofs.Common.{◌≡◌, ℕ, zero, suc, ◌+◌, ◌*◌, ◌<◌, ◌≤◌, List, [], ◌∷◌, ◌++◌, length, take, Option, Some, None, sym, ap, ◌∙◌, subst, arith, length-append, length-take}
 use Rattle.std.proofs.lemmas.List.{map-append}
 use Rattle.std.proofs.lemmas.List.Concat.{flat_map-append}
-use Rattle.mime.specs.Grammar.{Parameter, plain, quoted, Parameters, blank, final, more, Tail, no_list, listed, SyntaxTree, text_of, text_of_parameter, text_of_list, text_of_tail, IsToken}
+use Rattle.mime.specs.Grammar.{Parameter, plain, quoted, Parameters, blank, final, more, Tail, no_list, listed, SyntaxTree, text_of, text_of_parameter, text_of_list, text_of_tail}
 use Rattle.mime.specs.Values.{MediaType, Reads, pair_of, pairs_of_list, pairs_of_tail, essence_of, kept_text}
 use Rattle.mime.specs.Cut.{CutItem, ItemsOf, is_read, is_rejected, is_empty, Cut, whole, unfinished, goes_on}
 use Rattle.mime.proofs.HandedOut.{length-lowered, positions_of, kept_text_of, length-in_part, text_of-essence, length-essence_of, value_of_low, value_of-lowering, keeps-tree, kept-in_part, split-size, token-size}

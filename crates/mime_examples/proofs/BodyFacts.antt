@@ -1,5 +1,5 @@
 -- Bodies and headers for which the words of the multipart recipe hold, and others for which they don't. The delimiter is `--x`.
-use Rattle.std.proofs.Common.{◌≡◌, ◌≢◌, ◌∙◌, ◌≤◌, ◌++◌, ◌∷◌, [], ◌⊎◌, inl, inr, ℕ, List, Bool, true, false, Option, Some, None, drop, length, length-append, refl, sym, ap, arith, codes, ⊎_elim}
+use Rattle.std.proofs.Common.{◌≡◌, ◌≢◌, ◌∙◌, ◌≤◌, ◌++◌, ◌∷◌, [], inl, inr, ℕ, List, Bool, true, false, Option, Some, None, drop, length, length-append, refl, sym, ap, arith, codes, ⊎_elim}
 use Rattle.std.specs.List.{list_all}
 use Rattle.std.specs.Prelude.{◌==◌, not}
 use Rattle.std.proofs.lemmas.Bool.{true≢false, false≢true}
