@@ -3,7 +3,7 @@ use Rattle.std.specs.Prelude.{ℕ, Bool, false, List, [], ◌∷◌, ◌++◌, �
 use Rattle.std.specs.Str.{str_eq_ignore_ascii_case}
 use Rattle.std.specs.Str.Lines.{strip_carriage_return}
 use Rattle.mime.specs.Grammar.{is_space}
-use Rattle.mime_http.specs.HttpList.{trim_start, trim_end}
+use Rattle.mime_http.specs.HttpList.{trimmed}
 use Rattle.mime_io.specs.Lines.{lines_of}
 
 -- a line without the mark that `curl -v` writes before it, `>` or `<` and a space, which begins no field's name
@@ -22,10 +22,6 @@ until_empty (line ∷ lines) = if length line == 0 then [] else line ∷ until_e
 
 abbrev pub head_of : List ℕ → List (List ℕ)
 head_of bytes = until_empty (map (λ line. without_mark (strip_carriage_return line)) (lines_of bytes))
-
--- bytes without the white space around them
-abbrev pub trimmed : List ℕ → List ℕ
-trimmed bytes = trim_end (trim_start bytes)
 
 -- a line that begins with white space goes on with the field before it: one space stands for the white space between them (RFC 9112, 5.2)
 abbrev pub goes_on : List ℕ → Bool

@@ -4,8 +4,8 @@ ghost use Rattle.std.specs.Prelude.{◌≡◌, ◌<◌, ◌∷◌, ◌++◌, ◌
 ghost use Rattle.std.specs.Str.Lines.{strip_carriage_return};
 ghost use Rattle.std.specs.Vec.{vec_items};
 ghost use Rattle.mime.specs.Grammar.{is_space};
-ghost use Rattle.mime_http.specs.HttpList.{trim_start, trim_end};
-ghost use Rattle.mime_headers.specs.Head.{without_space, without_mark, head_of, trimmed, goes_on, continued, begins, values_of};
+ghost use Rattle.mime_http.specs.HttpList.{trim_start, trim_end, trimmed};
+ghost use Rattle.mime_headers.specs.Head.{without_space, without_mark, head_of, goes_on, continued, begins, values_of};
 
 use mime_io::first_line;
 use std::alloc::{AllocError, Global};

@@ -21,6 +21,7 @@ pub mod Picked
 pub mod Pieces
 pub mod PlainIsHttp
 pub mod RangesFacts
+pub mod RankingFacts
 pub mod ReadAnew
 pub mod ReadAt
 pub mod ReadBack

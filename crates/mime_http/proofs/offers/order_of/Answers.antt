@@ -1,7 +1,7 @@
 -- The next offer is put last, or it weighs nothing; sorted, they are in order.
 use Rattle.mime_http.proofs.Common.{AreInOrder, IfOk, IfOk-weaker, Rank, ap, arith, length, length-map, map, merit, refl, subst, sym, vec_items, ◌+◌, ◌∙◌, ◌≡◌, ◌≤◌}
 use Rattle.mime_http.proofs.Highest.{value_at}
-use Rattle.mime_http.proofs.Order.{Ranked, are_in_order, none_more, one_ranked, rank_at}
+use Rattle.mime_http.proofs.Order.{Ranked, Weighs, are_in_order, none_more, one_ranked, rank_at}
 use Rattle.mime_http.proofs.offers.order_of.Goals.{then-merit-gt0+in_ok-push, else-merit-gt0}
 use Rattle.mime_http.proofs.offers.order_of.Goals as goal
 
@@ -15,10 +15,10 @@ loop-at-preserved c =
     let rank : found ≡ rank_at (map merit_of offers) at =
     c.merit-merit.ensures ∙ value_at merit_of (λ offer. offer.media) given at _ _ c.loop-at-test.true c.index-offers-at.is in
     elim c.if-merit-gt0.branch [
-      | then-merit-gt0+in_ok-push w ↦ subst (λ ranked. Ranked (map merit_of offers) (at + 1) (vec_items ranked)) (sym w.ranked-is)
+      | then-merit-gt0+in_ok-push w ↦ subst (λ ranked. Ranked Weighs (map merit_of offers) (at + 1) (vec_items ranked)) (sym w.ranked-is)
           (rw w.in_ok-push.ensures.items (one_ranked c.loop-at.invariant _ refl rank (omega (arith, w.if-merit-gt0.true))))
-      | else-merit-gt0 w ↦ subst (λ ranked. Ranked (map merit_of offers) (at + 1) (vec_items ranked)) (sym w.ranked-is)
-          (none_more c.loop-at.invariant (omega (arith, ap (λ (r : Rank). r.0) rank, w.if-merit-gt0.false)))
+      | else-merit-gt0 w ↦ subst (λ ranked. Ranked Weighs (map merit_of offers) (at + 1) (vec_items ranked)) (sym w.ranked-is)
+          (none_more c.loop-at.invariant (λ some. absurd (omega (arith, some, ap (λ (r : Rank). r.0) rank, w.if-merit-gt0.false))))
     ]
 
 pub returns-clause-order : goal.returns-clause-order
