@@ -11,13 +11,13 @@ use Rattle.mime_http.specs.HttpFaults.{HttpExplains}
 use Rattle.mime_http.specs.declared.value.FieldError.{FieldError}
 use Rattle.mime_http.specs.declared.value.FieldError.TheVariants.{NotUtf8, Invalid}
 use Rattle.mime_http.specs.HttpList.{trimmed}
-use Rattle.mime_headers.specs.Head.{without_mark, head_of, goes_on, continued, begins, values_of}
+use Rattle.mime_headers.specs.Head.{without_mark, bare_lines, head_of, after_head, from_status, goes_on, continued, begins, values_of}
 use Rattle.mime_headers.specs.Program.{AreOffers, AreRefused}
 use Rattle.mime_headers.specs.Program.AreRefused.{at_word, no_memory, after_word}
 use Rattle.mime_headers.specs.declared.offers.BadOffer.{BadOffer}
 use Rattle.mime_headers.specs.declared.offers.BadOffer.TheVariants.{Fault}
 use Rattle.mime_headers.specs.Program.AreOffers.{no_word, a_word}
-use Rattle.mime_headers.specs.Report.{ReadsAs, shown, media_rows, fault_at, fault_rows, none_row, weight_text, range_row, place_text, by_text, lacking_remark, offer_rows, best_of, best_rows, verdict_of}
+use Rattle.mime_headers.specs.Report.{ReadsAs, shown, media_rows, fault_at, fault_rows, none_row, weight_text, range_row, place_text, by_text, lacking_remark, offer_rows, best_of, best_rows, is_acceptable, verdict_of, chooses, title_row}
 use Rattle.mime_headers.specs.Shown.{control_len, without_controls}
 use Rattle.mime_headers.specs.declared.verdict.Verdict.{Verdict}
 
@@ -136,10 +136,33 @@ verdicts :
     (best_of (plain ∷ media ∷ []) (record { offer = 1; weight = 1; range = Some 0 } ∷ []) ≡ Some media)
     × (best_of (media ∷ []) (record { offer = 0; weight = 0; range = None } ∷ []) ≡ None) × (best_of [] [] ≡ None)
     × (best_rows (media ∷ []) (Some media) ≡ codes "best a/b+c;p=\"x\\\"y\"\n") × (best_rows (media ∷ []) None ≡ codes "406 Not Acceptable\n")
-    × (best_rows [] None ≡ []) × (verdict_of true (media ∷ []) (Some media) ≡ Verdict.Acceptable)
-    × (verdict_of true (media ∷ []) None ≡ Verdict.NotAcceptable) × (verdict_of true [] None ≡ Verdict.Acceptable)
-    × (verdict_of false [] None ≡ Verdict.NotAcceptable) × (verdict_of false (media ∷ []) (Some media) ≡ Verdict.NotAcceptable)
-verdicts = (refl, refl, refl, refl, refl, refl, refl, refl, refl, refl, refl)
+    × (best_rows [] None ≡ []) × (is_acceptable (media ∷ []) (Some media) ≡ true) × (is_acceptable (media ∷ []) None ≡ false)
+    × (is_acceptable [] None ≡ true)
+verdicts = (refl, refl, refl, refl, refl, refl, refl, refl, refl)
+
+-- the verdict is that of all values and of the last choice
+verdicts_of_heads :
+    (verdict_of true (Some true) ≡ Verdict.Acceptable) × (verdict_of true None ≡ Verdict.Acceptable)
+    × (verdict_of true (Some false) ≡ Verdict.NotAcceptable) × (verdict_of false (Some true) ≡ Verdict.NotAcceptable)
+verdicts_of_heads = (refl, refl, refl, refl)
+
+-- offers are chosen under a head with an `Accept`, and under the last if none has
+choices :
+    (chooses ([] ∷ []) (Some true) false ≡ true) × (chooses [] None true ≡ true) × (chooses [] None false ≡ false)
+    × (chooses [] (Some false) true ≡ false)
+choices = (refl, refl, refl, refl)
+
+-- after an empty line others are passed over until one that begins with `HTTP/`
+next_heads :
+    (from_status (after_head (bare_lines (codes "> a:\n>\n* b\n< HTTP/1.1 200\r\n<\n"))) ≡ codes "HTTP/1.1 200" ∷ [] ∷ [])
+    × (from_status (after_head (bare_lines (codes "a:\nHTTP/1.1 200\n"))) ≡ []) × (from_status (after_head (bare_lines (codes "\nHTTP 1\n X"))) ≡ [])
+next_heads = (refl, refl, refl)
+
+-- the row of a head, if there are many: its first line that is no remark
+titles :
+    (title_row true (codes "* a" ∷ codes "GET /\t" ∷ codes "b: c" ∷ []) ≡ codes "head GET /.\n") × (title_row true [] ≡ codes "head \n")
+    × (title_row false (codes "a" ∷ []) ≡ [])
+titles = (refl, refl, refl)
 
 -- ---- offers
 

@@ -1,5 +1,5 @@
 -- What is reported of a value, and of a head and offers, is one text, so that a page that says less doesn't check: if offers have one ranking.
-use Rattle.std.proofs.Common.{◌≡◌, ◌≢◌, ℕ, Bool, List, [], ◌∷◌, ◌++◌, refl, sym, ap, ap₂, ◌∙◌, subst, codes}
+use Rattle.std.proofs.Common.{◌≡◌, ◌≢◌, ℕ, Bool, List, [], ◌∷◌, ◌++◌, refl, sym, ap, ap₂, ◌∙◌, subst, subst₂, codes, Option, Some}
 use Rattle.std.specs.Prelude.{◌&&◌}
 use Rattle.std.proofs.lemmas.Option.{same_Some}
 use Rattle.std.proofs.lemmas.Str.{utf8_valid_len-IsValidUpTo}
@@ -18,7 +18,7 @@ use Rattle.mime_http.proofs.HttpLaws.{one_printed_text}
 use Rattle.mime_http.proofs.Lists.{http_is_not_blank}
 use Rattle.mime_http.proofs.ReadFaults.{no_fault, one_http_fault}
 use Rattle.mime_io.specs.Lines.{row}
-use Rattle.mime_headers.specs.Report.{media_rows, range_row, ReportsBoundary, bounded, unbounded, fault_rows, ReportsType, good, bad, ReportsTypes, no_more, one_more, ReportsEntry, nothing, a_range, a_bad, ReportsLines, no_line, line_end, comma, Reports}
+use Rattle.mime_headers.specs.Report.{media_rows, range_row, ReportsBoundary, bounded, unbounded, fault_rows, ReportsType, good, bad, ReportsTypes, no_more, one_more, ReportsEntry, nothing, a_range, a_bad, ReportsLines, no_line, line_end, comma, is_acceptable, best_of, ReportsChoice, elsewhere, here, ReportsHead, ReportsHeads, last_head, a_head, IsReportOf}
 use Rattle.mime_headers.specs.declared.verdict.Verdict.{Verdict}
 
 -- a media type has one boundary, or none
@@ -112,17 +112,45 @@ module _ (one_ranking : (ranges offers : List MediaType) (ranking other : List R
       let more = one_of_pieces _ _ _ _ rest others in
       (ap₂ (λ rows more. rows ++ more) one.0 more.0, ap₂ (λ rows more. rows ++ more) one.1 more.1)
 
-  -- a head and offers have one report, with one verdict
-  one_report : (types lines : List (List ℕ)) (offers : List MediaType) (text other : List ℕ) (verdict another : Verdict)
-      → Reports types lines offers text verdict → Reports types lines offers other another → (text ≡ other) × (verdict ≡ another)
-  one_report types lines offers text other verdict another one two =
-      let good = one_of_each types _ _ _ _ one.are_types two.are_types in
-      let cut = pieces_of one.are_lines in
-      let again = pieces_of two.are_lines in
+  -- what is chosen under a head is one,
+  one_choice : (lines : List (List ℕ)) (offers : List MediaType) (before : Option Bool) (is_here : Bool) (rows other : List ℕ)
+      (after again : Option Bool) → ReportsChoice lines offers before is_here rows after → ReportsChoice lines offers before is_here other again
+      → (rows ≡ other) × (after ≡ again)
+  one_choice lines offers before _ _ _ _ _ elsewhere elsewhere = (refl, refl)
+  one_choice lines offers before _ _ _ _ _ (here {entry_rows = rows} {ranges = ranges} {ranking = ranking} are is)
+      (here {ranges = others} {ranking = other} are_too is_too) =
+      let cut = pieces_of are in
+      let again = pieces_of are_too in
       let same : cut.0 ≡ again.0 = only_cut cut.1 ∙ sym (only_cut again.1) in
-      let entries = one_of_pieces _ _ _ _ (subst (λ pieces. ArePieces pieces one.entry_rows one.ranges) same cut.2) again.2 in
-      let ranking = one_ranking two.ranges offers one.ranking two.ranking
-      (subst (λ ranges. IsRanking ranges offers one.ranking) entries.1 one.is_ranking) two.is_ranking in (
-        cc (one.is_text, two.is_text, good.0, entries.0, entries.1, ranking),
-        cc (one.is_verdict, two.is_verdict, good.1, ranking),
-      )
+      let entries = one_of_pieces _ _ _ _ (subst (λ pieces. ArePieces pieces rows ranges) same cut.2) again.2 in
+      let rank = one_ranking others offers ranking other (subst (λ ranges. IsRanking ranges offers ranking) entries.1 is) is_too in
+      (cc (entries.0, entries.1, rank), ap (λ ranking. Some (is_acceptable offers (best_of offers ranking))) rank)
+
+  -- and so is the report on it,
+  one_head : (offers : List MediaType) (many : Bool) (head : List (List ℕ)) (is_last : Bool) (before : Option Bool) (rows other : List ℕ)
+      (is_good are_good : Bool) (after again : Option Bool) → ReportsHead offers many head is_last before rows is_good after
+      → ReportsHead offers many head is_last before other are_good again → (rows ≡ other) × (is_good ≡ are_good) × (after ≡ again)
+  one_head offers many head is_last before rows other is_good are_good after again one two =
+      let types = one_of_each _ _ _ _ _ one.are_types two.are_types in
+      let choice = one_choice _ _ _ _ _ _ _ _ one.is_choice two.is_choice in
+      (cc (one.is_rows, two.is_rows, types.0, choice.0), types.1, choice.1)
+
+  -- and that on all heads
+  one_of_heads : (offers : List MediaType) (many : Bool) {lines : List (List ℕ)} {before : Option Bool} (rows other : List ℕ)
+      (is_good are_good : Bool) (after again : Option Bool) → ReportsHeads offers many lines before rows is_good after
+      → ReportsHeads offers many lines before other are_good again → (rows ≡ other) × (is_good ≡ are_good) × (after ≡ again)
+  one_of_heads offers many _ _ _ _ _ _ (last_head none head) (last_head too again) = one_head _ _ _ _ _ _ _ _ _ _ _ head again
+  one_of_heads offers many _ _ _ _ _ _ (last_head none head) (a_head is some again rest) = absurd (some (sym is ∙ none))
+  one_of_heads offers many _ _ _ _ _ _ (a_head is some again rest) (last_head none head) = absurd (some (sym is ∙ none))
+  one_of_heads offers many _ _ _ _ after _ (a_head {more = more} {are_more = are_more} is some head rest) (a_head is_too some_too again others) =
+      let first = one_head _ _ _ _ _ _ _ _ _ _ _ head again in
+      let next = one_of_heads offers many _ _ _ _ _ _
+      (subst₂ (λ lines before. ReportsHeads offers many lines before more are_more after) (sym is ∙ is_too) first.2 rest) others in
+      (ap₂ (λ rows more. rows ++ more) first.0 next.0, ap₂ (λ is are. is && are) first.1 next.1, next.2)
+
+  -- bytes and offers have one report, with one verdict
+  one_report : (offers : List MediaType) (bytes text other : List ℕ) (verdict another : Verdict) → IsReportOf offers bytes text verdict
+      → IsReportOf offers bytes other another → (text ≡ other) × (verdict ≡ another)
+  one_report offers bytes text other verdict another one two =
+      let heads = one_of_heads offers _ _ _ _ _ _ _ one.are_heads two.are_heads in
+      (cc (one.is_text, two.is_text, heads.0), cc (one.is_verdict, two.is_verdict, heads.1, heads.2))

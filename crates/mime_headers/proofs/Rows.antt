@@ -1,5 +1,5 @@
 -- The rows of a report, as the code adds them one by one.
-use Rattle.std.proofs.Common.{arith, ◌≡◌, ℕ, ◌+◌, ◌<◌, List, [], ◌∷◌, ◌++◌, length, drop, get_or, refl, ap, sym, subst, ◌∙◌, append_assoc, append-nil, Result, Ok, Err, OnOk, Bool, true, false, ◌&&◌, Option, Some, None, Bor, codes, ◌≢◌, MatchOption}
+use Rattle.std.proofs.Common.{arith, ◌≡◌, ℕ, ◌+◌, ◌<◌, List, [], ◌∷◌, ◌++◌, length, drop, get_or, refl, ap, sym, subst, ◌∙◌, append_assoc, append-nil, Result, Ok, Err, OnOk, Bool, true, false, ◌&&◌, Option, Some, None, Bor, codes, ◌≢◌, MatchOption, subst₂, is_some, not, ◌==◌}
 use Rattle.std.specs.Prelude.{flat_map}
 use Rattle.std.specs.Str.{IsUtf8}
 use Rattle.mime.specs.Items.{Item, items_of}
@@ -9,11 +9,13 @@ use Rattle.mime_http.specs.HttpList.{trimmed, lines_or_any, BeginsPiece, IsPiece
 use Rattle.mime_http.specs.declared.value.FieldError.{FieldError}
 use Rattle.std.proofs.lemmas.List.{drop_more}
 use Rattle.mime_io.specs.Inner.{Adds}
-use Rattle.mime_headers.specs.Report.{param_row, media_rows, ReportsBoundary, ReadsAs, ReportsType, ReportsTypes, ReportsEntry, ReportsLines, a_bad, fault_rows}
+use Rattle.mime_headers.specs.Report.{param_row, media_rows, ReportsBoundary, ReadsAs, ReportsType, ReportsTypes, ReportsEntry, ReportsHead, ReportsHeads, ReportsLines, a_bad, fault_rows}
 use Rattle.mime_headers.specs.Report.ReportsType.{good}
 use Rattle.mime_headers.specs.Report.ReportsTypes.{no_more, one_more}
 use Rattle.mime_headers.specs.Report.ReportsLines.{no_line, line_end, comma}
-use Rattle.mime_headers.specs.Inner.{AddsEntry, AddsLines, begins_control}
+use Rattle.mime_headers.specs.Head.{after_head, bare_lines, from_status, until_empty}
+use Rattle.mime_headers.specs.Inner.{AddsEntry, AddsHeads, AddsLines, begins_control}
+use Rattle.mime_headers.specs.Report.ReportsHeads.{a_head, last_head}
 use Rattle.mime_headers.specs.Shown.{control_len, without_controls}
 use Rattle.std.proofs.lemmas.Bool.{or_parts}
 use Rattle.std.proofs.lemmas.Bool.Decides.{nat_tests}
@@ -193,6 +195,49 @@ pub then_ok : {E : Type 0} (result : Result (Unit {0}) E) (t a b t1 t2 : List �
     → OnOk result (t2 ≡ t ++ (a ++ b))
 then_ok (Ok done) t a b t1 t2 first last = then t a b t1 t2 first last
 then_ok (Err error) t a b t1 t2 first last = tt
+
+-- ---- heads
+
+-- the next head's input
+abbrev pub IsNext : List ℕ → Option (Bor (List ℕ)) → Type 0
+IsNext head next =
+    MatchOption next (from_status (after_head (bare_lines head)) ≡ [])
+    (λ next. (from_status (after_head (bare_lines head)) ≡ bare_lines next.now) × (bare_lines next.now ≢ []))
+
+some_lines : (lines : List (List ℕ)) → lines ≢ [] → true ≡ not (length lines == 0)
+some_lines [] some = absurd (some refl)
+some_lines (line ∷ lines) some = grind (arith, nat_tests)
+
+-- there are many if there is one
+pub many_heads : (head : List ℕ) (next : Option (Bor (List ℕ))) → IsNext head next
+    → is_some next ≡ not (length (from_status (after_head (bare_lines head))) == 0)
+many_heads head None none = rw none refl
+many_heads head (Some next) (is, some) = rw is (some_lines (bare_lines next.now) some)
+
+module _ (offers : List MediaType) (many : Bool) (lines : List (List ℕ)) where
+  pub heads-none : AddsHeads offers many lines lines [] true None
+  heads-none = record { whole = λ more are_more after reports. reports }
+
+  -- the next head's rows, and then those of the others
+  pub heads-next : (head next : List (List ℕ)) (now new : List ℕ) (are_good is_good : Bool) (choice between : Option Bool)
+      → from_status (after_head head) ≡ next → next ≢ [] → AddsHeads offers many lines head now are_good choice
+      → Adds (λ rows. ReportsHead offers many (until_empty head) false choice rows is_good between) now new
+      → AddsHeads offers many lines next new (are_good && is_good) between
+  heads-next head next now new are_good is_good choice between is some before (rows, report, added) = record {
+    whole = λ more are_more after reports.
+        let all = before.whole (rows ++ more) (is_good && are_more) after (a_head is some report reports) in
+        subst₂ (λ text are. ReportsHeads offers many lines None text are after)
+        (sym (ap (λ text. text ++ more) added ∙ append_assoc now rows more)) (sym (and_assoc are_good is_good are_more)) all;
+  }
+
+  -- and the last
+  pub heads-all : (head : List (List ℕ)) (now new : List ℕ) (are_good is_good : Bool) (choice after : Option Bool)
+      → from_status (after_head head) ≡ [] → AddsHeads offers many lines head now are_good choice
+      → Adds (λ rows. ReportsHead offers many (until_empty head) true choice rows is_good after) now new
+      → ReportsHeads offers many lines None new (are_good && is_good) after
+  heads-all head now new are_good is_good choice after none before (rows, report, added) =
+      subst (λ text. ReportsHeads offers many lines None text (are_good && is_good) after) (sym added)
+      (before.whole rows is_good after (last_head none report))
 
 -- ---- control characters
 

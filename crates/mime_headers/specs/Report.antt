@@ -1,5 +1,5 @@
 -- What the program writes of a head and of offers: of each `Content-Type`, of `Accept`, and of each offer (RFC 9110, 8.3, 12.5.1 and 15.5.7).
-use Rattle.std.specs.Prelude.{◌≡◌, ◌≢◌, ℕ, ◌+◌, ◌/◌, ◌%◌, Bool, true, false, List, [], ◌∷◌, ◌++◌, ◌==◌, ◌||◌, ◌&&◌, Option, Some, None, is_some, option_map, unwrap_or, position, map, flat_map, length, slice_get, replicate, if◌then◌else◌, codes}
+use Rattle.std.specs.Prelude.{◌≡◌, ◌≢◌, ℕ, ◌+◌, ◌/◌, ◌%◌, Bool, true, false, List, [], ◌∷◌, ◌++◌, ◌==◌, ◌||◌, ◌&&◌, Option, Some, None, is_some, option_map, unwrap_or, position, map, flat_map, length, slice_get, replicate, not, if◌then◌else◌, codes}
 use Rattle.std.specs.Char.{is_ascii_graphic}
 use Rattle.std.specs.Fmt.{decimal}
 use Rattle.std.specs.Str.{IsUtf8}
@@ -19,7 +19,7 @@ use Rattle.mime_http.specs.declared.ranking.RankedOffer.{RankedOffer}
 use Rattle.mime_http.specs.declared.value.FieldError.{FieldError}
 use Rattle.mime_http.specs.declared.value.FieldError.TheVariants.{NotUtf8, Invalid, NoMemory}
 use Rattle.mime_io.specs.Lines.{row, suffix_row}
-use Rattle.mime_headers.specs.Head.{head_of, values_of}
+use Rattle.mime_headers.specs.Head.{bare_lines, until_empty, after_head, from_status, title_of, values_of}
 use Rattle.mime_headers.specs.Shown.{without_controls}
 use Rattle.mime_headers.specs.declared.verdict.Verdict.{Verdict}
 
@@ -161,30 +161,59 @@ best_rows [] best = []
 best_rows (offer ∷ offers) None = row (codes "406 Not Acceptable") []
 best_rows (offer ∷ offers) (Some best) = row (codes "best ") best.kept
 
--- the verdict on values that are all good or not, and on offers with their best
-abbrev pub verdict_of : Bool → List MediaType → Option MediaType → Verdict
-verdict_of are_good offers best =
-    if are_good && (length offers == 0 || is_some best) then Verdict.Acceptable else Verdict.NotAcceptable
+-- whether an offer is acceptable, or there is none
+abbrev pub is_acceptable : List MediaType → Option MediaType → Bool
+is_acceptable offers best = length offers == 0 || is_some best
 
--- the text is the report on these values of `Content-Type`, on those of `Accept`, which are one list (5.3), and on offers
-pub record Reports (types lines : List (List ℕ)) (offers : List MediaType) (text : List ℕ) (verdict : Verdict) : Type 0 where
+-- ---- heads
+
+-- whether offers are chosen under a head with these lines of `Accept`: if it has one, or if it is the last and none has
+abbrev pub chooses : List (List ℕ) → Option Bool → Bool → Bool
+chooses lines before is_last = not (length lines == 0) || (is_last && not (is_some before))
+
+-- what is written of the lines of `Accept`, which are one list (5.3), and of offers, if they are chosen there; and whether, in the last
+-- choice, one was acceptable
+pub data ReportsChoice (lines : List (List ℕ)) (offers : List MediaType) (before : Option Bool) : Bool → List ℕ → Option Bool → Type 0 where
+  elsewhere : ReportsChoice lines offers before false [] before
+  here : {entry_rows : List ℕ} {ranges : List MediaType} {ranking : List RankedOffer} → ReportsLines (lines_or_any lines) entry_rows ranges
+      → IsRanking ranges offers ranking
+      → ReportsChoice lines offers before true
+      (none_row (codes "no Accept") lines ++ (entry_rows ++ (offer_rows ranges offers ranking ++ best_rows offers (best_of offers ranking))))
+      (Some (is_acceptable offers (best_of offers ranking)))
+
+-- the row of a head, if there are many
+abbrev pub title_row : Bool → List (List ℕ) → List ℕ
+title_row many head = if many then row (codes "head ") (shown (title_of head)) else []
+
+-- what is written of a head
+pub record ReportsHead (offers : List MediaType) (many : Bool) (head : List (List ℕ)) (is_last : Bool) (before : Option Bool) (rows : List ℕ)
+    (are_good : Bool) (after : Option Bool) : Type 0 where
   pub type_rows : List ℕ
-  pub are_good : Bool
-  pub entry_rows : List ℕ
-  pub ranges : List MediaType
-  pub ranking : List RankedOffer
-  pub are_types : ReportsTypes types type_rows are_good
-  pub are_lines : ReportsLines (lines_or_any lines) entry_rows ranges
-  pub is_ranking : IsRanking ranges offers ranking
-  pub is_text :
-      text
-      ≡ without_controls (type_rows ++ (none_row (codes "no Content-Type") types
-      ++ (none_row (codes "no Accept") lines ++ (entry_rows
-      ++ (offer_rows ranges offers ranking
-      ++ best_rows offers (best_of offers ranking))))))
-  pub is_verdict : verdict ≡ verdict_of are_good offers (best_of offers ranking)
+  pub choice_rows : List ℕ
+  pub are_types : ReportsTypes (values_of (codes "content-type:") head) type_rows are_good
+  pub is_choice : ReportsChoice (values_of (codes "accept:") head) offers before (chooses (values_of (codes "accept:") head) before is_last)
+      choice_rows after
+  pub is_rows :
+      rows ≡ title_row many head
+      ++ (type_rows ++ (none_row (codes "no Content-Type") (values_of (codes "content-type:") head) ++ choice_rows))
+
+-- and of all heads of lines, one after another
+pub data ReportsHeads (offers : List MediaType) (many : Bool) : List (List ℕ) → Option Bool → List ℕ → Bool → Option Bool → Type 0 where
+  last_head : {lines : List (List ℕ)} {before after : Option Bool} {rows : List ℕ} {are_good : Bool} → from_status (after_head lines) ≡ []
+      → ReportsHead offers many (until_empty lines) true before rows are_good after → ReportsHeads offers many lines before rows are_good after
+  a_head : {lines next : List (List ℕ)} {before between after : Option Bool} {rows more : List ℕ} {are_good are_more : Bool}
+      → from_status (after_head lines) ≡ next → next ≢ [] → ReportsHead offers many (until_empty lines) false before rows are_good between
+      → ReportsHeads offers many next between more are_more after → ReportsHeads offers many lines before (rows ++ more) (are_good && are_more) after
+
+-- the verdict on values that are all good or not, and on the last choice
+abbrev pub verdict_of : Bool → Option Bool → Verdict
+verdict_of are_good choice = if are_good && unwrap_or choice true then Verdict.Acceptable else Verdict.NotAcceptable
 
 -- the text is the report on these bytes and offers
-abbrev pub IsReportOf : List MediaType → List ℕ → List ℕ → Verdict → Type 0
-IsReportOf offers bytes text verdict =
-    Reports (values_of (codes "content-type:") (head_of bytes)) (values_of (codes "accept:") (head_of bytes)) offers text verdict
+pub record IsReportOf (offers : List MediaType) (bytes text : List ℕ) (verdict : Verdict) : Type 0 where
+  pub rows : List ℕ
+  pub are_good : Bool
+  pub choice : Option Bool
+  pub are_heads : ReportsHeads offers (not (length (from_status (after_head (bare_lines bytes))) == 0)) (bare_lines bytes) None rows are_good choice
+  pub is_text : text ≡ without_controls rows
+  pub is_verdict : verdict ≡ verdict_of are_good choice

@@ -10,10 +10,11 @@ ghost use Rattle.mime_http.specs.Ranking.{is_lacking};
 ghost use Rattle.mime_io.specs.Inner.{Adds};
 ghost use Rattle.mime_io.specs.Lines.{row, suffix_row};
 ghost use Rattle.mime_headers.specs.Report.{shown_byte, shown, param_row, media_rows, ReportsBoundary, fault_at, fault_rows, ReportsType, ReportsTypes, none_row, digit, weight_text};
-ghost use Rattle.mime_headers.specs.Report.{weight_remark, range_row, place_text, by_text, lacking_text, lacking_remark, offer_row, offer_rows, best_of, best_rows, verdict_of, Reports, IsReportOf};
+ghost use Rattle.mime_headers.specs.Report.{weight_remark, range_row, place_text, by_text, lacking_text, lacking_remark, offer_row, offer_rows, best_of, best_rows, is_acceptable, verdict_of, chooses, title_row, ReportsChoice, ReportsHead, IsReportOf};
+ghost use Rattle.mime_headers.specs.Head.{head_of};
 ghost use Rattle.mime_headers.specs.Inner.{AddsEntry, AddsLines};
 
-use crate::head::{trimmed, values_of};
+use crate::head::{next_head, title_of, trimmed, values_of};
 use crate::shown::without_controls;
 use crate::verdict::Verdict;
 use mime::{Mime, ParseError};
@@ -30,38 +31,91 @@ pub(crate) struct Report {
     pub(crate) verdict: Verdict,
 }
 
-/// The report on a head and on offers.
+/// The report on the heads of an input, and on offers.
 pub(crate) fn report_of(alloc: Global, input: &[u8], offers: &[Mime]) -> Result<Report, AllocError>
     ensures { IfOk result (λ report. IsReportOf (map (λ offer. offer.media) offers.now) input.now (vec_items report.text) report.verdict) }
 {
-    let types = values_of(alloc, b"content-type:", input)?;
-    let lines = values_of(alloc, b"accept:", input)?;
-    report_on(alloc, types.as_slice(), lines.as_slice(), offers)
+    let mut text = Vec::new(alloc);
+    let mut are_good = true;
+    let mut choice = None;
+    let mut head = input;
+    let mut next = next_head(input);
+    let many = next.is_some();
+    while let Some(rest) = next {
+        are_good &= push_head(alloc, &mut text, offers, many, head, false, &mut choice)?;
+        head = rest;
+        next = next_head(rest);
+    }
+    are_good &= push_head(alloc, &mut text, offers, many, head, true, &mut choice)?;
+    let text = without_controls(alloc, text)?;
+    let verdict = verdict_of(are_good, choice);
+    Ok(Report { text, verdict })
 }
 
-/// The report on the values of `Content-Type`, on those of `Accept`, and on offers.
-fn report_on(
+/// Adds the rows of a head, and sets whether an offer was acceptable, if it is asked there. Returns whether each `Content-Type` is good.
+fn push_head(
     alloc: Global,
-    types: &[Vec<u8>],
+    report: &mut Vec<u8>,
+    offers: &[Mime],
+    many: bool,
+    head: &[u8],
+    is_last: bool,
+    choice: &mut Option<bool>,
+) -> Result<bool, AllocError>
+    ensures { IfOk result (λ are_good. Adds (λ rows. ReportsHead (map (λ offer. offer.media) offers.now) many (head_of head.now) is_last choice.old rows
+        are_good choice.new) (vec_items report.old) (vec_items report.new)) }
+{
+    let types = values_of(alloc, b"content-type:", head)?;
+    let lines = values_of(alloc, b"accept:", head)?;
+    push_title(report, many, head)?;
+    let are_good = push_types(alloc, report, &types)?;
+    push_none(report, "no Content-Type", &types)?;
+    let is_here = chooses(&lines, *choice, is_last);
+    *choice = push_choice(alloc, report, &lines, offers, *choice, is_here)?;
+    Ok(are_good)
+}
+
+/// Adds the row of a head, if there are many.
+fn push_title(report: &mut Vec<u8>, many: bool, head: &[u8]) -> Result<(), AllocError>
+    ensures { OnOk result (vec_items report.new ≡ vec_items report.old ++ title_row many (head_of head.now)) }
+{
+    if many {
+        push_shown(report, "head ", title_of(head))
+    } else {
+        Ok(())
+    }
+}
+
+/// Whether offers are chosen under a head with these lines of `Accept`.
+fn chooses(lines: &[Vec<u8>], before: Option<bool>, is_last: bool) -> bool
+    ensures { result ≡ chooses (map vec_items lines.now) before is_last }
+{
+    !lines.is_empty() || (is_last && before.is_none())
+}
+
+/// Adds the rows of the lines of `Accept`, and of offers, if they are chosen here. Returns whether one was acceptable in the last choice.
+fn push_choice(
+    alloc: Global,
+    report: &mut Vec<u8>,
     lines: &[Vec<u8>],
     offers: &[Mime],
-) -> Result<Report, AllocError>
-    ensures { IfOk result (λ report. Reports (map vec_items types.now) (map vec_items lines.now) (map (λ offer. offer.media) offers.now)
-        (vec_items report.text) report.verdict) }
+    before: Option<bool>,
+    is_here: bool,
+) -> Result<Option<bool>, AllocError>
+    ensures { IfOk result (λ after. Adds (λ rows. ReportsChoice (map vec_items lines.now) (map (λ offer. offer.media) offers.now) before is_here rows after)
+        (vec_items report.old) (vec_items report.new)) }
 {
-    let mut text = Vec::new(alloc);
+    if !is_here {
+        return Ok(before);
+    }
     let mut ranges = Vec::new(alloc);
-    let are_good = push_types(alloc, &mut text, types)?;
-    push_none(&mut text, "no Content-Type", types)?;
-    push_none(&mut text, "no Accept", lines)?;
-    push_lines(alloc, &mut text, &mut ranges, lines)?;
+    push_none(report, "no Accept", lines)?;
+    push_lines(alloc, report, &mut ranges, lines)?;
     let ranking = rank_offers(alloc, &ranges, offers)?;
-    push_offers(alloc, &mut text, &ranges, offers, &ranking)?;
+    push_offers(alloc, report, &ranges, offers, &ranking)?;
     let best = best_of(offers, &ranking);
-    push_best(&mut text, offers, best)?;
-    let verdict = verdict_of(are_good, offers, best);
-    let text = without_controls(alloc, text)?;
-    Ok(Report { text, verdict })
+    push_best(report, offers, best)?;
+    Ok(Some(is_acceptable(offers, best)))
 }
 
 /// Adds the rows of each value of `Content-Type`. Returns whether all are good.
@@ -470,11 +524,18 @@ fn push_best(report: &mut Vec<u8>, offers: &[Mime], best: Option<&Mime>) -> Resu
     }
 }
 
-/// The verdict on values that are all good or not, and on offers with their best.
-fn verdict_of(are_good: bool, offers: &[Mime], best: Option<&Mime>) -> Verdict
-    ensures { result ≡ verdict_of are_good (map (λ offer. offer.media) offers.now) (option_map (λ best. best.now.media) best.entry) }
+/// Whether an offer is acceptable, or there is none.
+fn is_acceptable(offers: &[Mime], best: Option<&Mime>) -> bool
+    ensures { result ≡ is_acceptable (map (λ offer. offer.media) offers.now) (option_map (λ best. best.now.media) best.entry) }
 {
-    if are_good && (offers.is_empty() || best.is_some()) {
+    offers.is_empty() || best.is_some()
+}
+
+/// The verdict on values that are all good or not, and on the last choice.
+fn verdict_of(are_good: bool, choice: Option<bool>) -> Verdict
+    ensures { result ≡ verdict_of are_good choice }
+{
+    if are_good && choice.unwrap_or(true) {
         Verdict::Acceptable
     } else {
         Verdict::NotAcceptable
