@@ -171,7 +171,7 @@ def below(crate):
 def program(crate, kind=""):
     """The program of a crate as LLVM builds it, or of another kind, that rt ci proved or that was built from the same sources. Otherwise rt
     proves and builds it."""
-    made, sources = f"{TOP}/crates/{crate}/out/{crate}{kind}", run_ok("tools/sources")
+    made, sources = f"{TOP}/crates/{crate}/out/{crate}{kind}", run_ok("tools/sources", crate)
     if all(map(os.path.exists, (made, f"{made}.sources"))) and Path(f"{made}.sources").read_text(encoding="utf-8") == sources:
         return made
     built, command = made.removesuffix(".by-rattle"), KINDS[kind]
@@ -180,6 +180,6 @@ def program(crate, kind=""):
     if not os.path.exists(built):
         raise OSError(f"{crate} can't be built:\n{text[-3000:]}")
     os.replace(built, made)
-    if run_ok("tools/sources") == sources:
+    if run_ok("tools/sources", crate) == sources:
         write(f"{made}.sources", sources)
     return made

@@ -5,16 +5,18 @@ use Rattle.std.specs.Str.Lines.{strip_carriage_return}
 use Rattle.mime.specs.Grammar.{is_space}
 use Rattle.mime_http.specs.HttpList.{trim_end}
 use Rattle.mime_io.specs.Lines.{lines_of}
-use Rattle.mime_headers.specs.Head.{without_mark, until_empty, head_of}
+use Rattle.mime_headers.specs.Head.{bare_lines, without_mark, until_empty, head_of}
 
--- an input's head begins with its first line, unless that is empty
-pub head_of-first : (input rest line bare : List ℕ) {empty : Bool} → lines_of input ≡ line ∷ lines_of rest
-    → bare ≡ without_mark (strip_carriage_return line) → (length bare == 0) ≡ empty
-    → head_of input ≡ (if empty then [] else bare ∷ head_of rest)
-head_of-first input rest line bare cut bared is =
-    ap (λ lines. until_empty (map (λ line. without_mark (strip_carriage_return line)) lines)) cut
-    ∙ (ap (λ first. if length first == 0 then [] else first ∷ head_of rest) (sym bared)
-    ∙ ap (λ empty. if empty then [] else bare ∷ head_of rest) is)
+-- an input's first line, without its end and its mark
+pub bare_lines-first : (input rest line bare : List ℕ) → lines_of input ≡ line ∷ lines_of rest → bare ≡ without_mark (strip_carriage_return line)
+    → bare_lines input ≡ bare ∷ bare_lines rest
+bare_lines-first input rest line bare cut bared =
+    ap (map (λ line. without_mark (strip_carriage_return line))) cut ∙ ap (λ first. first ∷ bare_lines rest) (sym bared)
+
+-- begins a head, unless it is empty
+pub head_of-first : (input : List ℕ) (bare : List ℕ) (rest : List (List ℕ)) {empty : Bool} → bare_lines input ≡ bare ∷ rest
+    → (length bare == 0) ≡ empty → head_of input ≡ (if empty then [] else bare ∷ until_empty rest)
+head_of-first input bare rest cut is = ap until_empty cut ∙ ap (λ empty. if empty then [] else bare ∷ until_empty rest) is
 
 -- a byte at the end is left out if it is white space, and else all bytes stay
 trim_end-last : (bytes : List ℕ) (b : ℕ) → trim_end (bytes ++ (b ∷ [])) ≡ (if is_space b then trim_end bytes else bytes ++ (b ∷ []))

@@ -1,7 +1,8 @@
 -- Heads, rows and verdicts for which each definition is true, and others for which it is false, so that a page that says less or more
 -- doesn't check.
-use Rattle.std.proofs.Common.{◌≡◌, ℕ, true, false, List, [], ◌∷◌, ◌++◌, refl, codes}
+use Rattle.std.proofs.Common.{◌≡◌, ℕ, true, false, List, [], ◌∷◌, ◌++◌, map, refl, codes}
 use Rattle.std.specs.Prelude.{◌≢◌, Some, None, String, string_bytes}
+use Rattle.std.specs.Fmt.{decimal}
 use Rattle.std.specs.Global.{Global}
 use Rattle.mime.specs.Values.{MediaType}
 use Rattle.mime.specs.declared.scan.fault.ParseError.TheVariants.{MissingSubtype, InvalidToken}
@@ -9,13 +10,15 @@ use Rattle.mime_http.specs.HttpMediaType.{IsHttpMediaType}
 use Rattle.mime_http.specs.HttpFaults.{HttpExplains}
 use Rattle.mime_http.specs.declared.value.FieldError.{FieldError}
 use Rattle.mime_http.specs.declared.value.FieldError.TheVariants.{NotUtf8, Invalid}
-use Rattle.mime_headers.specs.Head.{without_mark, head_of, trimmed, goes_on, continued, begins, values_of}
+use Rattle.mime_http.specs.HttpList.{trimmed}
+use Rattle.mime_headers.specs.Head.{without_mark, bare_lines, head_of, after_head, from_status, goes_on, continued, begins, values_of}
 use Rattle.mime_headers.specs.Program.{AreOffers, AreRefused}
 use Rattle.mime_headers.specs.Program.AreRefused.{at_word, no_memory, after_word}
 use Rattle.mime_headers.specs.declared.offers.BadOffer.{BadOffer}
 use Rattle.mime_headers.specs.declared.offers.BadOffer.TheVariants.{Fault}
 use Rattle.mime_headers.specs.Program.AreOffers.{no_word, a_word}
-use Rattle.mime_headers.specs.Report.{ReadsAs, shown, media_rows, fault_at, fault_rows, none_row, weight_text, accept_rows, best_rows, verdict_of}
+use Rattle.mime_headers.specs.Report.{ReadsAs, shown, media_rows, fault_at, fault_rows, none_row, weight_text, range_row, place_text, by_text, lacking_remark, offer_rows, best_of, best_rows, is_acceptable, verdict_of, chooses, title_row}
+use Rattle.mime_headers.specs.Shown.{control_len, without_controls}
 use Rattle.mime_headers.specs.declared.verdict.Verdict.{Verdict}
 
 -- white space before and after, which a form feed and a carriage return aren't
@@ -82,7 +85,7 @@ places :
 places = (refl, refl, refl)
 
 rows_of_fault :
-    fault_rows (codes "a\tb/") (Invalid MissingSubtype)
+    fault_rows (codes "bad Content-Type ") (codes "a\tb/") (Invalid MissingSubtype)
     ≡ codes "bad Content-Type mime parse error: a subtype was missing behind the slash (/)\n    a.b/\n        ^\n"
 rows_of_fault = refl
 
@@ -94,19 +97,72 @@ none = (refl, refl)
 weights : (weight_text 1000 ≡ codes "1.000") × (weight_text 50 ≡ codes "0.050") × (weight_text 7 ≡ codes "0.007")
 weights = (refl, refl, refl)
 
--- ranges with their weights, and then bad entries, if there is a line
-rows_of_accept :
-    (accept_rows ([] ∷ []) (record { ranges = media ∷ []; bad = codes "c" ∷ [] })
-    ≡ codes "Accept 1.000 a/b+c;p=\"x\\\"y\"\nbad Accept c\n")
-    × (accept_rows [] (record { ranges = media ∷ []; bad = [] }) ≡ [])
-rows_of_accept = (refl, refl)
+-- a control character of each kind has one dot, and others and the line feed stay
+controls :
+    (without_controls (97 ∷ 27 ∷ 10 ∷ 127 ∷ 194 ∷ 155 ∷ 51 ∷ 226 ∷ 128 ∷ 174 ∷ 226 ∷ 129 ∷ 166 ∷ 98 ∷ []) ≡ codes "a.\n..3..b")
+    × (map (λ bytes. control_len bytes) ((194 ∷ 127 ∷ []) ∷ (194 ∷ 160 ∷ []) ∷ (226 ∷ 128 ∷ 169 ∷ []) ∷ (226 ∷ 128 ∷ 175 ∷ []) ∷ (226 ∷ 129 ∷ 165 ∷ []) ∷ (226 ∷ 129 ∷ 170 ∷ []) ∷ (226 ∷ 128 ∷ []) ∷ [])
+    ≡ 0 ∷ 0 ∷ 0 ∷ 0 ∷ 0 ∷ 0 ∷ 0 ∷ [])
+controls = (refl, refl)
+
+-- a range with a weight that is one, and with one that isn't
+abbrev star : List ℕ → MediaType
+star q = record { essence = codes "*/*"; slash = 1; plus = None; pairs = (codes "q", q) ∷ []; kept = codes "*/*;q=" ++ q }
+
+ranges :
+    (range_row (star (codes "0.5")) ≡ codes "Accept 0.500 */*;q=0.5\n")
+    × (range_row (star (codes ".5")) ≡ codes "Accept 0.500 */*;q=.5 (q is no weight)\n")
+ranges = (refl, refl)
+
+-- the same without the parameter
+abbrev plain : MediaType
+plain = record media { pairs = []; kept = codes "a/b+c" }
+
+-- the place of the range that decides and its text, and that of one that demands more, if the offer weighs nothing
+reasons :
+    (place_text 0 (Some plain) ≡ decimal 1 ++ codes " a/b+c") × (place_text 1 None ≡ [])
+    × (by_text (star (codes "1") ∷ plain ∷ []) (Some 1) ≡ codes " by " ++ place_text 1 (Some plain)) × (by_text (plain ∷ []) None ≡ codes " by none")
+    × (lacking_remark (star (codes "1") ∷ media ∷ []) 0 plain ≡ codes " (lacks a parameter of " ++ (place_text 1 (Some media) ++ codes ")"))
+    × (lacking_remark (star (codes "1") ∷ media ∷ []) 1 plain ≡ []) × (lacking_remark (plain ∷ []) 0 media ≡ [])
+reasons = (refl, refl, refl, refl, refl, refl, refl)
+
+-- the rows of offers in the order of their ranking
+rows_of_offers :
+    offer_rows [] (plain ∷ star (codes "1") ∷ []) (record { offer = 1; weight = 0; range = None } ∷ record { offer = 0; weight = 1; range = None } ∷ record { offer = 2; weight = 1; range = None } ∷ [])
+    ≡ codes "offer 0.000 */*;q=1 by none\noffer 0.001 a/b+c by none\n"
+rows_of_offers = refl
 
 -- the best offer, none that is acceptable, and none at all
 verdicts :
-    (best_rows (media ∷ []) (Some media) ≡ codes "best a/b+c;p=\"x\\\"y\"\n") × (best_rows (media ∷ []) None ≡ codes "406 Not Acceptable\n")
-    × (best_rows [] None ≡ []) × (verdict_of (media ∷ []) (Some media) ≡ Verdict.Acceptable)
-    × (verdict_of (media ∷ []) None ≡ Verdict.NotAcceptable) × (verdict_of [] None ≡ Verdict.Acceptable)
-verdicts = (refl, refl, refl, refl, refl, refl)
+    (best_of (plain ∷ media ∷ []) (record { offer = 1; weight = 1; range = Some 0 } ∷ []) ≡ Some media)
+    × (best_of (media ∷ []) (record { offer = 0; weight = 0; range = None } ∷ []) ≡ None) × (best_of [] [] ≡ None)
+    × (best_rows (media ∷ []) (Some media) ≡ codes "best a/b+c;p=\"x\\\"y\"\n") × (best_rows (media ∷ []) None ≡ codes "406 Not Acceptable\n")
+    × (best_rows [] None ≡ []) × (is_acceptable (media ∷ []) (Some media) ≡ true) × (is_acceptable (media ∷ []) None ≡ false)
+    × (is_acceptable [] None ≡ true)
+verdicts = (refl, refl, refl, refl, refl, refl, refl, refl, refl)
+
+-- the verdict is that of all values and of the last choice
+verdicts_of_heads :
+    (verdict_of true (Some true) ≡ Verdict.Acceptable) × (verdict_of true None ≡ Verdict.Acceptable)
+    × (verdict_of true (Some false) ≡ Verdict.NotAcceptable) × (verdict_of false (Some true) ≡ Verdict.NotAcceptable)
+verdicts_of_heads = (refl, refl, refl, refl)
+
+-- offers are chosen under a head with an `Accept`, and under the last if none has
+choices :
+    (chooses ([] ∷ []) (Some true) false ≡ true) × (chooses [] None true ≡ true) × (chooses [] None false ≡ false)
+    × (chooses [] (Some false) true ≡ false)
+choices = (refl, refl, refl, refl)
+
+-- after an empty line others are passed over until one that begins with `HTTP/`
+next_heads :
+    (from_status (after_head (bare_lines (codes "> a:\n>\n* b\n< HTTP/1.1 200\r\n<\n"))) ≡ codes "HTTP/1.1 200" ∷ [] ∷ [])
+    × (from_status (after_head (bare_lines (codes "a:\nHTTP/1.1 200\n"))) ≡ []) × (from_status (after_head (bare_lines (codes "\nHTTP 1\n X"))) ≡ [])
+next_heads = (refl, refl, refl)
+
+-- the row of a head, if there are many: its first line that is no remark
+titles :
+    (title_row true (codes "* a" ∷ codes "GET /\t" ∷ codes "b: c" ∷ []) ≡ codes "head GET /.\n") × (title_row true [] ≡ codes "head \n")
+    × (title_row false (codes "a" ∷ []) ≡ [])
+titles = (refl, refl, refl)
 
 -- ---- offers
 

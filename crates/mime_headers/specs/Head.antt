@@ -1,9 +1,9 @@
 -- Which lines of an input are a head, and the values of a field there (RFC 9110, 5.5 and 5.6.3; RFC 9112, 2.2 and 5).
-use Rattle.std.specs.Prelude.{ℕ, Bool, false, List, [], ◌∷◌, ◌++◌, ◌==◌, ◌||◌, map, take, drop, length, if◌then◌else◌}
+use Rattle.std.specs.Prelude.{ℕ, Bool, false, List, [], ◌∷◌, ◌++◌, ◌==◌, ◌||◌, map, take, drop, length, if◌then◌else◌, codes}
 use Rattle.std.specs.Str.{str_eq_ignore_ascii_case}
 use Rattle.std.specs.Str.Lines.{strip_carriage_return}
 use Rattle.mime.specs.Grammar.{is_space}
-use Rattle.mime_http.specs.HttpList.{trim_start, trim_end}
+use Rattle.mime_http.specs.HttpList.{trimmed}
 use Rattle.mime_io.specs.Lines.{lines_of}
 
 -- a line without the mark that `curl -v` writes before it, `>` or `<` and a space, which begins no field's name
@@ -20,12 +20,11 @@ abbrev pub until_empty : List (List ℕ) → List (List ℕ)
 until_empty [] = []
 until_empty (line ∷ lines) = if length line == 0 then [] else line ∷ until_empty lines
 
-abbrev pub head_of : List ℕ → List (List ℕ)
-head_of bytes = until_empty (map (λ line. without_mark (strip_carriage_return line)) (lines_of bytes))
+abbrev pub bare_lines : List ℕ → List (List ℕ)
+bare_lines bytes = map (λ line. without_mark (strip_carriage_return line)) (lines_of bytes)
 
--- bytes without the white space around them
-abbrev pub trimmed : List ℕ → List ℕ
-trimmed bytes = trim_end (trim_start bytes)
+abbrev pub head_of : List ℕ → List (List ℕ)
+head_of bytes = until_empty (bare_lines bytes)
 
 -- a line that begins with white space goes on with the field before it: one space stands for the white space between them (RFC 9112, 5.2)
 abbrev pub goes_on : List ℕ → Bool
@@ -46,3 +45,17 @@ values_of label (line ∷ lines) =
     if begins label line
     then (trimmed (drop (length label) line) ++ continued lines) ∷ values_of label lines
     else values_of label lines
+
+-- the lines after a head's, and, of these, those from the first of the next head on, which begins with `HTTP/`
+abbrev pub after_head : List (List ℕ) → List (List ℕ)
+after_head [] = []
+after_head (line ∷ lines) = if length line == 0 then lines else after_head lines
+
+abbrev pub from_status : List (List ℕ) → List (List ℕ)
+from_status [] = []
+from_status (line ∷ lines) = if begins (codes "http/") line then line ∷ lines else from_status lines
+
+-- what a head is called: its first line that is no remark, which begins with an asterisk, as `curl -v` prints it
+abbrev pub title_of : List (List ℕ) → List ℕ
+title_of [] = []
+title_of (line ∷ lines) = if begins (codes "*") line then title_of lines else line

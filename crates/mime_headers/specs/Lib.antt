@@ -1,5 +1,6 @@
 -- the trusted pages
 pub mod Head
+pub mod Shown
 pub mod Report
 pub mod Program
 -- private

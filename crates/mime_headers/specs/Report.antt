@@ -1,23 +1,29 @@
 -- What the program writes of a head and of offers: of each `Content-Type`, of `Accept`, and of each offer (RFC 9110, 8.3, 12.5.1 and 15.5.7).
-use Rattle.std.specs.Prelude.{◌≡◌, ◌≢◌, ℕ, ◌+◌, ◌/◌, ◌%◌, List, [], ◌∷◌, ◌++◌, ◌==◌, ◌||◌, Option, Some, None, map, flat_map, length, slice_get, replicate, if◌then◌else◌, codes}
+use Rattle.std.specs.Prelude.{◌≡◌, ◌≢◌, ℕ, ◌+◌, ◌/◌, ◌%◌, Bool, true, false, List, [], ◌∷◌, ◌++◌, ◌==◌, ◌||◌, ◌&&◌, Option, Some, None, is_some, option_map, unwrap_or, position, map, flat_map, length, slice_get, replicate, not, if◌then◌else◌, codes}
 use Rattle.std.specs.Char.{is_ascii_graphic}
-use Rattle.std.specs.Option.{option_and_then}
+use Rattle.std.specs.Fmt.{decimal}
 use Rattle.std.specs.Str.{IsUtf8}
+use Rattle.mime.specs.Bytes.{comma_byte}
 use Rattle.mime.specs.Values.{MediaType, suffix_of}
 use Rattle.mime.specs.declared.scan.fault.ParseError.{ParseError}
 use Rattle.mime.specs.declared.scan.fault.ParseError.TheVariants.{InvalidToken}
 use Rattle.mime_http.specs.Boundary.{IsBoundaryOf}
 use Rattle.mime_http.specs.HttpFaults.{HttpExplains}
-use Rattle.mime_http.specs.HttpList.{IsPrinted, Header, IsHeader}
+use Rattle.mime_http.specs.HttpList.{trimmed, IsPrinted, IsPiece, BeginsPiece, lines_or_any}
 use Rattle.mime_http.specs.HttpMediaType.{HttpReads}
 use Rattle.mime_http.specs.HttpPrinted.{field_error_text}
-use Rattle.mime_http.specs.Ranges.{weight_of, given_weight, best_offer, AreInOrder}
+use Rattle.mime_http.specs.Ranges.{weight_of, first_value}
+use Rattle.mime_http.specs.Ranking.{is_qvalue, is_lacking, IsRanking}
 use Rattle.mime_http.specs.Unescaped.{unescaped}
+use Rattle.mime_http.specs.declared.ranking.RankedOffer.{RankedOffer}
 use Rattle.mime_http.specs.declared.value.FieldError.{FieldError}
 use Rattle.mime_http.specs.declared.value.FieldError.TheVariants.{NotUtf8, Invalid, NoMemory}
 use Rattle.mime_io.specs.Lines.{row, suffix_row}
-use Rattle.mime_headers.specs.Head.{trimmed, head_of, values_of}
+use Rattle.mime_headers.specs.Head.{bare_lines, until_empty, after_head, from_status, title_of, values_of}
+use Rattle.mime_headers.specs.Shown.{without_controls}
 use Rattle.mime_headers.specs.declared.verdict.Verdict.{Verdict}
+
+-- ---- a rejected value
 
 -- bytes that may be any, as they are shown: a dot for each that isn't printable ASCII
 abbrev pub shown_byte : ℕ → ℕ
@@ -25,6 +31,27 @@ shown_byte b = if b == 32 || is_ascii_graphic b then b else 46
 
 abbrev pub shown : List ℕ → List ℕ
 shown bytes = map shown_byte bytes
+
+-- the position of the byte at fault, or the value's end if something is missing there
+abbrev pub invalid_at : List ℕ → ParseError → ℕ
+invalid_at value (InvalidToken pos byte) = pos
+invalid_at value fault = length value
+
+abbrev pub fault_at : List ℕ → FieldError → ℕ
+fault_at value (NotUtf8 pos) = pos
+fault_at value (Invalid fault) = invalid_at value fault
+fault_at value NoMemory = length value
+
+-- the rows of a rejected value of a field: its fault, and the value over a caret at the byte at fault
+abbrev pub fault_rows : List ℕ → List ℕ → FieldError → List ℕ
+fault_rows label value error =
+    row label (field_error_text error)
+    ++ (row (codes "    ") (shown value)
+    ++ row (codes "    ") (replicate (fault_at value error) 32 ++ codes "^"))
+
+-- what is read of a value, with the kept text that is printed of it
+abbrev pub ReadsAs : List ℕ → MediaType → Type 0
+ReadsAs value media = HttpReads value media × IsPrinted value media
 
 -- ---- Content-Type
 
@@ -45,38 +72,18 @@ pub data ReportsBoundary (media : MediaType) : List ℕ → Type 0 where
   bounded : (bytes : List ℕ) → IsBoundaryOf media bytes → ReportsBoundary media (row (codes "boundary ") bytes)
   unbounded : ((bytes : List ℕ) → ¬ (IsBoundaryOf media bytes)) → ReportsBoundary media []
 
--- the position of the byte at fault, or the value's end if something is missing there
-abbrev pub invalid_at : List ℕ → ParseError → ℕ
-invalid_at value (InvalidToken pos byte) = pos
-invalid_at value fault = length value
-
-abbrev pub fault_at : List ℕ → FieldError → ℕ
-fault_at value (NotUtf8 pos) = pos
-fault_at value (Invalid fault) = invalid_at value fault
-fault_at value NoMemory = length value
-
--- the rows of a rejected value: its fault, and the value over a caret at the byte at fault
-abbrev pub fault_rows : List ℕ → FieldError → List ℕ
-fault_rows value error =
-    row (codes "bad Content-Type ") (field_error_text error)
-    ++ (row (codes "    ") (shown value)
-    ++ row (codes "    ") (replicate (fault_at value error) 32 ++ codes "^"))
-
--- what is read of a value, with the kept text that is printed of it
-abbrev pub ReadsAs : List ℕ → MediaType → Type 0
-ReadsAs value media = HttpReads value media × IsPrinted value media
-
--- what is written of a value: of a media type its rows, and otherwise those of its fault
-pub data ReportsType (value : List ℕ) : List ℕ → Type 0 where
+-- what is written of a value, and whether it is good: of a media type its rows, and otherwise those of its fault
+pub data ReportsType (value : List ℕ) : List ℕ → Bool → Type 0 where
   good : (media : MediaType) (last : List ℕ) → IsUtf8 value → ReadsAs value media → ReportsBoundary media last
-      → ReportsType value (media_rows media ++ last)
-  bad : (error : FieldError) → error ≢ NoMemory → HttpExplains value error → ReportsType value (fault_rows value error)
+      → ReportsType value (media_rows media ++ last) true
+  bad : (error : FieldError) → error ≢ NoMemory → HttpExplains value error
+      → ReportsType value (fault_rows (codes "bad Content-Type ") value error) false
 
 -- and of all values, one after another, each without the white space around it (RFC 9110, 5.5)
-pub data ReportsTypes : List (List ℕ) → List ℕ → Type 0 where
-  no_more : ReportsTypes [] []
-  one_more : {value rows others : List ℕ} {values : List (List ℕ)} → ReportsType (trimmed value) rows → ReportsTypes values others
-      → ReportsTypes (value ∷ values) (rows ++ others)
+pub data ReportsTypes : List (List ℕ) → List ℕ → Bool → Type 0 where
+  no_more : ReportsTypes [] [] true
+  one_more : {value rows others : List ℕ} {is_good are_good : Bool} {values : List (List ℕ)} → ReportsType (trimmed value) rows is_good
+      → ReportsTypes values others are_good → ReportsTypes (value ∷ values) (rows ++ others) (is_good && are_good)
 
 -- the row which says that a field has no line
 abbrev pub none_row : List ℕ → List (List ℕ) → List ℕ
@@ -92,70 +99,121 @@ digit number = 48 + number % 10
 abbrev pub weight_text : ℕ → List ℕ
 weight_text weight = digit (weight / 1000) ∷ 46 ∷ digit (weight / 100) ∷ digit (weight / 10) ∷ digit weight ∷ []
 
--- the row of a range or an offer: its weight and its kept text
-abbrev pub weighed_row : List ℕ → ℕ → MediaType → List ℕ
-weighed_row label weight media = row label (weight_text weight ++ (codes " " ++ media.kept))
+-- the row of a range: its weight, its kept text, and a word if its `q` is none
+abbrev pub weight_remark : MediaType → List ℕ
+weight_remark range = if unwrap_or (option_map is_qvalue (first_value (codes "q") range.pairs)) true then [] else codes " (q is no weight)"
 
--- the rows of a header with lines: its ranges, each with its weight, and its bad entries
 abbrev pub range_row : MediaType → List ℕ
-range_row range = weighed_row (codes "Accept ") (weight_of range) range
+range_row range = codes "Accept " ++ (weight_text (weight_of range) ++ (codes " " ++ (range.kept ++ (weight_remark range ++ codes "\n"))))
 
-abbrev pub bad_row : List ℕ → List ℕ
-bad_row entry = row (codes "bad Accept ") (shown entry)
+-- what is written of an entry, and the range that it is, if it is one
+pub data ReportsEntry : List ℕ → List ℕ → List MediaType → Type 0 where
+  nothing : ReportsEntry [] [] []
+  a_range : (entry : List ℕ) (range : MediaType) → IsUtf8 entry → ReadsAs entry range → ReportsEntry entry (range_row range) (range ∷ [])
+  a_bad : (entry : List ℕ) (error : FieldError) → entry ≢ [] → error ≢ NoMemory → HttpExplains entry error
+      → ReportsEntry entry (fault_rows (codes "bad Accept ") entry error) []
 
-abbrev pub accept_rows : List (List ℕ) → Header → List ℕ
-accept_rows [] header = []
-accept_rows (line ∷ lines) header = flat_map range_row header.ranges ++ flat_map bad_row header.bad
+-- and of lines, entry by entry between the commas outside strings, each without the white space around it, and the ranges
+pub data ReportsLines : List (List ℕ) → List ℕ → List MediaType → Type 0 where
+  no_line : ReportsLines [] [] []
+  line_end : {text rows more : List ℕ} {ranges others : List MediaType} {lines : List (List ℕ)} → BeginsPiece text
+      → ReportsEntry (trimmed text) rows ranges → ReportsLines lines more others → ReportsLines (text ∷ lines) (rows ++ more) (ranges ++ others)
+  comma : {text line rows more : List ℕ} {ranges others : List MediaType} {lines : List (List ℕ)} → IsPiece text
+      → ReportsEntry (trimmed text) rows ranges → ReportsLines (line ∷ lines) more others
+      → ReportsLines ((text ++ (comma_byte ∷ line)) ∷ lines) (rows ++ more) (ranges ++ others)
 
 -- ---- offers
 
--- the row of an offer with the weight that the ranges give it; of that at a position; and if it weighs nothing
-abbrev pub offer_row : List MediaType → MediaType → List ℕ
-offer_row ranges offer = weighed_row (codes "offer ") (given_weight ranges offer) offer
+-- a range's place among the ranges, from 1, and its kept text
+abbrev pub place_text : ℕ → Option MediaType → List ℕ
+place_text at None = []
+place_text at (Some range) = decimal (at + 1) ++ (codes " " ++ range.kept)
 
-abbrev pub row_at : List MediaType → Option MediaType → List ℕ
-row_at ranges None = []
-row_at ranges (Some offer) = offer_row ranges offer
+-- which range decides, if one does; and which an offer lacks a parameter of, if it weighs nothing
+abbrev pub by_text : List MediaType → Option ℕ → List ℕ
+by_text ranges None = codes " by none"
+by_text ranges (Some at) = codes " by " ++ place_text at (slice_get ranges at)
 
-abbrev pub row_if_refused : List MediaType → MediaType → List ℕ
-row_if_refused ranges offer = if given_weight ranges offer == 0 then offer_row ranges offer else []
+abbrev pub lacking_text : List MediaType → Option ℕ → List ℕ
+lacking_text ranges None = []
+lacking_text ranges (Some at) = codes " (lacks a parameter of " ++ (place_text at (slice_get ranges at) ++ codes ")")
 
--- the rows of offers: in this order those that weigh more than 0, and then those that don't
-abbrev pub offer_rows : List MediaType → List MediaType → List ℕ → List ℕ
-offer_rows ranges offers order =
-    flat_map (λ at. row_at ranges (slice_get offers at)) order ++ flat_map (row_if_refused ranges) offers
+abbrev pub lacking_remark : List MediaType → ℕ → MediaType → List ℕ
+lacking_remark ranges weight offer = if weight == 0 then lacking_text ranges (position (is_lacking offer) ranges) else []
 
--- the best of the offers, if one is acceptable; and the row that says so, and the verdict, if there are offers
-abbrev pub best_of : List MediaType → List MediaType → Option MediaType
-best_of ranges offers = option_and_then (slice_get offers) (best_offer ranges offers)
+-- the row of an offer: its weight, its kept text, and why it weighs so much
+abbrev pub offer_row : List MediaType → RankedOffer → Option MediaType → List ℕ
+offer_row ranges one None = []
+offer_row ranges one (Some offer) =
+    codes "offer " ++ (weight_text one.weight
+    ++ (codes " " ++ (offer.kept ++ (by_text ranges one.range ++ (lacking_remark ranges one.weight offer ++ codes "\n")))))
+
+abbrev pub offer_rows : List MediaType → List MediaType → List RankedOffer → List ℕ
+offer_rows ranges offers ranking = flat_map (λ one. offer_row ranges one (slice_get offers one.offer)) ranking
+
+-- the best of the offers, which is the first, if it weighs anything; and the row that says so, if there are offers
+abbrev pub best_of : List MediaType → List RankedOffer → Option MediaType
+best_of offers [] = None
+best_of offers (one ∷ ranking) = if one.weight == 0 then None else slice_get offers one.offer
 
 abbrev pub best_rows : List MediaType → Option MediaType → List ℕ
 best_rows [] best = []
 best_rows (offer ∷ offers) None = row (codes "406 Not Acceptable") []
 best_rows (offer ∷ offers) (Some best) = row (codes "best ") best.kept
 
-abbrev pub verdict_of : List MediaType → Option MediaType → Verdict
-verdict_of [] best = Verdict.Acceptable
-verdict_of (offer ∷ offers) None = Verdict.NotAcceptable
-verdict_of (offer ∷ offers) (Some best) = Verdict.Acceptable
+-- whether an offer is acceptable, or there is none
+abbrev pub is_acceptable : List MediaType → Option MediaType → Bool
+is_acceptable offers best = length offers == 0 || is_some best
 
--- the text is the report on these values of `Content-Type`, on those of `Accept`, which are one list (5.3), and on offers
-pub record Reports (types lines : List (List ℕ)) (offers : List MediaType) (text : List ℕ) (verdict : Verdict) : Type 0 where
-  pub rows : List ℕ
-  pub header : Header
-  pub order : List ℕ
-  pub are_types : ReportsTypes types rows
-  pub is_header : IsHeader (map trimmed lines) header
-  pub is_order : AreInOrder header.ranges offers order
-  pub is_text :
-      text
-      ≡ rows ++ (none_row (codes "no Content-Type") types
-      ++ (accept_rows lines header ++ (none_row (codes "no Accept") lines
-      ++ (offer_rows header.ranges offers order
-      ++ best_rows offers (best_of header.ranges offers)))))
-  pub is_verdict : verdict ≡ verdict_of offers (best_of header.ranges offers)
+-- ---- heads
+
+-- whether offers are chosen under a head with these lines of `Accept`: if it has one, or if it is the last and none has
+abbrev pub chooses : List (List ℕ) → Option Bool → Bool → Bool
+chooses lines before is_last = not (length lines == 0) || (is_last && not (is_some before))
+
+-- what is written of the lines of `Accept`, which are one list (5.3), and of offers, if they are chosen there; and whether, in the last
+-- choice, one was acceptable
+pub data ReportsChoice (lines : List (List ℕ)) (offers : List MediaType) (before : Option Bool) : Bool → List ℕ → Option Bool → Type 0 where
+  elsewhere : ReportsChoice lines offers before false [] before
+  here : {entry_rows : List ℕ} {ranges : List MediaType} {ranking : List RankedOffer} → ReportsLines (lines_or_any lines) entry_rows ranges
+      → IsRanking ranges offers ranking
+      → ReportsChoice lines offers before true
+      (none_row (codes "no Accept") lines ++ (entry_rows ++ (offer_rows ranges offers ranking ++ best_rows offers (best_of offers ranking))))
+      (Some (is_acceptable offers (best_of offers ranking)))
+
+-- the row of a head, if there are many
+abbrev pub title_row : Bool → List (List ℕ) → List ℕ
+title_row many head = if many then row (codes "head ") (shown (title_of head)) else []
+
+-- what is written of a head
+pub record ReportsHead (offers : List MediaType) (many : Bool) (head : List (List ℕ)) (is_last : Bool) (before : Option Bool) (rows : List ℕ)
+    (are_good : Bool) (after : Option Bool) : Type 0 where
+  pub type_rows : List ℕ
+  pub choice_rows : List ℕ
+  pub are_types : ReportsTypes (values_of (codes "content-type:") head) type_rows are_good
+  pub is_choice : ReportsChoice (values_of (codes "accept:") head) offers before (chooses (values_of (codes "accept:") head) before is_last)
+      choice_rows after
+  pub is_rows :
+      rows ≡ title_row many head
+      ++ (type_rows ++ (none_row (codes "no Content-Type") (values_of (codes "content-type:") head) ++ choice_rows))
+
+-- and of all heads of lines, one after another
+pub data ReportsHeads (offers : List MediaType) (many : Bool) : List (List ℕ) → Option Bool → List ℕ → Bool → Option Bool → Type 0 where
+  last_head : {lines : List (List ℕ)} {before after : Option Bool} {rows : List ℕ} {are_good : Bool} → from_status (after_head lines) ≡ []
+      → ReportsHead offers many (until_empty lines) true before rows are_good after → ReportsHeads offers many lines before rows are_good after
+  a_head : {lines next : List (List ℕ)} {before between after : Option Bool} {rows more : List ℕ} {are_good are_more : Bool}
+      → from_status (after_head lines) ≡ next → next ≢ [] → ReportsHead offers many (until_empty lines) false before rows are_good between
+      → ReportsHeads offers many next between more are_more after → ReportsHeads offers many lines before (rows ++ more) (are_good && are_more) after
+
+-- the verdict on values that are all good or not, and on the last choice
+abbrev pub verdict_of : Bool → Option Bool → Verdict
+verdict_of are_good choice = if are_good && unwrap_or choice true then Verdict.Acceptable else Verdict.NotAcceptable
 
 -- the text is the report on these bytes and offers
-abbrev pub IsReportOf : List MediaType → List ℕ → List ℕ → Verdict → Type 0
-IsReportOf offers bytes text verdict =
-    Reports (values_of (codes "content-type:") (head_of bytes)) (values_of (codes "accept:") (head_of bytes)) offers text verdict
+pub record IsReportOf (offers : List MediaType) (bytes text : List ℕ) (verdict : Verdict) : Type 0 where
+  pub rows : List ℕ
+  pub are_good : Bool
+  pub choice : Option Bool
+  pub are_heads : ReportsHeads offers (not (length (from_status (after_head (bare_lines bytes))) == 0)) (bare_lines bytes) None rows are_good choice
+  pub is_text : text ≡ without_controls rows
+  pub is_verdict : verdict ≡ verdict_of are_good choice

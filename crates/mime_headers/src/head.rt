@@ -1,11 +1,11 @@
 //! A head: its lines, and the values of a field.
 
-ghost use Rattle.std.specs.Prelude.{◌≡◌, ◌<◌, ◌∷◌, ◌++◌, ◌==◌, [], None, Some, length, map, OnOk, IfOk, IfSome, MatchOption};
+ghost use Rattle.std.specs.Prelude.{◌≡◌, ◌≢◌, ◌<◌, ◌≤◌, ◌∷◌, ◌++◌, ◌==◌, [], None, Some, length, map, OnOk, IfOk, IfSome, MatchOption};
 ghost use Rattle.std.specs.Str.Lines.{strip_carriage_return};
 ghost use Rattle.std.specs.Vec.{vec_items};
 ghost use Rattle.mime.specs.Grammar.{is_space};
-ghost use Rattle.mime_http.specs.HttpList.{trim_start, trim_end};
-ghost use Rattle.mime_headers.specs.Head.{without_space, without_mark, head_of, trimmed, goes_on, continued, begins, values_of};
+ghost use Rattle.mime_http.specs.HttpList.{trim_start, trim_end, trimmed};
+ghost use Rattle.mime_headers.specs.Head.{without_space, without_mark, bare_lines, head_of, after_head, from_status, title_of, goes_on, continued, begins, values_of};
 
 use mime_io::first_line;
 use std::alloc::{AllocError, Global};
@@ -40,14 +40,22 @@ fn unmarked(line: &[u8]) -> &[u8]
     }
 }
 
+/// The first line of an input, without its end and its mark, and the rest.
+fn bare_line(input: &[u8]) -> Option<(&[u8], &[u8])>
+    ensures lines { MatchOption result (bare_lines input.now ≡ []) (λ cut. bare_lines input.now ≡ cut.0.now ∷ bare_lines cut.1.now) }
+    ensures shorter { IfSome result (λ cut. length cut.1.now < length input.now) }
+{
+    let (line, rest) = first_line(input)?;
+    Some((unmarked(unreturned(line)), rest))
+}
+
 /// The first line of a head and the input after it, or `None` if the head has ended: with a line that has nothing but a mark, or with
 /// the input.
 fn head_line(input: &[u8]) -> Option<(&[u8], &[u8])>
     ensures lines { MatchOption result (head_of input.now ≡ []) (λ cut. head_of input.now ≡ cut.0.now ∷ head_of cut.1.now) }
     ensures shorter { IfSome result (λ cut. length cut.1.now < length input.now) }
 {
-    let (line, rest) = first_line(input)?;
-    let line = unmarked(unreturned(line));
+    let (line, rest) = bare_line(input)?;
     if line.is_empty() {
         None
     } else {
@@ -156,4 +164,71 @@ pub(crate) fn values_of(
         rest = more;
     }
     Ok(values)
+}
+
+/// An input without the head at its start, and the empty line that ends it.
+fn skip_head(input: &[u8]) -> &[u8]
+    ensures lines { bare_lines result.now ≡ after_head (bare_lines input.now) }
+    ensures shorter { length result.now ≤ length input.now }
+{
+    let mut rest = input;
+    while let Some((line, more)) = bare_line(rest) {
+        if line.is_empty() {
+            return more;
+        }
+        rest = more;
+    }
+    rest
+}
+
+/// What is left after a line of a head, and the others.
+fn skip_lines<'a>(line: &[u8], rest: &'a [u8]) -> &'a [u8]
+    ensures lines { bare_lines result.now ≡ after_head (line.now ∷ bare_lines rest.now) }
+    ensures shorter { length result.now ≤ length rest.now }
+{
+    if line.is_empty() {
+        rest
+    } else {
+        skip_head(rest)
+    }
+}
+
+/// An input from its first line on that begins a head, if there is one.
+fn from_status(input: &[u8]) -> Option<&[u8]>
+    ensures lines { MatchOption result (from_status (bare_lines input.now) ≡ [])
+        (λ next. (from_status (bare_lines input.now) ≡ bare_lines next.now) × (bare_lines next.now ≢ [])) }
+    ensures shorter { IfSome result (λ next. length next.now ≤ length input.now) }
+{
+    let mut rest = input;
+    while let Some((line, more)) = bare_line(rest) {
+        if begins(b"http/", line) {
+            return Some(rest);
+        }
+        rest = more;
+    }
+    None
+}
+
+/// An input from the next head on, if there is one.
+pub(crate) fn next_head(input: &[u8]) -> Option<&[u8]>
+    ensures lines { MatchOption result (from_status (after_head (bare_lines input.now)) ≡ [])
+        (λ next. (from_status (after_head (bare_lines input.now)) ≡ bare_lines next.now) × (bare_lines next.now ≢ [])) }
+    ensures shorter { IfSome result (λ next. length next.now < length input.now) }
+{
+    let (line, rest) = bare_line(input)?;
+    from_status(skip_lines(line, rest))
+}
+
+/// What a head is called.
+pub(crate) fn title_of(input: &[u8]) -> &[u8]
+    ensures { result.now ≡ title_of (head_of input.now) }
+{
+    let mut rest = input;
+    while let Some((line, more)) = head_line(rest) {
+        if !begins(b"*", line) {
+            return line;
+        }
+        rest = more;
+    }
+    &[]
 }

@@ -1,5 +1,5 @@
-//! Reads the head of a request or of an answer, and reports what its `Content-Type` and its `Accept` say, and which of the offers that
-//! the arguments name is the best.
+//! Reads the head of a request or of an answer, and reports what its `Content-Type` and its `Accept` say, which of the offers that the
+//! arguments name is the best, and why.
 #![tactic(auto)]
 
 ghost use Rattle.std.specs.Prelude.{◌≡◌, OnErr};
@@ -7,22 +7,26 @@ ghost use Rattle.std.specs.Process.{exit_status};
 
 mod head;
 mod offers;
+mod output;
 mod program;
 mod report;
+mod shown;
 #[cfg(test)]
 mod tests;
 mod verdict;
 
-use crate::offers::{read_offers, refused};
+use crate::offers::{BadOffer, read_offers};
+use crate::output::Output;
 pub use crate::program::run;
 pub use crate::verdict::Verdict;
-use mime_io::{Device, RunError, ended};
-use std::env;
+use mime_io::{Device, RunError};
 use std::process::ExitCode;
+use std::{env, io};
 
 fn main(rt: HostRuntime) -> ExitCode {
-    let Ok(arguments) = env::args(&rt) else {
-        return ended(&rt, Err(RunError::NoMemory));
+    let arguments = match env::args(&rt) {
+        Ok(arguments) => arguments,
+        Err(error) => return unread(&rt, error),
     };
     let offers = match read_offers(rt.alloc(), arguments) {
         Ok(offers) => offers,
@@ -33,22 +37,58 @@ fn main(rt: HostRuntime) -> ExitCode {
         failed: false,
     };
     let mut output = Device {
-        inner: rt.stdout(),
+        inner: Output {
+            inner: rt.stdout(),
+            is_closed: false,
+        },
         failed: false,
     };
-    let outcome = run(rt.alloc(), &mut input, &mut output, &offers);
-    status(&rt, outcome)
+    match run(rt.alloc(), &mut input, &mut output, &offers) {
+        Err(RunError::Write) if output.inner.is_closed => ExitCode::from(CLOSED),
+        outcome => status(&rt, outcome),
+    }
 }
+
+/// The status of a program that wrote to a pipe which nobody reads, as a shell has it.
+const CLOSED: u8 = 141;
 
 /// The exit status of a run, whose error is printed on standard error.
 fn status(rt: &impl Eprint, outcome: Result<Verdict, RunError>) -> ExitCode
     ensures acceptable { outcome ≡ Ok Verdict.Acceptable → exit_status result ≡ 0 }
     ensures not_acceptable { outcome ≡ Ok Verdict.NotAcceptable → exit_status result ≡ 1 }
-    ensures stopped { OnErr outcome (exit_status result ≡ 1) }
+    ensures stopped { OnErr outcome (exit_status result ≡ 2) }
 {
     match outcome {
-        Ok(Verdict::Acceptable) => ended(rt, Ok(())),
+        Ok(Verdict::Acceptable) => ExitCode::SUCCESS,
         Ok(Verdict::NotAcceptable) => ExitCode::FAILURE,
-        Err(error) => ended(rt, Err(error)),
+        Err(error) => {
+            let _ = eprintln!(rt; "mime_headers: {error}");
+            ExitCode::from(2)
+        }
+    }
+}
+
+/// The exit status if the arguments can't be taken in, which is said on standard error.
+fn unread(rt: &impl Eprint, error: io::Error) -> ExitCode
+    ensures { exit_status result ≡ 2 }
+{
+    if error.kind() == io::ErrorKind::InvalidData {
+        let _ = eprintln!(rt; "mime_headers: an offer isn't UTF-8");
+        return ExitCode::from(2);
+    }
+    status(rt, Err(RunError::NoMemory))
+}
+
+/// The exit status if the arguments aren't offers, which is said on standard error.
+fn refused(rt: &impl Eprint, error: BadOffer) -> ExitCode
+    ensures { exit_status result ≡ 2 }
+{
+    match error {
+        BadOffer::NoMemory => status(rt, Err(RunError::NoMemory)),
+        BadOffer::Fault(word, fault) => {
+            let _ = eprintln!(rt; "mime_headers: bad offer {word}: {fault}");
+            let _ = eprintln!(rt; "usage: mime_headers [OFFER..]");
+            ExitCode::from(2)
+        }
     }
 }

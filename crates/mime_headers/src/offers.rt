@@ -1,7 +1,6 @@
 //! The offers that the arguments name.
 
-ghost use Rattle.std.specs.Prelude.{◌≡◌, ◌≢◌, ◌∷◌, ℕ, List, drop, take, map, string_bytes, IfOk, IfErr, MatchResult};
-ghost use Rattle.std.specs.Process.{exit_status};
+ghost use Rattle.std.specs.Prelude.{◌∷◌, ℕ, List, drop, take, map, string_bytes, IfOk, IfErr, MatchResult};
 ghost use Rattle.std.specs.Vec.{vec_items};
 ghost use Rattle.std.specs.Vec.Iter.{into_iter_items, into_iter_len};
 ghost use Rattle.mime_headers.specs.Program.{AreOffers, AreRefused};
@@ -9,10 +8,8 @@ ghost use Rattle.mime_headers.specs.Report.{ReadsAs};
 
 use mime::Mime;
 use mime_http::{FieldError, content_type};
-use mime_io::{RunError, ended};
 use std::alloc::Global;
 use std::env::Args;
-use std::process::ExitCode;
 
 /// Why the arguments aren't offers.
 #[derive(Drop)]
@@ -61,20 +58,5 @@ fn offer_of(alloc: Global, word: String) -> Result<Mime, BadOffer>
         Ok(offer) => Ok(offer),
         Err(FieldError::NoMemory) => Err(BadOffer::NoMemory),
         Err(error) => Err(BadOffer::Fault(word, error)),
-    }
-}
-
-/// The exit status if the arguments aren't offers, which is said on standard error.
-pub(crate) fn refused(rt: &impl Eprint, error: BadOffer) -> ExitCode
-    ensures memory { error ≡ BadOffer.NoMemory → exit_status result ≡ 1 }
-    ensures other { error ≢ BadOffer.NoMemory → exit_status result ≡ 2 }
-{
-    match error {
-        BadOffer::NoMemory => ended(rt, Err(RunError::NoMemory)),
-        BadOffer::Fault(word, fault) => {
-            let _ = eprintln!(rt; "bad offer {word}: {fault}");
-            let _ = eprintln!(rt; "usage: mime_headers [OFFER..]");
-            ExitCode::from(2)
-        }
     }
 }

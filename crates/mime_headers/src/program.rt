@@ -11,8 +11,8 @@ use mime::Mime;
 use mime_io::{RunError, Sink, Source, read_to_limit, write_report};
 use std::alloc::Global;
 
-/// Reads a source to its end, and then writes the report on the head that it read, and on the offers, to a sink. Returns whether one of
-/// the offers is acceptable.
+/// Reads a source to its end, and then writes the report on the head that it read, and on the offers, to a sink. Returns the
+/// verdict.
 ///
 /// # Errors
 /// `Read` if the source fails, and `Write` if the sink does; no call is made again. `TooLong` if the source

@@ -1,21 +1,24 @@
 //! The report on a head.
 
-ghost use Rattle.std.specs.Prelude.{◌≡◌, ◌++◌, map, flat_map, slice_get, replicate, OnOk, IfOk, option_map, codes};
+ghost use Rattle.std.specs.Prelude.{◌≡◌, ◌++◌, [], ◌∷◌, ℕ, List, Some, map, flat_map, slice_get, replicate, OnOk, IfOk, option_map, codes};
 ghost use Rattle.std.specs.Vec.{vec_items};
 ghost use Rattle.mime.specs.Values.{suffix_of};
-ghost use Rattle.mime_http.specs.HttpFaults.{HttpExplains};
-ghost use Rattle.mime_http.specs.HttpList.{IsHeader};
+ghost use Rattle.mime_http.specs.HttpList.{trimmed, lines_or_any};
 ghost use Rattle.mime_io.specs.Inner.{Adds};
 ghost use Rattle.mime_io.specs.Lines.{row, suffix_row};
-ghost use Rattle.mime_headers.specs.Head.{trimmed};
-ghost use Rattle.mime_headers.specs.Report.{shown_byte, shown, param_row, media_rows, ReportsBoundary, fault_at, fault_rows, ReportsType, ReportsTypes, none_row};
-ghost use Rattle.mime_headers.specs.Report.{digit, weight_text, weighed_row, range_row, bad_row, accept_rows, row_at, row_if_refused, best_of, best_rows, verdict_of, Reports, IsReportOf};
-ghost use Rattle.mime_headers.specs.Inner.{AddsOffers};
+ghost use Rattle.mime_headers.specs.Report.{shown_byte, shown, param_row, media_rows, ReportsBoundary, fault_at, fault_rows, ReportsType, ReportsTypes, none_row, digit, weight_text};
+ghost use Rattle.mime_headers.specs.Report.{weight_remark, range_row, place_text, by_text, lacking_text, lacking_remark, offer_row, offer_rows, best_of, best_rows, is_acceptable, verdict_of, chooses, title_row, ReportsChoice, ReportsHead, IsReportOf};
+ghost use Rattle.mime_headers.specs.Head.{head_of};
+ghost use Rattle.mime_headers.specs.Inner.{AddsEntry, AddsLines};
 
-use crate::head::{trimmed, values_of};
+use crate::head::{next_head, title_of, trimmed, values_of};
+use crate::shown::without_controls;
 use crate::verdict::Verdict;
 use mime::{Mime, ParseError};
-use mime_http::{Accept, FieldError, boundary, content_type, unescape, weight_of};
+use mime_http::{
+    FieldError, RankedOffer, boundary, content_type, first_entry, has_weight, lacking, rank_offers,
+    unescape, weight_of,
+};
 use std::alloc::{AllocError, Global};
 
 /// A report, and its verdict on the offers.
@@ -25,100 +28,119 @@ pub(crate) struct Report {
     pub(crate) verdict: Verdict,
 }
 
-/// The report on a head and on offers.
+/// The report on the heads of an input, and on offers.
 pub(crate) fn report_of(alloc: Global, input: &[u8], offers: &[Mime]) -> Result<Report, AllocError>
     ensures { IfOk result (λ report. IsReportOf (map (λ offer. offer.media) offers.now) input.now (vec_items report.text) report.verdict) }
 {
-    let types = values_of(alloc, b"content-type:", input)?;
-    let lines = values_of(alloc, b"accept:", input)?;
-    report_on(alloc, types.as_slice(), lines.as_slice(), offers)
-}
-
-/// The report on the values of `Content-Type`, on those of `Accept`, and on offers.
-fn report_on(
-    alloc: Global,
-    types: &[Vec<u8>],
-    lines: &[Vec<u8>],
-    offers: &[Mime],
-) -> Result<Report, AllocError>
-    ensures { IfOk result (λ report. Reports (map vec_items types.now) (map vec_items lines.now) (map (λ offer. offer.media) offers.now)
-        (vec_items report.text) report.verdict) }
-{
-    let accept = accept_of(alloc, lines)?;
-    let best = best_of(&accept, offers);
     let mut text = Vec::new(alloc);
-    push_types(alloc, &mut text, types)?;
-    push_none(&mut text, "no Content-Type", types)?;
-    push_accept(&mut text, lines, &accept)?;
-    push_none(&mut text, "no Accept", lines)?;
-    push_offers(alloc, &mut text, &accept, offers)?;
-    push_best(&mut text, offers, best)?;
-    let verdict = verdict_of(offers, best);
+    let mut are_good = true;
+    let mut choice = None;
+    let mut head = input;
+    let mut next = next_head(input);
+    let many = next.is_some();
+    while let Some(rest) = next {
+        are_good &= push_head(alloc, &mut text, offers, many, head, false, &mut choice)?;
+        head = rest;
+        next = next_head(rest);
+    }
+    are_good &= push_head(alloc, &mut text, offers, many, head, true, &mut choice)?;
+    let text = without_controls(alloc, text)?;
+    let verdict = verdict_of(are_good, choice);
     Ok(Report { text, verdict })
 }
 
-/// Some values, each without the white space around it.
-fn slices_of<'v>(alloc: Global, values: &'v [Vec<u8>]) -> Result<Vec<&'v [u8]>, AllocError>
-    ensures { IfOk result (λ lines. map (λ line. line.now) (vec_items lines) ≡ map trimmed (map vec_items values.now)) }
+/// Adds the rows of a head, and sets whether an offer was acceptable, if it is asked there. Returns whether each `Content-Type` is good.
+fn push_head(
+    alloc: Global,
+    report: &mut Vec<u8>,
+    offers: &[Mime],
+    many: bool,
+    head: &[u8],
+    is_last: bool,
+    choice: &mut Option<bool>,
+) -> Result<bool, AllocError>
+    ensures { IfOk result (λ are_good. Adds (λ rows. ReportsHead (map (λ offer. offer.media) offers.now) many (head_of head.now) is_last choice.old rows
+        are_good choice.new) (vec_items report.old) (vec_items report.new)) }
 {
-    let mut slices = Vec::new(alloc);
-    for value in values {
-        slices.push(trimmed(value))?;
+    let types = values_of(alloc, b"content-type:", head)?;
+    let lines = values_of(alloc, b"accept:", head)?;
+    push_title(report, many, head)?;
+    let are_good = push_types(alloc, report, &types)?;
+    push_none(report, "no Content-Type", &types)?;
+    let is_here = chooses(&lines, *choice, is_last);
+    *choice = push_choice(alloc, report, &lines, offers, *choice, is_here)?;
+    Ok(are_good)
+}
+
+/// Adds the row of a head, if there are many.
+fn push_title(report: &mut Vec<u8>, many: bool, head: &[u8]) -> Result<(), AllocError>
+    ensures { OnOk result (vec_items report.new ≡ vec_items report.old ++ title_row many (head_of head.now)) }
+{
+    if many {
+        push_shown(report, "head ", title_of(head))
+    } else {
+        Ok(())
     }
-    Ok(slices)
 }
 
-/// What the values of `Accept` accept.
-fn accept_of(alloc: Global, values: &[Vec<u8>]) -> Result<Accept, AllocError>
-    ensures { IfOk result (λ accept. IsHeader (map trimmed (map vec_items values.now)) accept) }
+/// Whether offers are chosen under a head with these lines of `Accept`.
+fn chooses(lines: &[Vec<u8>], before: Option<bool>, is_last: bool) -> bool
+    ensures { result ≡ chooses (map vec_items lines.now) before is_last }
 {
-    let lines = slices_of(alloc, values)?;
-    Accept::from_lines(alloc, &lines)
+    !lines.is_empty() || (is_last && before.is_none())
 }
 
-/// Adds the rows of each value of `Content-Type`.
-fn push_types(alloc: Global, report: &mut Vec<u8>, values: &[Vec<u8>]) -> Result<(), AllocError>
-    ensures { OnOk result (Adds (ReportsTypes (map vec_items values.now)) (vec_items report.old) (vec_items report.new)) }
+/// Adds the rows of the lines of `Accept`, and of offers, if they are chosen here. Returns whether one was acceptable in the last choice.
+fn push_choice(
+    alloc: Global,
+    report: &mut Vec<u8>,
+    lines: &[Vec<u8>],
+    offers: &[Mime],
+    before: Option<bool>,
+    is_here: bool,
+) -> Result<Option<bool>, AllocError>
+    ensures { IfOk result (λ after. Adds (λ rows. ReportsChoice (map vec_items lines.now) (map (λ offer. offer.media) offers.now) before is_here rows after)
+        (vec_items report.old) (vec_items report.new)) }
 {
-    for value in values {
-        push_type(alloc, report, value.as_slice())?;
+    if !is_here {
+        return Ok(before);
     }
-    Ok(())
+    let mut ranges = Vec::new(alloc);
+    push_none(report, "no Accept", lines)?;
+    push_lines(alloc, report, &mut ranges, lines)?;
+    let ranking = rank_offers(alloc, &ranges, offers)?;
+    push_offers(alloc, report, &ranges, offers, &ranking)?;
+    let best = best_of(offers, &ranking);
+    push_best(report, offers, best)?;
+    Ok(Some(is_acceptable(offers, best)))
 }
 
-/// Adds the rows of a value of `Content-Type`, without the white space around it.
-fn push_type(alloc: Global, report: &mut Vec<u8>, value: &[u8]) -> Result<(), AllocError>
-    ensures { OnOk result (Adds (ReportsType (trimmed value.now)) (vec_items report.old) (vec_items report.new)) }
+/// Adds the rows of each value of `Content-Type`. Returns whether all are good.
+fn push_types(alloc: Global, report: &mut Vec<u8>, values: &[Vec<u8>]) -> Result<bool, AllocError>
+    ensures { IfOk result (λ are_good. Adds (λ rows. ReportsTypes (map vec_items values.now) rows are_good) (vec_items report.old) (vec_items report.new)) }
 {
-    push_value(alloc, report, trimmed(value))
+    let mut are_good = true;
+    for value in values {
+        are_good &= push_type(alloc, report, trimmed(value))?;
+    }
+    Ok(are_good)
 }
 
-/// Adds the rows of a media type, or of the value's fault.
-fn push_value(alloc: Global, report: &mut Vec<u8>, value: &[u8]) -> Result<(), AllocError>
-    ensures { OnOk result (Adds (ReportsType value.now) (vec_items report.old) (vec_items report.new)) }
+/// Adds the rows of a media type, or of the value's fault. Returns whether it is one.
+fn push_type(alloc: Global, report: &mut Vec<u8>, value: &[u8]) -> Result<bool, AllocError>
+    ensures { IfOk result (λ is_good. Adds (λ rows. ReportsType value.now rows is_good) (vec_items report.old) (vec_items report.new)) }
 {
     match content_type(alloc, value) {
         Ok(mime) => {
             push_media(report, &mime)?;
-            push_boundary(alloc, report, &mime)
+            push_boundary(alloc, report, &mime)?;
+            Ok(true)
         }
-        Err(error) => push_rejected(alloc, report, value, error),
-    }
-}
-
-/// Adds the rows of a value that is rejected for this error, which is its fault, unless memory ran out.
-fn push_rejected(
-    alloc: Global,
-    report: &mut Vec<u8>,
-    value: &[u8],
-    error: FieldError,
-) -> Result<(), AllocError>
-    requires { HttpExplains value.now error }
-    ensures { OnOk result (Adds (ReportsType value.now) (vec_items report.old) (vec_items report.new)) }
-{
-    match error {
-        FieldError::NoMemory => Err(AllocError),
-        _ => push_fault(alloc, report, value, error),
+        Err(FieldError::NoMemory) => Err(AllocError),
+        Err(error) => {
+            push_fault(alloc, report, "bad Content-Type ", value, error)?;
+            Ok(false)
+        }
     }
 }
 
@@ -185,22 +207,23 @@ fn fault_at(value: &[u8], error: FieldError) -> usize
     }
 }
 
-/// Adds the rows of a value and its fault.
+/// Adds the rows of a rejected value of a field.
 fn push_fault(
     alloc: Global,
     report: &mut Vec<u8>,
+    label: &str,
     value: &[u8],
     error: FieldError,
 ) -> Result<(), AllocError>
-    ensures { OnOk result (vec_items report.new ≡ vec_items report.old ++ fault_rows value.now error) }
+    ensures { OnOk result (vec_items report.new ≡ vec_items report.old ++ fault_rows label.now value.now error) }
 {
     let text = format!(in alloc; "{error}")?;
-    push_row(report, "bad Content-Type ", text.as_bytes())?;
+    push_row(report, label, text.as_bytes())?;
     push_shown(report, "    ", value)?;
     push_caret(report, fault_at(value, error))
 }
 
-/// Adds a row with a caret so many bytes after its margin.
+/// The position of the byte at fault/// Adds a row with a caret so many bytes after its margin.
 fn push_caret(report: &mut Vec<u8>, at: usize) -> Result<(), AllocError>
     ensures { OnOk result (vec_items report.new ≡ vec_items report.old ++ row (codes "    ") (replicate at 32 ++ codes "^")) }
 {
@@ -244,51 +267,6 @@ fn push_none(report: &mut Vec<u8>, label: &str, values: &[Vec<u8>]) -> Result<()
     }
 }
 
-/// Adds the rows of an `Accept` header with these lines.
-fn push_accept(report: &mut Vec<u8>, lines: &[Vec<u8>], accept: &Accept) -> Result<(), AllocError>
-    ensures { OnOk result (vec_items report.new ≡ vec_items report.old ++ accept_rows (map vec_items lines.now) accept.now) }
-{
-    if lines.is_empty() {
-        return Ok(());
-    }
-    push_ranges(report, accept.ranges())?;
-    push_bad(report, accept.bad())
-}
-
-/// Adds the row of each range.
-fn push_ranges(report: &mut Vec<u8>, ranges: &[Mime]) -> Result<(), AllocError>
-    ensures { OnOk result (vec_items report.new ≡ vec_items report.old ++ flat_map range_row (map (λ range. range.media) ranges.now)) }
-{
-    for range in ranges {
-        push_weighed(report, "Accept ", weight_of(range), range)?;
-    }
-    Ok(())
-}
-
-/// Adds the row of each bad entry.
-fn push_bad(report: &mut Vec<u8>, entries: &[Vec<u8>]) -> Result<(), AllocError>
-    ensures { OnOk result (vec_items report.new ≡ vec_items report.old ++ flat_map bad_row (map vec_items entries.now)) }
-{
-    for entry in entries {
-        push_shown(report, "bad Accept ", entry)?;
-    }
-    Ok(())
-}
-
-/// Adds the row of a range or an offer.
-fn push_weighed(
-    report: &mut Vec<u8>,
-    label: &str,
-    weight: u16,
-    mime: &Mime,
-) -> Result<(), AllocError>
-    ensures { OnOk result (vec_items report.new ≡ vec_items report.old ++ weighed_row label.now weight mime.now.media) }
-{
-    push(report, label)?;
-    push_weight(report, weight)?;
-    push_row(report, " ", mime.as_str().as_bytes())
-}
-
 /// The last digit of a number.
 fn digit(number: u16) -> u8
     ensures { result ≡ digit number }
@@ -308,82 +286,225 @@ fn push_weight(report: &mut Vec<u8>, weight: u16) -> Result<(), AllocError>
     Ok(())
 }
 
-/// Adds the rows of offers: those that weigh more than 0, the best first, and then the others.
-fn push_offers(
+/// Adds the rows of the lines of `Accept`, or of one that accepts everything, and takes their ranges.
+fn push_lines(
     alloc: Global,
     report: &mut Vec<u8>,
-    accept: &Accept,
-    offers: &[Mime],
+    ranges: &mut Vec<Mime>,
+    lines: &[Vec<u8>],
 ) -> Result<(), AllocError>
-    ensures { OnOk result (AddsOffers accept.now.ranges (map (λ offer. offer.media) offers.now) (vec_items report.old) (vec_items report.new)) }
+    ensures { OnOk result (AddsLines (lines_or_any (map vec_items lines.now)) [] (vec_items report.old) (vec_items report.new)
+        (map (λ range. range.media) (vec_items ranges.old)) (map (λ range. range.media) (vec_items ranges.new))) }
 {
-    let order = accept.order(alloc, offers)?;
-    push_in_order(report, accept, offers, order.as_slice())?;
-    push_refused(report, accept, offers)
-}
-
-/// Adds the rows of the offers at these positions.
-fn push_in_order(
-    report: &mut Vec<u8>,
-    accept: &Accept,
-    offers: &[Mime],
-    order: &[usize],
-) -> Result<(), AllocError>
-    ensures { OnOk result (vec_items report.new ≡ vec_items report.old
-        ++ flat_map (λ at. row_at accept.now.ranges (slice_get (map (λ offer. offer.media) offers.now) at)) order.now) }
-{
-    for &at in order {
-        push_at(report, accept, offers, at)?;
+    if lines.is_empty() {
+        return push_line(alloc, report, ranges, b"*/*");
+    }
+    for line in lines {
+        push_line(alloc, report, ranges, line)?;
     }
     Ok(())
 }
 
-/// Adds the row of the offer at a position, if there is one.
-fn push_at(
+/// Adds the rows of a line's entries, and takes its ranges.
+fn push_line(
+    alloc: Global,
     report: &mut Vec<u8>,
-    accept: &Accept,
+    ranges: &mut Vec<Mime>,
+    line: &[u8],
+) -> Result<(), AllocError>
+    ensures { (lines : List (List ℕ)) → OnOk result (AddsLines (line.now ∷ lines) lines (vec_items report.old) (vec_items report.new)
+        (map (λ range. range.media) (vec_items ranges.old)) (map (λ range. range.media) (vec_items ranges.new))) }
+{
+    let mut left = Some(line);
+    while let Some(text) = left {
+        let (entry, rest) = first_entry(text);
+        push_entry(alloc, report, ranges, trimmed(entry))?;
+        left = rest;
+    }
+    Ok(())
+}
+
+/// Adds the rows of an entry, and takes it if it is a range.
+fn push_entry(
+    alloc: Global,
+    report: &mut Vec<u8>,
+    ranges: &mut Vec<Mime>,
+    entry: &[u8],
+) -> Result<(), AllocError>
+    ensures { OnOk result (AddsEntry entry.now (vec_items report.old) (vec_items report.new)
+        (map (λ range. range.media) (vec_items ranges.old)) (map (λ range. range.media) (vec_items ranges.new))) }
+{
+    if entry.is_empty() {
+        return Ok(());
+    }
+    match content_type(alloc, entry) {
+        Ok(range) => {
+            push_range(report, &range)?;
+            ranges.push(range)?;
+            Ok(())
+        }
+        Err(FieldError::NoMemory) => Err(AllocError),
+        Err(error) => push_fault(alloc, report, "bad Accept ", entry, error),
+    }
+}
+
+/// Adds the row of a range.
+fn push_range(report: &mut Vec<u8>, range: &Mime) -> Result<(), AllocError>
+    ensures { OnOk result (vec_items report.new ≡ vec_items report.old ++ range_row range.now.media) }
+{
+    push(report, "Accept ")?;
+    push_weight(report, weight_of(range))?;
+    push(report, " ")?;
+    push(report, range.as_str())?;
+    push(report, weight_remark(range))?;
+    push(report, "\n")
+}
+
+/// The word that a range's `q` is no weight, if it isn't.
+fn weight_remark(range: &Mime) -> &'static str
+    ensures { result.now ≡ weight_remark range.now.media }
+{
+    if has_weight(range) {
+        ""
+    } else {
+        " (q is no weight)"
+    }
+}
+
+/// Adds the rows of offers in the order in which they are ranked.
+fn push_offers(
+    alloc: Global,
+    report: &mut Vec<u8>,
+    ranges: &[Mime],
     offers: &[Mime],
-    at: usize,
+    ranking: &[RankedOffer],
 ) -> Result<(), AllocError>
     ensures { OnOk result (vec_items report.new ≡ vec_items report.old
-        ++ row_at accept.now.ranges (slice_get (map (λ offer. offer.media) offers.now) at)) }
+        ++ offer_rows (map (λ range. range.media) ranges.now) (map (λ offer. offer.media) offers.now) ranking.now) }
 {
-    match offers.get(at) {
-        Some(offer) => push_weighed(report, "offer ", accept.weight(offer), offer),
+    for one in ranking {
+        push_offer(alloc, report, ranges, offers, one)?;
+    }
+    Ok(())
+}
+
+/// Adds the row of an offer, if there is one.
+fn push_offer(
+    alloc: Global,
+    report: &mut Vec<u8>,
+    ranges: &[Mime],
+    offers: &[Mime],
+    one: &RankedOffer,
+) -> Result<(), AllocError>
+    ensures { OnOk result (vec_items report.new ≡ vec_items report.old
+        ++ offer_row (map (λ range. range.media) ranges.now) one.now (slice_get (map (λ offer. offer.media) offers.now) one.now.offer)) }
+{
+    match offers.get(one.offer) {
+        Some(offer) => push_ranked(alloc, report, ranges, offer, one),
         None => Ok(()),
     }
 }
 
-/// Adds the rows of the offers that weigh nothing.
-fn push_refused(report: &mut Vec<u8>, accept: &Accept, offers: &[Mime]) -> Result<(), AllocError>
-    ensures { OnOk result (vec_items report.new ≡ vec_items report.old
-        ++ flat_map (row_if_refused accept.now.ranges) (map (λ offer. offer.media) offers.now)) }
+/// Adds the row of this offer.
+fn push_ranked(
+    alloc: Global,
+    report: &mut Vec<u8>,
+    ranges: &[Mime],
+    offer: &Mime,
+    one: &RankedOffer,
+) -> Result<(), AllocError>
+    ensures { OnOk result (vec_items report.new ≡ vec_items report.old ++ offer_row (map (λ range. range.media) ranges.now) one.now (Some offer.now.media)) }
 {
-    for offer in offers {
-        push_if_refused(report, accept, offer)?;
-    }
-    Ok(())
+    push(report, "offer ")?;
+    push_weight(report, one.weight)?;
+    push(report, " ")?;
+    push(report, offer.as_str())?;
+    push_by(alloc, report, ranges, one.range)?;
+    push_remark(alloc, report, ranges, one.weight, offer)?;
+    push(report, "\n")
 }
 
-/// Adds the row of an offer if it weighs nothing.
-fn push_if_refused(report: &mut Vec<u8>, accept: &Accept, offer: &Mime) -> Result<(), AllocError>
-    ensures { OnOk result (vec_items report.new ≡ vec_items report.old ++ row_if_refused accept.now.ranges offer.now.media) }
+/// Adds which range decides, if one does.
+fn push_by(
+    alloc: Global,
+    report: &mut Vec<u8>,
+    ranges: &[Mime],
+    at: Option<usize>,
+) -> Result<(), AllocError>
+    ensures { OnOk result (vec_items report.new ≡ vec_items report.old ++ by_text (map (λ range. range.media) ranges.now) at) }
 {
-    let weight = accept.weight(offer);
-    if weight == 0 {
-        push_weighed(report, "offer ", weight, offer)
-    } else {
-        Ok(())
+    match at {
+        Some(at) => {
+            push(report, " by ")?;
+            push_place(alloc, report, ranges, at)
+        }
+        None => push(report, " by none"),
     }
+}
+
+/// Adds which range an offer lacks a parameter of, if it weighs nothing.
+fn push_remark(
+    alloc: Global,
+    report: &mut Vec<u8>,
+    ranges: &[Mime],
+    weight: u16,
+    offer: &Mime,
+) -> Result<(), AllocError>
+    ensures { OnOk result (vec_items report.new ≡ vec_items report.old
+        ++ lacking_remark (map (λ range. range.media) ranges.now) weight offer.now.media) }
+{
+    if weight > 0 {
+        return Ok(());
+    }
+    push_lacking(alloc, report, ranges, lacking(ranges, offer))
+}
+
+/// Adds which range an offer lacks a parameter of, if there is one.
+fn push_lacking(
+    alloc: Global,
+    report: &mut Vec<u8>,
+    ranges: &[Mime],
+    at: Option<usize>,
+) -> Result<(), AllocError>
+    ensures { OnOk result (vec_items report.new ≡ vec_items report.old ++ lacking_text (map (λ range. range.media) ranges.now) at) }
+{
+    match at {
+        Some(at) => {
+            push(report, " (lacks a parameter of ")?;
+            push_place(alloc, report, ranges, at)?;
+            push(report, ")")
+        }
+        None => Ok(()),
+    }
+}
+
+/// Adds a range's place, from 1, and the range.
+fn push_place(
+    alloc: Global,
+    report: &mut Vec<u8>,
+    ranges: &[Mime],
+    at: usize,
+) -> Result<(), AllocError>
+    ensures { OnOk result (vec_items report.new ≡ vec_items report.old ++ place_text at (slice_get (map (λ range. range.media) ranges.now) at)) }
+{
+    let Some(range) = ranges.get(at) else {
+        return Ok(());
+    };
+    let place = at + 1;
+    push(report, format!(in alloc; "{place}")?.as_str())?;
+    push(report, " ")?;
+    push(report, range.as_str())
 }
 
 /// The best of the offers, if one is acceptable.
-fn best_of<'o>(accept: &Accept, offers: &'o [Mime]) -> Option<&'o Mime>
-    ensures { option_map (λ best. best.now.media) result
-        ≡ best_of accept.now.ranges (map (λ offer. offer.media) offers.now) }
+fn best_of<'o>(offers: &'o [Mime], ranking: &[RankedOffer]) -> Option<&'o Mime>
+    ensures { option_map (λ best. best.now.media) result ≡ best_of (map (λ offer. offer.media) offers.now) ranking.now }
 {
-    let at = accept.best(offers)?;
-    offers.get(at)
+    let first = ranking.first()?;
+    if first.weight == 0 {
+        return None;
+    }
+    offers.get(first.offer)
 }
 
 /// Adds the row that says which offer is the best, if there are offers.
@@ -400,11 +521,18 @@ fn push_best(report: &mut Vec<u8>, offers: &[Mime], best: Option<&Mime>) -> Resu
     }
 }
 
-/// The verdict on offers of which this one is the best.
-fn verdict_of(offers: &[Mime], best: Option<&Mime>) -> Verdict
-    ensures { result ≡ verdict_of (map (λ offer. offer.media) offers.now) (option_map (λ best. best.now.media) best.entry) }
+/// Whether an offer is acceptable, or there is none.
+fn is_acceptable(offers: &[Mime], best: Option<&Mime>) -> bool
+    ensures { result ≡ is_acceptable (map (λ offer. offer.media) offers.now) (option_map (λ best. best.now.media) best.entry) }
 {
-    if offers.is_empty() || best.is_some() {
+    offers.is_empty() || best.is_some()
+}
+
+/// The verdict on values that are all good or not, and on the last choice.
+fn verdict_of(are_good: bool, choice: Option<bool>) -> Verdict
+    ensures { result ≡ verdict_of are_good choice }
+{
+    if are_good && choice.unwrap_or(true) {
         Verdict::Acceptable
     } else {
         Verdict::NotAcceptable

@@ -1,10 +1,10 @@
-//! Whether an offer is acceptable.
+//! The verdict on a head and on offers.
 
-/// Whether one of the offers is acceptable.
+/// Whether each `Content-Type` is read, and one of the offers is acceptable.
 #[derive(Clone, Copy, PartialEq, Eq, Debug)]
 pub enum Verdict {
-    /// An offer weighs more than 0, or there is none.
+    /// Each is, and an offer weighs more than 0, or there is none.
     Acceptable,
-    /// There are offers, and each weighs 0: the answer is 406 (RFC 9110, 15.5.7).
+    /// A `Content-Type` is rejected, or there are offers and each weighs 0: the answer is 406 (RFC 9110, 15.5.7).
     NotAcceptable,
 }

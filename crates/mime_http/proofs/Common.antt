@@ -22,12 +22,12 @@ pub use Rattle.mime_http.specs.{Boundary.IsBoundary, Boundary.IsBoundaryOf, Boun
 pub use Rattle.std.proofs.Common.{Bool, Bor, Err, List, None, Ok, Option, Some, [], ap, append-nil, append_assoc, ap₂, arith, cond, drop, false, get_or, inl, inr, is_some, length, length-append, length-drop, map, refl, replicate, rules, string_bytes, subst, suc, sym, take, true, w8, zero, ℕ, ⊎_elim, ◌%◌, ◌*◌, ◌++◌, ◌+◌, ◌-◌, ◌/◌, ◌<◌, ◌==◌, ◌^◌, ◌||◌, ◌∙◌, ◌∷◌, ◌≡◌, ◌≢◌, ◌≤◌, ◌⊎◌}
 pub use Rattle.std.proofs.Math.ListN.{drop_of_length-le}
 pub use Rattle.std.proofs.Math.Seq.{drop-append-add, drop-append_seam, drop-cons, drop-length, take-add, take-append-add, take-append_seam, take-length}
-pub use Rattle.std.proofs.lemmas.Bool.{and_from, and_parts, cases_Bool, cases_lt, cond_both, eq-eqb, eqb-true, false_from_ne_true, ne_eqb, true≢false}
+pub use Rattle.std.proofs.lemmas.Bool.{and_from, and_parts, cases_Bool, cases_lt, cond_both, eqb-true, false_from_ne_true, ne_eqb, true≢false}
 pub use Rattle.std.proofs.lemmas.Cmp.{back_total, nat_cmp_total, on_total, then_total}
 pub use Rattle.std.proofs.lemmas.List.Elements.{All-contains, Contains-get_or, All-filter, All-map, All-push, Contains-append_left, Contains-append_right}
 pub use Rattle.std.proofs.lemmas.List.Folds.{concat-append, drop_split, list_all-append, list_all-map, list_any_at, find_at}
 pub use Rattle.std.proofs.lemmas.List.Sums.{AllPass-from_list_all, list_all-from_AllPass, prefix_len-le-length, prefix_len_stops, take_while-cons, position_or_len_is, fails_before_first, passes_at_first}
-pub use Rattle.std.proofs.lemmas.List.{append_cancel_right, drop-drop, drop_more, get_or-drop, get_or-map, get_or_default, get_or_past, length-map, length-take-le, map-append, nil_from_length, take_all, take_more, take_rest}
+pub use Rattle.std.proofs.lemmas.List.{append_cancel_right, drop-drop, drop_more, get_or-drop, get_or-map, get_or_default, get_or_past, length-map, length-take-le, map-append, nil_from_length, take_all, take_more, take_rest, append_cancel_left, take-append-drop}
 pub use Rattle.std.proofs.lemmas.Option.{MatchOption-at_some, get_or_from_slice_get, same_Some, slice_get-get_or, slice_get_within, none-some}
 pub use Rattle.std.proofs.lemmas.Simd.{length-chunk, mask_l-mod, none_from_empty_mask, tops_compared, zip2_splat_left}
 pub use Rattle.std.proofs.lemmas.Str.{IsCharBoundary-after_ascii, IsCharBoundary-before_ascii, IsUtf8-append, IsUtf8-drop, IsUtf8-from_ascii, IsUtf8-nil, IsUtf8-take}
@@ -36,6 +36,6 @@ pub use Rattle.std.specs.List.{AllByRecursion, AllPairs, FoldsTo, concat, cons_o
 unfoldable pub use Rattle.std.specs.List.{IsDistinct}
 pub use Rattle.std.specs.Option.{option_cmp, option_eq, option_map, option_or}
 pub use Rattle.std.specs.Ordering.{flip_args, is_gt, is_le, is_lt, nat_cmp, on, ord_max, ordering_then, then_cmp}
-pub use Rattle.std.specs.Prelude.{Contains, IfErr, IfOk, IfSome, IsUtf8, MatchOption, MatchResult, OnOk, Result, bit_and, bytes_eq, codes, filter_map, find, flat_map, fold, if◌then◌else◌, min, nat_lt, not, position, slice_get, slice_index, slice_range, take_while, unwrap_or, ⊤, ◌&&◌, ◌↔◌, Decides, filter}
+pub use Rattle.std.specs.Prelude.{Contains, IfErr, IfOk, IfSome, IsUtf8, MatchOption, OnOk, Result, bit_and, bytes_eq, codes, filter_map, find, flat_map, fold, if◌then◌else◌, min, nat_lt, not, position, slice_get, slice_index, slice_range, take_while, unwrap_or, ⊤, ◌&&◌, ◌↔◌, Decides, filter}
 pub use Rattle.std.specs.{Char.is_ascii_digit, Char.to_ascii_lowercase, Cmp.IsTotalOrder, Cmp.Lexicographic.same_text, Str.IsAscii, Vec.vec_items, declared.cmp.Ordering.Ordering, declared.cmp.Ordering.TheVariants.Equal, declared.cmp.Reverse.Reverse}
 pub use lib.Lanes.{chunk, mask_l, top}

@@ -4,14 +4,14 @@ pub use Rattle.mime_http.proofs.Around.{reads_around, white_around}
 -- The content of quoted strings: what is written for a value, and what needs no backslash.
 pub use Rattle.mime_http.proofs.Contents.{content_of_escaped, unescaped_same, unescaped_from, unescaped_is}
 -- Lines are cut in one way, and each line is; a search finds the first of two marks.
-pub use Rattle.mime_http.proofs.Cuts.{one_cut, mark_found}
+pub use Rattle.mime_http.proofs.Cuts.{one_cut, only_cut, mark_found}
 pub use Rattle.mime_http.specs.LineCut.{is_mark}
 -- The highest of ranks and its first place, and which of all is the best.
 pub use Rattle.mime_http.proofs.Highest.{one_rank}
 -- The laws of a header's value: it is one media type, of which one text is printed, which is read as it.
 pub use Rattle.mime_http.proofs.HttpLaws.{one_printed_text, printed_is_read, same_anew}
 -- Lists as HTTP writes them are read as their elements, and what is read with nothing bad are such lists.
-pub use Rattle.mime_http.proofs.Lists.{one_header}
+pub use Rattle.mime_http.proofs.Lists.{one_header, http_is_not_blank}
 -- The offers that weigh more than 0, sorted, are in order.
 pub use Rattle.mime_http.proofs.Order.{weighs_within}
 -- What the library reads is what HTTP writes there.

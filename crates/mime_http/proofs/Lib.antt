@@ -15,6 +15,7 @@ pub mod Numbers
 pub mod Order
 pub mod PlainIsHttp
 pub mod RangesFacts
+pub mod RankingFacts
 pub mod ReadAnew
 pub mod ReadAt
 pub mod ReadBack

@@ -141,7 +141,7 @@ read_are_http_lists lines header is none = record {
 -- ---- pieces are sorted in one way
 
 -- white space is no media type, which begins with a token byte after white space
-http_is_not_blank : {piece : List ℕ} → AreSpaces piece → ¬ (IsHttpMediaType piece)
+pub http_is_not_blank : {piece : List ℕ} → AreSpaces piece → ¬ (IsHttpMediaType piece)
 http_is_not_blank {piece} white =
     rejected_is_none piece MissingSlash (ap answer_of (sym (append-nil piece)) ∙ over_white before_type keeps_before piece white 0 [])
 

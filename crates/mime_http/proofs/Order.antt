@@ -1,5 +1,5 @@
 -- The offers that weigh more than 0, sorted, are in order, of which the first is the best.
-use Rattle.mime_http.proofs.Common.{All-contains, AllPairs, AreInOrder, Contains, IsDistinct, IsTotalOrder, List, MediaType, Ordering, Rank, Reverse, [], ap, arith, back_total, false, flip_args, get_or, get_or_past, cases_Bool, inl, inr, is_gt, is_lt, length, length-map, map, map-append, merit, nat_cmp, nat_cmp_total, nat_tests, ne_eqb, on, on_total, ordering_then, rank_cmp, subst, sym, then_cmp, then_total, true, ℕ, ⊎_elim, ◌++◌, ◌+◌, ◌<◌, ◌==◌, ◌∙◌, ◌∷◌, ◌≡◌, ◌≤◌, ◌⊎◌, All, cases_lt, All-map, All-push, Contains-append_left, Contains-append_right, BestIsAcceptable, BestIsFirst, None, Some, and_parts, get_or-map, nat_lt, refl, slice_get-get_or, suc, zero}
+use Rattle.mime_http.proofs.Common.{All-contains, AllPairs, AreInOrder, Contains, IsDistinct, IsTotalOrder, List, MediaType, Ordering, Rank, Reverse, [], ap, arith, back_total, false, flip_args, get_or, get_or_past, cases_Bool, inl, inr, is_gt, is_lt, length, length-map, map, map-append, merit, nat_cmp, nat_cmp_total, nat_tests, ne_eqb, on, on_total, ordering_then, rank_cmp, subst, sym, then_cmp, then_total, true, ℕ, ⊎_elim, ◌++◌, ◌+◌, ◌<◌, ◌==◌, ◌∙◌, ◌∷◌, ◌≡◌, ◌≤◌, ◌⊎◌, All, cases_lt, All-map, All-push, Contains-append_left, Contains-append_right, BestIsAcceptable, BestIsFirst, None, Some, and_parts, get_or-map, nat_lt, refl, slice_get-get_or, suc, zero, ⊤}
 use Rattle.std.{specs.List.Sorted.IsPermutation, specs.List.Sorted.IsSorted, proofs.lemmas.List.Quantifiers.all_pairs_push, proofs.lemmas.List.Sorted.ranks_by, proofs.lemmas.List.Sorted.sorted_far, proofs.lemmas.List.Sorted.All-permutation, proofs.lemmas.List.Sorted.IsPermutation-map, proofs.lemmas.List.Sorted.Contains-permutation, proofs.lemmas.Map.Keys.IsDistinct-IsPermutation, proofs.lemmas.Map.Keys.IsDistinct-from_apart, proofs.lemmas.Map.Keys.apart_from_distinct, proofs.Math.ListN.get_or-map as get_or-map_at, proofs.lemmas.List.Quantifiers.position-Some}
 use Rattle.mime_http.proofs.Highest.{best_is_found, is_best, lowest, none_is_best, one_rank}
 
@@ -18,26 +18,33 @@ weighs_within ranks at weighs = grind (arith, weighs, get_or_past ranks at lowes
 
 -- ---- offers with their ranks
 
--- an offer before a position has its rank, and weighs something
-abbrev HasRank : List Rank → ℕ → Reverse Rank × ℕ → Type 0
-HasRank ranks at offer = (offer.0.0 ≡ rank_at ranks offer.1) × (0 < offer.0.0.0) × (offer.1 < at)
+-- what an offer weighs that is sorted: something, or anything
+abbrev pub Weighs : ℕ → Type 0
+Weighs weight = 0 < weight
 
--- all offers before a position that weigh something, each with its rank
-pub record Ranked (ranks : List Rank) (at : ℕ) (found : List (Reverse Rank × ℕ)) : Type 0 where
-  pub are : All (HasRank ranks at) found
-  pub all : (i : ℕ) → i < at → 0 < (rank_at ranks i).0 → Contains (map (λ offer. offer.1) found) i
+abbrev pub IsAny : ℕ → Type 0
+IsAny weight = ⊤
+
+-- an offer before a position has its rank, and a weight that counts
+abbrev HasRank : (ℕ → Type 0) → List Rank → ℕ → Reverse Rank × ℕ → Type 0
+HasRank Counts ranks at offer = (offer.0.0 ≡ rank_at ranks offer.1) × Counts offer.0.0.0 × (offer.1 < at)
+
+-- all offers before a position whose weight counts, each with its rank
+pub record Ranked (Counts : ℕ → Type 0) (ranks : List Rank) (at : ℕ) (found : List (Reverse Rank × ℕ)) : Type 0 where
+  pub are : All (HasRank Counts ranks at) found
+  pub all : (i : ℕ) → i < at → Counts (rank_at ranks i).0 → Contains (map (λ offer. offer.1) found) i
   pub apart : AllPairs (λ x y. x.1 < y.1) found
 
-module _ {ranks : List Rank} {at : ℕ} {found : List (Reverse Rank × ℕ)} (was : Ranked ranks at found) where
+module _ {Counts : ℕ → Type 0} {ranks : List Rank} {at : ℕ} {found : List (Reverse Rank × ℕ)} (was : Ranked Counts ranks at found) where
   -- those before it are before the next position
-  still : All (HasRank ranks (at + 1)) found
+  still : All (HasRank Counts ranks (at + 1)) found
   still = λ k d within. let is = was.are k d within in (is.0, is.1, omega (arith, is.2))
 
-  -- an offer that weighs something is one more,
-  pub one_ranked : (offer : Reverse Rank × ℕ) → offer.1 ≡ at → offer.0.0 ≡ rank_at ranks at → 0 < offer.0.0.0
-      → Ranked ranks (at + 1) (found ++ (offer ∷ []))
+  -- an offer whose weight counts is one more,
+  pub one_ranked : (offer : Reverse Rank × ℕ) → offer.1 ≡ at → offer.0.0 ≡ rank_at ranks at → Counts offer.0.0.0
+      → Ranked Counts ranks (at + 1) (found ++ (offer ∷ []))
   one_ranked offer there rank weighs = record {
-    are = All-push (HasRank ranks (at + 1)) found offer still (rank ∙ ap (rank_at ranks) (sym there), weighs, omega (arith, there));
+    are = All-push (HasRank Counts ranks (at + 1)) found offer still (rank ∙ ap (rank_at ranks) (sym there), weighs, omega (arith, there));
     all = λ i below some.
         let places = map (λ offer. offer.1) found in
         rw (map-append (λ offer. offer.1) found (offer ∷ []))
@@ -48,11 +55,11 @@ module _ {ranks : List Rank} {at : ℕ} {found : List (Reverse Rank × ℕ)} (wa
   }
 
   -- and another isn't
-  pub none_more : (rank_at ranks at).0 ≡ 0 → Ranked ranks (at + 1) found
+  pub none_more : ¬ (Counts (rank_at ranks at).0) → Ranked Counts ranks (at + 1) found
   none_more light = record {
     are = still;
     all = λ i below some. ⊎_elim (λ less. was.all i less some)
-        (λ least. absurd (grind (arith, some, light, below, least))) (cases_lt i at);
+        (λ least. absurd (light (subst (λ k. Counts (rank_at ranks k).0) (omega (arith, below, least)) some))) (cases_lt i at);
     apart = was.apart;
   }
 
@@ -76,11 +83,11 @@ first_by x y i j low differ =
     ⊎_elim inl (λ no. inr (one_rank x y (grind (arith, nat_tests, low, no)), grind (arith, nat_tests, low, no, differ)))
     (cases_Bool (is_gt (rank_cmp x y)))
 
-module _ {ranks : List Rank} {at : ℕ} {found : List (Reverse Rank × ℕ)} (was : Ranked ranks at found) (sorted : List (Reverse Rank × ℕ))
-    (moved : IsPermutation found sorted) where
+module _ {Counts : ℕ → Type 0} {ranks : List Rank} {at : ℕ} {found : List (Reverse Rank × ℕ)} (was : Ranked Counts ranks at found)
+    (sorted : List (Reverse Rank × ℕ)) (moved : IsPermutation found sorted) where
   -- sorted offers have their ranks,
-  stand : All (HasRank ranks at) sorted
-  stand = All-permutation (HasRank ranks at) found sorted moved was.are
+  pub stand : All (HasRank Counts ranks at) sorted
+  stand = All-permutation (HasRank Counts ranks at) found sorted moved was.are
 
   -- and are at different positions, so each comes before those after it
   in_turn : IsSorted offer_cmp sorted → (d : Reverse Rank × ℕ) (i j : ℕ) → i < j → j < length sorted
@@ -99,16 +106,21 @@ module _ {ranks : List Rank} {at : ℕ} {found : List (Reverse Rank × ℕ)} (wa
       first_by (rank_at ranks x.1) (rank_at ranks y.1) x.1 y.1 (rw (first, second) at far)
       (apart_from_distinct same_place sorted i j d distinct before within)
 
--- so what is sorted is in order
+-- so the best is first of what is sorted,
+pub sorted_best_first : {Counts : ℕ → Type 0} (ranks : List Rank) (at : ℕ) (found sorted : List (Reverse Rank × ℕ)) → Ranked Counts ranks at found
+    → IsPermutation found sorted → IsSorted offer_cmp sorted → AllPairs (ComesBefore ranks) (map (λ offer. offer.1) sorted)
+sorted_best_first ranks at found sorted was moved up i j e before within =
+    let d : Reverse Rank × ℕ = (record { 0 = lowest }, e) in
+    let first = get_or-map_at (λ offer. offer.1) sorted i d in
+    let second = get_or-map_at (λ offer. offer.1) sorted j d in
+    rw (first, second) (in_turn was sorted moved up d i j before (omega (arith, within, length-map sorted (λ offer. offer.1))))
+
+-- and it is in order
 pub are_in_order : (ranges offers : List MediaType) (at : ℕ) (found sorted : List (Reverse Rank × ℕ)) → length offers ≤ at
-    → Ranked (map (merit ranges) offers) at found → IsPermutation found sorted → IsSorted offer_cmp sorted
+    → Ranked Weighs (map (merit ranges) offers) at found → IsPermutation found sorted → IsSorted offer_cmp sorted
     → AreInOrder ranges offers (map (λ offer. offer.1) sorted)
 are_in_order ranges offers at found sorted past was moved up = record {
-  best_first = λ i j e before within.
-      let d : Reverse Rank × ℕ = (record { 0 = lowest }, e) in
-      let first = get_or-map_at (λ offer. offer.1) sorted i d in
-      let second = get_or-map_at (λ offer. offer.1) sorted j d in
-      rw (first, second) (in_turn was sorted moved up d i j before (omega (arith, within, length-map sorted (λ offer. offer.1))));
+  best_first = sorted_best_first (map (merit ranges) offers) at found sorted was moved up;
   all = λ i.
       let ranks = map (merit ranges) offers in
       let place = λ (offer : Reverse Rank × ℕ). offer.1 in (

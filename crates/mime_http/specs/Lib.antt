@@ -7,6 +7,7 @@ pub mod HttpFaults
 pub mod HttpPrinted
 pub mod Weight
 pub mod Ranges
+pub mod Ranking
 pub mod Boundary
 pub mod HeaderLaws
 pub mod ListLaws

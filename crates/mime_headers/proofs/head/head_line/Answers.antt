@@ -1,15 +1,12 @@
 -- The head's first line is the input's, unless that has nothing but a mark.
-use Rattle.std.proofs.Common.{◌∙◌, ap, sym}
-use Rattle.mime_headers.specs.Head.{without_mark}
+use Rattle.std.proofs.Common.{◌∙◌, sym}
 use Rattle.mime_headers.proofs.HeadLines.{head_of-first}
 use Rattle.mime_headers.proofs.head.head_line.Goals as goal
 
 pub returns-then-is_empty-clause-lines : goal.returns-then-is_empty-clause-lines
 returns-then-is_empty-clause-lines c =
-    head_of-first c.args.input.now c.in_ok-line.rest.now c.in_ok-line.line.now c.unmarked-line.result.now c.in_ok-line.ensures.lines
-    (c.unmarked-line.ensures ∙ ap without_mark c.unreturned.ensures) (sym c.is_empty.ensures ∙ c.if-is_empty.true)
+    head_of-first c.args.input.now _ _ c.in_ok-line.ensures.lines (sym c.is_empty.ensures ∙ c.if-is_empty.true)
 
 pub returns-else-is_empty-clause-lines : goal.returns-else-is_empty-clause-lines
 returns-else-is_empty-clause-lines c =
-    head_of-first c.args.input.now c.in_ok-line.rest.now c.in_ok-line.line.now c.unmarked-line.result.now c.in_ok-line.ensures.lines
-    (c.unmarked-line.ensures ∙ ap without_mark c.unreturned.ensures) (sym c.is_empty.ensures ∙ c.if-is_empty.false)
+    head_of-first c.args.input.now _ _ c.in_ok-line.ensures.lines (sym c.is_empty.ensures ∙ c.if-is_empty.false)

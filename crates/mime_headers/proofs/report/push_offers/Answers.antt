@@ -1,16 +1,15 @@
--- The offers in their order, and then the others.
-use Rattle.std.proofs.Common.{◌++◌, ◌∙◌, ap, map}
-use Rattle.std.specs.Prelude.{flat_map, slice_get}
-use Rattle.std.specs.Vec.{vec_items}
-use Rattle.mime_headers.specs.Report.{row_at}
-use Rattle.mime_headers.proofs.Rows.{offers-added}
+-- The next offer's row is added.
+use Rattle.std.proofs.Common.{None, get_or, map}
+use Rattle.std.specs.Prelude.{slice_get}
+use Rattle.std.proofs.lemmas.List.{get_or_default}
+use Rattle.mime_headers.specs.Report.{offer_row}
+use Rattle.mime_headers.proofs.Rows.{rows-next}
 use Rattle.mime_headers.proofs.report.push_offers.Goals as goal
 
-pub returns : goal.returns
-returns c =
-    let ranges = c.args.accept.now.ranges in
+pub loop-one-preserved : goal.loop-one-preserved
+loop-one-preserved c =
+    let ranges = map (λ range. range.media) c.args.ranges.now in
     let offers = map (λ offer. offer.media) c.args.offers.now in
-    offers-added c.push_refused.result ranges offers (vec_items c.in_ok-order.order) (vec_items c.args.report.now) _ _ c.in_ok-order.ensures.order
-    (c.in_ok-push_in_order.ensures
-    ∙ ap (λ order. vec_items c.args.report.now ++ flat_map (λ at. row_at ranges (slice_get offers at)) order) c.as_slice.ensures.value)
-    c.push_refused.ensures
+    let one = get_or c.args.ranking.now c.loop-one.one-index (record { offer = 0; weight = 0; range = None }) in
+    rows-next (λ one. offer_row ranges one (slice_get offers one.offer)) c.args.ranking.now c.loop-one.one-index one _ _ _ c.loop-one-test.true
+    (get_or_default c.args.ranking.now c.loop-one.one-index _ one c.loop-one-test.true) c.loop-one.invariant c.in_ok-push_offer.ensures

@@ -1,8 +1,8 @@
 -- The next value's rows come before those of the values that are left.
-use Rattle.std.proofs.Common.{◌≤◌, ap, arith, map, length, subst}
+use Rattle.std.proofs.Common.{◌≤◌, ◌∙◌, ap, arith, map, length, subst}
 use Rattle.std.specs.Vec.{vec_items}
 use Rattle.std.proofs.Math.ListN.{drop_of_length-le}
-use Rattle.mime_headers.specs.Head.{trimmed}
+use Rattle.mime_http.specs.HttpList.{trimmed}
 use Rattle.mime_headers.specs.Report.{ReportsType}
 use Rattle.mime_io.specs.Inner.{Adds}
 use Rattle.mime_headers.proofs.Rows.{first_left, reported-none, reported-next, reported-all}
@@ -15,13 +15,14 @@ pub loop-value-preserved : goal.loop-value-preserved
 loop-value-preserved c =
     let values = c.args.values.now in
     let at = c.loop-value.value-index in
-    reported-next (map vec_items values) _ _ (vec_items c.value-item.result) _ (vec_items c.loop-value.report) _
+    reported-next (map vec_items values) _ _ (vec_items c.value-item.result) _ (vec_items c.loop-value.report) _ _ _
     (ap (map vec_items) (first_left values at c.value-item.result c.loop-value-test.true c.value-item.is)) c.loop-value.invariant
-    (subst (λ value. Adds (ReportsType (trimmed value)) (vec_items c.loop-value.report) (vec_items c.push_type.new.report))
-    c.as_slice.ensures.value c.in_ok-push_type.ensures)
+    (subst (λ value. Adds (λ rows. ReportsType value rows c.in_ok-are_good.field-0) (vec_items c.loop-value.report)
+    (vec_items c.push_type.new.report)) (c.trimmed.ensures ∙ ap trimmed c.deref.ensures.value)
+    c.in_ok-are_good.ensures)
 
 pub returns : goal.returns
 returns c =
     let values = c.args.values.now in
     let past : length values ≤ c.loop-value.value-index = omega arith in
-    reported-all (map vec_items values) _ _ _ (ap (map vec_items) (drop_of_length-le values past)) c.loop-value.invariant
+    reported-all (map vec_items values) _ _ _ _ (ap (map vec_items) (drop_of_length-le values past)) c.loop-value.invariant

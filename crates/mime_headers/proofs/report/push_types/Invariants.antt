@@ -7,3 +7,4 @@ use Rattle.mime_headers.proofs.report.push_types.Given as goal
 abbrev pub invariant-loop-value : goal.invariant-loop-value
 invariant-loop-value l =
     AreReported (map vec_items l.fn.values) (map vec_items (drop l.value-index l.values)) (vec_items l.initial.report) (vec_items l.report)
+    l.are_good

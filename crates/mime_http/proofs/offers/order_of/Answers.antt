@@ -15,8 +15,8 @@ loop-at-preserved c =
     elim c.if-merit-gt0.branch [
       | then-merit-gt0+in_ok-push w ↦
           rw (w.ranked-is, w.in_ok-push.ensures.items) (one_ranked c.loop-at.invariant _ refl rank (omega (arith, w.if-merit-gt0.true)))
-      | else-merit-gt0 w ↦
-          rw w.ranked-is (none_more c.loop-at.invariant (omega (arith, ap (λ (r : Rank). r.0) rank, w.if-merit-gt0.false)))
+      | else-merit-gt0 w ↦ rw w.ranked-is (none_more c.loop-at.invariant
+          (λ some. absurd (omega (arith, some, ap (λ (r : Rank). r.0) rank, w.if-merit-gt0.false))))
     ]
 
 pub returns-clause-order : goal.returns-clause-order

@@ -1,0 +1,67 @@
+//! The report as a terminal may have it.
+
+ghost use Rattle.std.specs.Prelude.{◌≡◌, IfOk};
+ghost use Rattle.std.specs.List.{list_any};
+ghost use Rattle.std.specs.Vec.{vec_items};
+ghost use Rattle.mime_headers.specs.Inner.{begins_control};
+ghost use Rattle.mime_headers.specs.Shown.{control_len, without_controls};
+
+use std::alloc::{AllocError, Global};
+
+/// The number of bytes of the control character that bytes begin with, or 0.
+fn control_len(bytes: &[u8]) -> usize
+    ensures { result ≡ control_len bytes.now }
+{
+    match bytes {
+        [b'\n', ..] => 0,
+        [0..=31 | 127, ..] => 1,
+        [0xC2, 0x80..=0x9F, ..] => 2,
+        [0xE2, 0x80, 0xAA..=0xAE, ..] | [0xE2, 0x81, 0xA6..=0xA9, ..] => 3,
+        _ => 0,
+    }
+}
+
+/// Whether some bytes have one that a control character may begin with. Without an early exit, several are tested at a time.
+fn may_have_controls(bytes: &[u8]) -> bool
+    ensures { result ≡ list_any begins_control bytes.now }
+{
+    let mut found = false;
+    for byte in bytes {
+        found |= (*byte < 32 && *byte != b'\n') || *byte == 127 || *byte == 0xC2 || *byte == 0xE2;
+    }
+    found
+}
+
+/// Bytes with a dot for each control character.
+pub(crate) fn without_controls(alloc: Global, bytes: Vec<u8>) -> Result<Vec<u8>, AllocError>
+    ensures { IfOk result (λ text. vec_items text ≡ without_controls (vec_items bytes)) }
+{
+    // Most reports have none.
+    if may_have_controls(&bytes) {
+        dotted(alloc, &bytes)
+    } else {
+        Ok(bytes)
+    }
+}
+
+/// A copy of bytes with a dot for each control character.
+fn dotted(alloc: Global, bytes: &[u8]) -> Result<Vec<u8>, AllocError>
+    ensures { IfOk result (λ text. vec_items text ≡ without_controls bytes.now) }
+{
+    let mut text = Vec::new(alloc);
+    let mut passed = 0;
+    for (at, &byte) in bytes.iter().enumerate() {
+        if passed > 0 {
+            passed -= 1;
+            continue;
+        }
+        let len = control_len(&bytes[at..]);
+        if len == 0 {
+            text.push(byte)?;
+        } else {
+            text.push(b'.')?;
+            passed = len - 1;
+        }
+    }
+    Ok(text)
+}

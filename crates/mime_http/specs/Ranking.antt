@@ -1,0 +1,36 @@
+-- Why an offer is chosen: what ranges give each, which decides, and which an offer lacks a parameter of (RFC 9110, 12.4.2 and 12.5.1).
+use Rattle.std.specs.Prelude.{◌≡◌, ◌⊎◌, ◌↔◌, ◌<◌, ℕ, ◌-◌, Bool, true, false, List, [], ◌∷◌, length, Some, None, IsTrue, Contains, is_some, map, nat_lt, not, ◌&&◌, ◌||◌, ◌==◌, if◌then◌else◌}
+use Rattle.std.specs.Char.{is_ascii_digit}
+use Rattle.std.specs.List.{list_all, AllPairs}
+use Rattle.std.specs.Ordering.{is_gt}
+use Rattle.std.specs.Str.{bytes_eq}
+use Rattle.mime.specs.Values.{MediaType}
+use Rattle.mime_http.specs.Ranges.{Rank, rank_cmp, closeness, merit_at}
+use Rattle.mime_http.specs.declared.ranking.RankedOffer.{RankedOffer}
+
+-- what the rank of an offer at a position says: its weight, and the position of the range that decides, from which on so many stand
+abbrev pub ranked_as : ℕ → Rank → ℕ → RankedOffer
+ranked_as count rank at =
+    record { offer = at; weight = rank.0; range = if rank.3 == 0 then None else Some (count - rank.3) }
+
+-- all offers with what ranges give them: of two the first ranks higher, or as high and is offered first
+pub record IsRanking (ranges offers : List MediaType) (ranking : List RankedOffer) : Type 0 where
+  pub order : List ℕ
+  pub best_first : AllPairs (λ at other. IsTrue (is_gt (rank_cmp (merit_at ranges offers at) (merit_at ranges offers other)))
+      ⊎ ((merit_at ranges offers at ≡ merit_at ranges offers other) × (at < other))) order
+  pub all : (at : ℕ) → Contains order at ↔ (at < length offers)
+  pub given : ranking ≡ map (λ at. ranked_as (length ranges) (merit_at ranges offers at) at) order
+
+-- a range names an offer's essence, but demands a parameter that the offer lacks
+abbrev pub is_lacking : MediaType → MediaType → Bool
+is_lacking offer range = bytes_eq range.essence offer.essence && not (is_some (closeness offer (0, range)))
+
+-- qvalue = ( "0" [ "." 0*3DIGIT ] ) / ( "1" [ "." 0*3("0") ] )
+abbrev pub are_decimals : Bool → List ℕ → Bool
+are_decimals zeros_alone [] = true
+are_decimals zeros_alone (dot ∷ decimals) =
+    dot == 46 && nat_lt (length decimals) 4 && list_all (λ b. b == 48 || (not zeros_alone && is_ascii_digit b)) decimals
+
+abbrev pub is_qvalue : List ℕ → Bool
+is_qvalue [] = false
+is_qvalue (b ∷ decimals) = (b == 48 && are_decimals false decimals) || (b == 49 && are_decimals true decimals)

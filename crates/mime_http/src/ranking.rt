@@ -1,0 +1,153 @@
+//! Why an offer is chosen: what the ranges of an `Accept` header give each, which of them decides, and a header's entries one by one.
+
+ghost use Rattle.std.specs.Prelude.{◌≡◌, ◌++◌, ◌∷◌, ◌==◌, ◌||◌, ◌&&◌, not, map, option_map, unwrap_or, true, position, codes, IfOk, MatchOption};
+ghost use Rattle.std.specs.Char.{is_ascii_digit};
+ghost use Rattle.std.specs.List.{list_all};
+ghost use Rattle.std.specs.Vec.{vec_items};
+ghost use Rattle.mime.specs.Bytes.{comma_byte};
+ghost use Rattle.mime_http.specs.HttpList.{IsPiece, BeginsPiece};
+ghost use Rattle.mime_http.specs.Ranges.{first_value};
+ghost use Rattle.mime_http.specs.Ranking.{are_decimals, is_qvalue, is_lacking, ranked_as, IsRanking};
+
+use crate::list::piece_end;
+use crate::offers::merit;
+use crate::range::{covers, first_value};
+use mime::Mime;
+use std::alloc::{AllocError, Global};
+use std::cmp::Reverse;
+
+/// What the ranges give an offer.
+#[derive(Clone, Copy, PartialEq, Eq, Debug)]
+pub struct RankedOffer {
+    /// The offer's position.
+    pub offer: usize,
+    /// Its weight in thousandths, as [`Accept::weight`](crate::Accept::weight) gives it.
+    pub weight: u16,
+    /// The position of the range that gives it this weight, the most specific that covers it; `None` if none does.
+    pub range: Option<usize>,
+}
+
+/// Returns what an offer's rank and position say.
+fn ranked_offer(count: usize, ranked: &(Reverse<(u16, u8, usize, usize)>, usize)) -> RankedOffer
+    ensures { result ≡ ranked_as count ranked.now.0.0 ranked.now.1 }
+{
+    let (Reverse(rank), offer) = *ranked;
+    RankedOffer {
+        offer,
+        weight: rank.0,
+        range: if rank.3 == 0 {
+            None
+        } else {
+            Some(count.saturating_sub(rank.3))
+        },
+    }
+}
+
+/// Returns what the ranks and positions of offers say.
+fn ranked_offers(
+    alloc: Global,
+    count: usize,
+    ranked: &[(Reverse<(u16, u8, usize, usize)>, usize)],
+) -> Result<Vec<RankedOffer>, AllocError>
+    ensures { IfOk result (λ offers. vec_items offers ≡ map (λ one. ranked_as count one.0.0 one.1) ranked.now) }
+{
+    let mut offers = Vec::new(alloc);
+    for one in ranked {
+        offers.push(ranked_offer(count, one))?;
+    }
+    Ok(offers)
+}
+
+/// Returns what the ranges of a header give all of these offers, in the order in which [`Accept::best`](crate::Accept::best) takes them: the first
+/// is the best, unless it weighs 0. Each offer is compared with the ranges once.
+///
+/// # Errors
+/// `AllocError` if memory runs out.
+pub fn rank_offers(
+    alloc: Global,
+    ranges: &[Mime],
+    offers: &[Mime],
+) -> Result<Vec<RankedOffer>, AllocError>
+    ensures { IfOk result (λ ranking. IsRanking (map (λ range. range.media) ranges.now) (map (λ offer. offer.media) offers.now) (vec_items ranking)) }
+{
+    let mut ranked = Vec::new(alloc);
+    for (at, offer) in offers.iter().enumerate() {
+        ranked.push((Reverse(merit(ranges, offer)), at))?;
+    }
+    ranked.sort()?;
+    ranked_offers(alloc, ranges.len(), &ranked)
+}
+
+/// Returns `true` if a range has an offer's essence, but demands a parameter that the offer lacks.
+fn is_lacking(range: &Mime, offer: &Mime) -> bool
+    ensures { result ≡ is_lacking offer.now.media range.now.media }
+{
+    range.essence_str() == offer.essence_str() && !covers(range, offer)
+}
+
+/// Returns the position of the first range that has an offer's essence, but demands a parameter that the offer lacks: why an offer
+/// `application/json` weighs nothing beside `application/json; charset=utf-8`.
+pub fn lacking(ranges: &[Mime], offer: &Mime) -> Option<usize>
+    ensures { result ≡ position (is_lacking offer.now.media) (map (λ range. range.media) ranges.now) }
+{
+    for (at, range) in ranges.iter().enumerate() {
+        if is_lacking(range, offer) {
+            return Some(at);
+        }
+    }
+    None
+}
+
+/// Returns `true` if these are zeros, or digits.
+fn are_digits(zeros_alone: bool, bytes: &[u8]) -> bool
+    ensures { result ≡ list_all (λ b. b == 48 || (not zeros_alone && is_ascii_digit b)) bytes.now }
+{
+    bytes.iter().all(|byte| *byte == b'0' || (!zeros_alone && byte.is_ascii_digit()))
+}
+
+/// Returns `true` if these are a dot and up to three zeros, or digits, or nothing.
+fn are_decimals(zeros_alone: bool, bytes: &[u8]) -> bool
+    ensures { result ≡ are_decimals zeros_alone bytes.now }
+{
+    match bytes {
+        [] => true,
+        [b'.', decimals @ ..] => decimals.len() < 4 && are_digits(zeros_alone, decimals),
+        _ => false,
+    }
+}
+
+/// Returns `true` if a value is a weight as RFC 9110 writes it.
+fn is_qvalue(bytes: &[u8]) -> bool
+    ensures { result ≡ is_qvalue bytes.now }
+{
+    match bytes {
+        [b'0', decimals @ ..] => are_decimals(false, decimals),
+        [b'1', decimals @ ..] => are_decimals(true, decimals),
+        _ => false,
+    }
+}
+
+/// Returns `true` if a range's weight is one that RFC 9110 allows (12.4.2), or if it has none: not for `high`, `1.5` or `0.0001`, which
+/// [`weight_of`](crate::weight_of) reads nevertheless.
+pub fn has_weight(range: &Mime) -> bool
+    ensures { result ≡ unwrap_or (option_map is_qvalue (first_value (codes "q") range.now.media.pairs)) true }
+{
+    match first_value(range, "q") {
+        Some(weight) => is_qvalue(weight.text.as_bytes()),
+        None => true,
+    }
+}
+
+/// Returns the first entry of a header's line, with the white space around it, and what follows its comma, if there is one. A comma in a
+/// quoted string doesn't end an entry. It doesn't allocate.
+pub fn first_entry(line: &[u8]) -> (&[u8], Option<&[u8]>)
+    ensures { MatchOption result.1 ((line.now ≡ result.0.now) × BeginsPiece result.0.now)
+        (λ rest. (line.now ≡ result.0.now ++ (comma_byte ∷ rest.now)) × IsPiece result.0.now) }
+{
+    let end = piece_end(line, 0);
+    if end < line.len() {
+        (&line[..end], Some(&line[end + 1..]))
+    } else {
+        (line, None)
+    }
+}
