@@ -1,12 +1,12 @@
 -- Offers that are sorted by their ranks are in order, each with what the ranges give it; and the first entry of a line.
-use Rattle.mime_http.proofs.Common.{All-contains, AreBetweenCommas, BeginsPiece, IsPiece, List, MediaType, Reverse, Rank, [], ap, append-nil, append_cancel_left, arith, comma, drop, drop_more, drop_of_length-le, get_or, get_or-map, length, length-drop, length-map, line_end, map, merit, no_line, refl, subst, suc, sym, take, take-append-drop, take_all, ℕ, ⊤, ◌+◌, ◌++◌, ◌-◌, ◌<◌, ◌≡◌, ◌≤◌, ◌∙◌, ◌∷◌}
+use Rattle.mime_http.proofs.Common.{Outside, All-contains, AreBetweenCommas, BeginsPiece, IsPiece, List, MediaType, Reverse, Rank, [], ap, append-nil, append_cancel_left, arith, comma, drop, drop_more, drop_of_length-le, get_or, get_or-map, length, length-drop, length-map, line_end, map, merit, no_line, refl, subst, suc, sym, take, take-append-drop, take_all, ℕ, ⊤, ◌+◌, ◌++◌, ◌-◌, ◌<◌, ◌≡◌, ◌≤◌, ◌∙◌, ◌∷◌}
 use Rattle.std.specs.List.{All}
 use Rattle.std.specs.List.Sorted.{IsPermutation, IsSorted}
 use Rattle.std.proofs.lemmas.List.Elements.{All-map}
 use Rattle.std.proofs.lemmas.List.Sorted.{IsPermutation-map, Contains-permutation}
 use Rattle.mime_http.specs.LineCut.{cut, cut_after}
 use Rattle.mime_http.specs.Ranking.{IsRanking, ranked_as}
-use Rattle.mime_http.proofs.Cuts.{are_cut}
+use Rattle.mime_http.proofs.Cuts.{are_cut, cut_at_end, end_on}
 use Rattle.mime_http.proofs.Order.{IsAny, Ranked, offer_cmp, rank_at, sorted_best_first, stand}
 
 -- what the next item gives is the first of what is left
@@ -72,11 +72,11 @@ first_of_more : {line piece : List ℕ} (others : List (List ℕ)) → 0 < lengt
 first_of_more others some (line_end text lines texts last rest) = absurd (omega (arith, some, ap length (no_line_has_none rest refl)))
 first_of_more others some (comma text line lines texts other rest) = (line, refl, other)
 
-module _ (line : List ℕ) (end : ℕ) (is : cut line ≡ take (end - 0) line ∷ cut_after (drop end line)) where
+module _ (line : List ℕ) (end : ℕ) (is : end ≡ end_on Outside line 0) where
   -- the pieces of the line
   pieces : AreBetweenCommas IsPiece BeginsPiece (line ∷ []) (take end line ∷ cut_after (drop end line))
   pieces =
-      subst (AreBetweenCommas IsPiece BeginsPiece (line ∷ [])) (append-nil (cut line) ∙ is
+      subst (AreBetweenCommas IsPiece BeginsPiece (line ∷ [])) (append-nil (cut line) ∙ cut_at_end line 0 end is
       ∙ ap (λ n. take n line ∷ cut_after (drop end line)) (omega arith)) (are_cut (line ∷ []))
 
   pub last_entry : length line ≤ end → BeginsPiece line
