@@ -17,7 +17,7 @@ use Rattle.mime_headers.specs.Program.AreRefused.{at_word, no_memory, after_word
 use Rattle.mime_headers.specs.declared.offers.BadOffer.{BadOffer}
 use Rattle.mime_headers.specs.declared.offers.BadOffer.TheVariants.{Fault}
 use Rattle.mime_headers.specs.Program.AreOffers.{no_word, a_word}
-use Rattle.mime_headers.specs.Report.{ReadsAs, shown, media_rows, fault_at, fault_rows, none_row, weight_text, range_row, place_text, by_text, lacking_remark, offer_rows, best_of, best_rows, is_acceptable, verdict_of, chooses, title_row}
+use Rattle.mime_headers.specs.Report.{ReadsAs, shown, media_rows, fault_at, fault_remark, fault_rows, none_row, count_row, spaced_row, weight_text, range_row, place_text, by_text, lacking_remark, offer_rows, best_of, best_rows, is_acceptable, verdict_of, chooses, title_row}
 use Rattle.mime_headers.specs.Shown.{control_len, without_controls}
 use Rattle.mime_headers.specs.declared.verdict.Verdict.{Verdict}
 
@@ -91,7 +91,21 @@ rows_of_fault = refl
 
 -- a field that isn't there, and one that is
 none : (none_row (codes "no Accept") [] ≡ codes "no Accept\n") × (none_row (codes "no Accept") ([] ∷ []) ≡ [])
-none = (refl, refl)
+    × (count_row [] ≡ codes "no Content-Type\n") × (count_row ([] ∷ []) ≡ [])
+    × (count_row ([] ∷ [] ∷ []) ≡ codes "several Content-Type lines (HTTP allows one)\n")
+none = (refl, refl, refl, refl, refl)
+
+-- a line with white space before its colon, and others
+spaced :
+    (spaced_row (codes "Content-Type \t: a") ≡ codes "white space before the colon: Content-Type .: a\n")
+    × (spaced_row (codes "accept :") ≡ codes "white space before the colon: accept :\n") × (spaced_row (codes "Accept: a") ≡ [])
+    × (spaced_row (codes "Accept a:") ≡ []) × (spaced_row (codes "Accept ") ≡ []) × (spaced_row (codes "X-Accept : a") ≡ [])
+spaced = (refl, refl, refl, refl, refl, refl)
+
+-- a comment, as mails have it
+comments :
+    (fault_remark (Invalid (InvalidToken 1 40)) ≡ codes " (HTTP has no comments)") × (fault_remark (Invalid (InvalidToken 1 41)) ≡ [])
+comments = (refl, refl)
 
 -- weights of three decimals
 weights : (weight_text 1000 ≡ codes "1.000") × (weight_text 50 ≡ codes "0.050") × (weight_text 7 ≡ codes "0.007")

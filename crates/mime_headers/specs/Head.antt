@@ -1,9 +1,9 @@
 -- Which lines of an input are a head, and the values of a field there (RFC 9110, 5.5 and 5.6.3; RFC 9112, 2.2 and 5).
-use Rattle.std.specs.Prelude.{ℕ, Bool, false, List, [], ◌∷◌, ◌++◌, ◌==◌, ◌||◌, map, take, drop, length, if◌then◌else◌, codes}
+use Rattle.std.specs.Prelude.{ℕ, Bool, false, List, [], ◌∷◌, ◌++◌, ◌==◌, ◌||◌, ◌&&◌, map, take, drop, length, if◌then◌else◌, codes}
 use Rattle.std.specs.Str.{str_eq_ignore_ascii_case}
 use Rattle.std.specs.Str.Lines.{strip_carriage_return}
 use Rattle.mime.specs.Grammar.{is_space}
-use Rattle.mime_http.specs.HttpList.{trimmed}
+use Rattle.mime_http.specs.HttpList.{trim_start, trimmed}
 use Rattle.mime_io.specs.Lines.{lines_of}
 
 -- a line without the mark that `curl -v` writes before it, `>` or `<` and a space, which begins no field's name
@@ -59,3 +59,12 @@ from_status (line ∷ lines) = if begins (codes "http/") line then line ∷ line
 abbrev pub title_of : List (List ℕ) → List ℕ
 title_of [] = []
 title_of (line ∷ lines) = if begins (codes "*") line then title_of lines else line
+
+-- a line has a field's name and then white space before a colon, so it is no header (RFC 9112, 5.1)
+abbrev pub is_colon_first : List ℕ → Bool
+is_colon_first [] = false
+is_colon_first (b ∷ line) = b == 58
+
+abbrev pub is_spaced : List ℕ → List ℕ → Bool
+is_spaced name line =
+    begins name line && (goes_on (drop (length name) line) && is_colon_first (trim_start (drop (length name) line)))

@@ -19,7 +19,7 @@ use Rattle.mime_http.specs.declared.ranking.RankedOffer.{RankedOffer}
 use Rattle.mime_http.specs.declared.value.FieldError.{FieldError}
 use Rattle.mime_http.specs.declared.value.FieldError.TheVariants.{NotUtf8, Invalid, NoMemory}
 use Rattle.mime_io.specs.Lines.{row, suffix_row}
-use Rattle.mime_headers.specs.Head.{bare_lines, until_empty, after_head, from_status, title_of, values_of}
+use Rattle.mime_headers.specs.Head.{bare_lines, until_empty, after_head, from_status, title_of, is_spaced, values_of}
 use Rattle.mime_headers.specs.Shown.{without_controls}
 use Rattle.mime_headers.specs.declared.verdict.Verdict.{Verdict}
 
@@ -42,12 +42,25 @@ fault_at value (NotUtf8 pos) = pos
 fault_at value (Invalid fault) = invalid_at value fault
 fault_at value NoMemory = length value
 
+-- a word on a comment, which mails have, and HTTP doesn't
+abbrev pub invalid_remark : ParseError → List ℕ
+invalid_remark (InvalidToken pos byte) = if byte == 40 then codes " (HTTP has no comments)" else []
+invalid_remark fault = []
+
+abbrev pub fault_remark : FieldError → List ℕ
+fault_remark (NotUtf8 pos) = []
+fault_remark (Invalid fault) = invalid_remark fault
+fault_remark NoMemory = []
+
 -- the rows of a rejected value of a field: its fault, and the value over a caret at the byte at fault
+abbrev pub caret_row : ℕ → List ℕ → List ℕ
+caret_row at remark = codes "    " ++ (replicate at 32 ++ (codes "^" ++ (remark ++ codes "\n")))
+
 abbrev pub fault_rows : List ℕ → List ℕ → FieldError → List ℕ
 fault_rows label value error =
     row label (field_error_text error)
     ++ (row (codes "    ") (shown value)
-    ++ row (codes "    ") (replicate (fault_at value error) 32 ++ codes "^"))
+    ++ caret_row (fault_at value error) (fault_remark error))
 
 -- what is read of a value, with the kept text that is printed of it
 abbrev pub ReadsAs : List ℕ → MediaType → Type 0
@@ -84,6 +97,12 @@ pub data ReportsTypes : List (List ℕ) → List ℕ → Bool → Type 0 where
   no_more : ReportsTypes [] [] true
   one_more : {value rows others : List ℕ} {is_good are_good : Bool} {values : List (List ℕ)} → ReportsType (trimmed value) rows is_good
       → ReportsTypes values others are_good → ReportsTypes (value ∷ values) (rows ++ others) (is_good && are_good)
+
+-- the row which says that there is no `Content-Type`, or more than one
+abbrev pub count_row : List (List ℕ) → List ℕ
+count_row [] = row (codes "no Content-Type") []
+count_row (value ∷ []) = []
+count_row (value ∷ other ∷ values) = row (codes "several Content-Type lines (HTTP allows one)") []
 
 -- the row which says that a field has no line
 abbrev pub none_row : List ℕ → List (List ℕ) → List ℕ
@@ -185,6 +204,11 @@ pub data ReportsChoice (lines : List (List ℕ)) (offers : List MediaType) (befo
 abbrev pub title_row : Bool → List (List ℕ) → List ℕ
 title_row many head = if many then row (codes "head ") (shown (title_of head)) else []
 
+-- the row of a line that would be a header without its white space
+abbrev pub spaced_row : List ℕ → List ℕ
+spaced_row line =
+    if is_spaced (codes "content-type") line || is_spaced (codes "accept") line then row (codes "white space before the colon: ") (shown line) else []
+
 -- what is written of a head
 pub record ReportsHead (offers : List MediaType) (many : Bool) (head : List (List ℕ)) (is_last : Bool) (before : Option Bool) (rows : List ℕ)
     (are_good : Bool) (after : Option Bool) : Type 0 where
@@ -195,7 +219,7 @@ pub record ReportsHead (offers : List MediaType) (many : Bool) (head : List (Lis
       choice_rows after
   pub is_rows :
       rows ≡ title_row many head
-      ++ (type_rows ++ (none_row (codes "no Content-Type") (values_of (codes "content-type:") head) ++ choice_rows))
+      ++ (flat_map spaced_row head ++ (type_rows ++ (count_row (values_of (codes "content-type:") head) ++ choice_rows)))
 
 -- and of all heads of lines, one after another
 pub data ReportsHeads (offers : List MediaType) (many : Bool) : List (List ℕ) → Option Bool → List ℕ → Bool → Option Bool → Type 0 where

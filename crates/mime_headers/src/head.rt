@@ -5,7 +5,7 @@ ghost use Rattle.std.specs.Str.Lines.{strip_carriage_return};
 ghost use Rattle.std.specs.Vec.{vec_items};
 ghost use Rattle.mime.specs.Grammar.{is_space};
 ghost use Rattle.mime_http.specs.HttpList.{trim_start, trim_end, trimmed};
-ghost use Rattle.mime_headers.specs.Head.{without_space, without_mark, bare_lines, head_of, after_head, from_status, title_of, goes_on, continued, begins, values_of};
+ghost use Rattle.mime_headers.specs.Head.{without_space, without_mark, bare_lines, head_of, after_head, from_status, title_of, is_colon_first, is_spaced, goes_on, continued, begins, values_of};
 
 use mime_io::first_line;
 use std::alloc::{AllocError, Global};
@@ -51,7 +51,7 @@ fn bare_line(input: &[u8]) -> Option<(&[u8], &[u8])>
 
 /// The first line of a head and the input after it, or `None` if the head has ended: with a line that has nothing but a mark, or with
 /// the input.
-fn head_line(input: &[u8]) -> Option<(&[u8], &[u8])>
+pub(crate) fn head_line(input: &[u8]) -> Option<(&[u8], &[u8])>
     ensures lines { MatchOption result (head_of input.now ≡ []) (λ cut. head_of input.now ≡ cut.0.now ∷ head_of cut.1.now) }
     ensures shorter { IfSome result (λ cut. length cut.1.now < length input.now) }
 {
@@ -231,4 +231,25 @@ pub(crate) fn title_of(input: &[u8]) -> &[u8]
         rest = more;
     }
     &[]
+}
+
+/// Whether bytes begin with a colon.
+fn is_colon_first(bytes: &[u8]) -> bool
+    ensures { result ≡ is_colon_first bytes.now }
+{
+    match bytes.first() {
+        Some(&first) => first == b':',
+        None => false,
+    }
+}
+
+/// Whether a line has a field's name and then white space before a colon.
+pub(crate) fn is_spaced(name: &[u8], line: &[u8]) -> bool
+    ensures { result ≡ is_spaced name.now line.now }
+{
+    if !begins(name, line) {
+        return false;
+    }
+    let rest = &line[name.len()..];
+    goes_on(rest) && is_colon_first(trim_start(rest))
 }

@@ -1,17 +1,17 @@
 //! The report on a head.
 
-ghost use Rattle.std.specs.Prelude.{◌≡◌, ◌++◌, [], ◌∷◌, ℕ, List, Some, map, flat_map, slice_get, replicate, OnOk, IfOk, option_map, codes};
+ghost use Rattle.std.specs.Prelude.{◌≡◌, ◌++◌, [], ◌∷◌, ℕ, List, Some, map, flat_map, slice_get, replicate, OnOk, IfOk, option_map};
 ghost use Rattle.std.specs.Vec.{vec_items};
 ghost use Rattle.mime.specs.Values.{suffix_of};
 ghost use Rattle.mime_http.specs.HttpList.{trimmed, lines_or_any};
 ghost use Rattle.mime_io.specs.Inner.{Adds};
 ghost use Rattle.mime_io.specs.Lines.{row, suffix_row};
-ghost use Rattle.mime_headers.specs.Report.{shown_byte, shown, param_row, media_rows, ReportsBoundary, fault_at, fault_rows, ReportsType, ReportsTypes, none_row, digit, weight_text};
+ghost use Rattle.mime_headers.specs.Report.{shown_byte, shown, param_row, media_rows, ReportsBoundary, fault_at, fault_remark, caret_row, fault_rows, ReportsType, ReportsTypes, none_row, count_row, spaced_row, digit, weight_text};
 ghost use Rattle.mime_headers.specs.Report.{weight_remark, range_row, place_text, by_text, lacking_text, lacking_remark, offer_row, offer_rows, best_of, best_rows, is_acceptable, verdict_of, chooses, title_row, ReportsChoice, ReportsHead, IsReportOf};
 ghost use Rattle.mime_headers.specs.Head.{head_of};
 ghost use Rattle.mime_headers.specs.Inner.{AddsEntry, AddsLines};
 
-use crate::head::{next_head, title_of, trimmed, values_of};
+use crate::head::{head_line, is_spaced, next_head, title_of, trimmed, values_of};
 use crate::shown::without_controls;
 use crate::verdict::Verdict;
 use mime::{Mime, ParseError};
@@ -65,8 +65,9 @@ fn push_head(
     let types = values_of(alloc, b"content-type:", head)?;
     let lines = values_of(alloc, b"accept:", head)?;
     push_title(report, many, head)?;
+    push_spaced(report, head)?;
     let are_good = push_types(alloc, report, &types)?;
-    push_none(report, "no Content-Type", &types)?;
+    push_count(report, &types)?;
     let is_here = chooses(&lines, *choice, is_last);
     *choice = push_choice(alloc, report, &lines, offers, *choice, is_here)?;
     Ok(are_good)
@@ -80,6 +81,40 @@ fn push_title(report: &mut Vec<u8>, many: bool, head: &[u8]) -> Result<(), Alloc
         push_shown(report, "head ", title_of(head))
     } else {
         Ok(())
+    }
+}
+
+/// Adds the rows of lines that would be headers without their white space.
+fn push_spaced(report: &mut Vec<u8>, head: &[u8]) -> Result<(), AllocError>
+    ensures { OnOk result (vec_items report.new ≡ vec_items report.old ++ flat_map spaced_row (head_of head.now)) }
+{
+    let mut rest = head;
+    while let Some((line, more)) = head_line(rest) {
+        push_if_spaced(report, line)?;
+        rest = more;
+    }
+    Ok(())
+}
+
+/// Adds the row of a line that would be a header without its white space, if it is one.
+fn push_if_spaced(report: &mut Vec<u8>, line: &[u8]) -> Result<(), AllocError>
+    ensures { OnOk result (vec_items report.new ≡ vec_items report.old ++ spaced_row line.now) }
+{
+    if is_spaced(b"content-type", line) || is_spaced(b"accept", line) {
+        push_shown(report, "white space before the colon: ", line)
+    } else {
+        Ok(())
+    }
+}
+
+/// Adds the row which says that there is no `Content-Type`, or more than one.
+fn push_count(report: &mut Vec<u8>, values: &[Vec<u8>]) -> Result<(), AllocError>
+    ensures { OnOk result (vec_items report.new ≡ vec_items report.old ++ count_row (map vec_items values.now)) }
+{
+    match values {
+        [] => push_row(report, "no Content-Type", b""),
+        [_] => Ok(()),
+        _ => push_row(report, "several Content-Type lines (HTTP allows one)", b""),
     }
 }
 
@@ -220,18 +255,40 @@ fn push_fault(
     let text = format!(in alloc; "{error}")?;
     push_row(report, label, text.as_bytes())?;
     push_shown(report, "    ", value)?;
-    push_caret(report, fault_at(value, error))
+    push_caret(report, fault_at(value, error), fault_remark(error))
 }
 
-/// The position of the byte at fault/// Adds a row with a caret so many bytes after its margin.
-fn push_caret(report: &mut Vec<u8>, at: usize) -> Result<(), AllocError>
-    ensures { OnOk result (vec_items report.new ≡ vec_items report.old ++ row (codes "    ") (replicate at 32 ++ codes "^")) }
+/// The position of the byte at fault/// A word on a comment.
+fn fault_remark(error: FieldError) -> &'static str
+    ensures { result.now ≡ fault_remark error }
+{
+    match error {
+        FieldError::Invalid(ParseError::InvalidToken { byte: b'(', .. }) => {
+            " (HTTP has no comments)"
+        }
+        _ => "",
+    }
+}
+
+/// Adds a row with a caret so many bytes after its margin, and a remark.
+fn push_caret(report: &mut Vec<u8>, at: usize, remark: &str) -> Result<(), AllocError>
+    ensures { OnOk result (vec_items report.new ≡ vec_items report.old ++ caret_row at remark.now) }
 {
     push(report, "    ")?;
-    for _ in 0..at {
+    push_spaces(report, at)?;
+    push(report, "^")?;
+    push(report, remark)?;
+    push(report, "\n")
+}
+
+/// Adds so many spaces.
+fn push_spaces(report: &mut Vec<u8>, count: usize) -> Result<(), AllocError>
+    ensures { OnOk result (vec_items report.new ≡ vec_items report.old ++ replicate count 32) }
+{
+    for _ in 0..count {
         report.push(b' ')?;
     }
-    push(report, "^\n")
+    Ok(())
 }
 
 /// How a byte is shown that may be any.

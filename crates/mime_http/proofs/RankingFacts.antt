@@ -1,13 +1,15 @@
 -- Offers that are sorted by their ranks are in order, each with what the ranges give it; and the first entry of a line.
-use Rattle.mime_http.proofs.Common.{Outside, All-contains, AreBetweenCommas, BeginsPiece, IsPiece, List, MediaType, Reverse, Rank, [], ap, append-nil, append_cancel_left, arith, comma, drop, drop_more, drop_of_length-le, get_or, get_or-map, length, length-drop, length-map, line_end, map, merit, no_line, refl, subst, suc, sym, take, take-append-drop, take_all, ℕ, ⊤, ◌+◌, ◌++◌, ◌-◌, ◌<◌, ◌≡◌, ◌≤◌, ◌∙◌, ◌∷◌}
+use Rattle.mime_http.proofs.Common.{AllPairs, None, Option, Some, best_offer, inl, inr, is_gt, nat_lt, nat_tests, zero, ⊎_elim, ◌⊎◌, ◌↔◌, if◌then◌else◌, All-contains, AreBetweenCommas, BeginsPiece, IsPiece, List, MediaType, Reverse, Rank, [], ap, append-nil, append_cancel_left, arith, comma, drop, drop_more, drop_of_length-le, get_or, get_or-map, length, length-drop, length-map, line_end, map, merit, no_line, refl, subst, suc, sym, take, take-append-drop, take_all, ℕ, ⊤, ◌+◌, ◌++◌, ◌-◌, ◌<◌, ◌≡◌, ◌≤◌, ◌∙◌, ◌∷◌, Contains, get_or_default, position, true, false, cases_Bool, Outside}
 use Rattle.std.specs.List.{All}
 use Rattle.std.specs.List.Sorted.{IsPermutation, IsSorted}
 use Rattle.std.proofs.lemmas.List.Elements.{All-map}
 use Rattle.std.proofs.lemmas.List.Sorted.{IsPermutation-map, Contains-permutation}
 use Rattle.mime_http.specs.LineCut.{cut, cut_after}
 use Rattle.mime_http.specs.Ranking.{IsRanking, ranked_as}
+use Rattle.mime_http.specs.declared.ranking.RankedOffer.{RankedOffer}
 use Rattle.mime_http.proofs.Cuts.{are_cut, cut_at_end, end_on}
-use Rattle.mime_http.proofs.Order.{IsAny, Ranked, offer_cmp, rank_at, sorted_best_first, stand}
+use Rattle.mime_http.proofs.Highest.{is_best, IsHighest, NotAbove, best_is_found, lowest, none_is_best, none_is_found}
+use Rattle.mime_http.proofs.Order.{ComesBefore, IsAny, Ranked, offer_cmp, rank_at, sorted_best_first, stand}
 
 -- what the next item gives is the first of what is left
 pub next_mapped : {X Y : Type 0} (f : X → Y) (xs : List X) (at : ℕ) (x : X) → at < length xs → x ≡ get_or xs at x
@@ -94,3 +96,58 @@ module _ (line : List ℕ) (end : ℕ) (is : end ≡ end_on Outside line 0) wher
       let more = first_of_more (cut_after (drop end line)) some pieces in
       let rest : after ≡ more.0 = ap (drop 1) (sym next ∙ append_cancel_left (take end line) _ _ (take-append-drop end line ∙ more.1)) in
       (more.1 ∙ ap (λ rest. take end line ++ (44 ∷ rest)) (sym (take_all _ after (omega (arith, length-drop (end + 1) line)) ∙ rest)), more.2)
+
+-- ---- the best
+
+-- the first of an order is the best, unless it weighs nothing
+abbrev first_weighs : List Rank → List ℕ → Option ℕ
+first_weighs ranks [] = None
+first_weighs ranks (at ∷ order) = if nat_lt 0 (rank_at ranks at).0 then Some at else None
+
+module _ (ranks : List Rank) (at : ℕ) (order : List ℕ) (best_first : AllPairs (ComesBefore ranks) (at ∷ order))
+    (all : (i : ℕ) → Contains (at ∷ order) i ↔ (i < length ranks)) where
+  -- each other comes after it
+  comes_after : (i : ℕ) → i < length ranks → (i ≡ at) ⊎ ComesBefore ranks at i
+  comes_after i within = go ((all i).1 within)
+    where
+      go : Contains (at ∷ order) i → (i ≡ at) ⊎ ComesBefore ranks at i
+      go (zero, inside, is) = inl (sym is)
+      go (suc k, inside, is) = inr (subst (ComesBefore ranks at) is (best_first 0 (suc k) i (omega arith) inside))
+
+  first_is_highest : IsHighest ranks (rank_at ranks at) (Some at)
+  first_is_highest = record {
+    above = λ k d within.
+        rw (get_or_default ranks k d lowest within) (⊎_elim (λ same. rw same (grind (arith, nat_tests)))
+        (λ after. ⊎_elim (λ higher. grind (arith, nat_tests, higher)) (λ tied. grind (arith, nat_tests, tied.0)) after) (comes_after k within));
+    first = λ some. (
+      at,
+      refl,
+      record {
+        within = (all at).0 (0, omega arith, refl);
+        there = refl;
+        before = λ j less.
+            ⊎_elim (λ same. absurd (omega (arith, less, same)))
+            (λ after. ⊎_elim (λ higher. higher) (λ tied. absurd (omega (arith, less, tied.1))) after)
+            (comes_after j (omega (arith, less, (all at).0 (0, omega arith, refl))));
+      },
+    );
+  }
+
+best_by_order : (ranks : List Rank) (order : List ℕ) → AllPairs (ComesBefore ranks) order
+    → ((i : ℕ) → Contains order i ↔ (i < length ranks)) → position (is_best ranks) ranks ≡ first_weighs ranks order
+best_by_order ranks [] best_first all = sym (none_is_best ranks (λ i within. absurd (omega (arith, ((all i).1 within).1))))
+best_by_order ranks (at ∷ order) best_first all =
+    let highest = first_is_highest ranks at order best_first all in
+    ⊎_elim (λ (some : nat_lt 0 (rank_at ranks at).0 ≡ true). rw some (sym (best_is_found highest (grind (arith, nat_tests, some)))))
+    (λ (none : nat_lt 0 (rank_at ranks at).0 ≡ false). rw none (sym (none_is_found highest (grind (arith, nat_tests, none)))))
+    (cases_Bool (nat_lt 0 (rank_at ranks at).0))
+
+-- so the best offer is the first of a ranking, unless it weighs nothing
+best_is_first : (ranges offers : List MediaType) (ranking : List RankedOffer) (is : IsRanking ranges offers ranking)
+    → best_offer ranges offers ≡ first_weighs (map (merit ranges) offers) is.order
+best_is_first ranges offers ranking is =
+    best_by_order (map (merit ranges) offers) is.order is.best_first
+    (λ i. (
+      λ there. omega (arith, (is.all i).0 there, length-map offers (merit ranges)),
+      λ within. (is.all i).1 (omega (arith, within, length-map offers (merit ranges))),
+    ))
