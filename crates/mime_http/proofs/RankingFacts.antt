@@ -114,16 +114,16 @@ module _ (ranks : List Rank) (at : ℕ) (order : List ℕ) (best_first : AllPair
       go (zero, inside, is) = inl (sym is)
       go (suc k, inside, is) = inr (subst (ComesBefore ranks at) is (best_first 0 (suc k) i (omega arith) inside))
 
-  first_is_highest : IsHighest ranks (rank_at ranks at) (Some at)
+  first_is_highest : IsHighest ranks (length ranks) (rank_at ranks at) (Some at)
   first_is_highest = record {
-    above = λ k d within.
-        rw (get_or_default ranks k d lowest within) (⊎_elim (λ same. rw same (grind (arith, nat_tests)))
-        (λ after. ⊎_elim (λ higher. grind (arith, nat_tests, higher)) (λ tied. grind (arith, nat_tests, tied.0)) after) (comes_after k within));
+    above = λ k within.
+        ⊎_elim (λ same. rw same (grind (arith, nat_tests)))
+        (λ after. ⊎_elim (λ higher. grind (arith, nat_tests, higher)) (λ tied. grind (arith, nat_tests, tied.0)) after) (comes_after k within);
     first = λ some. (
       at,
       refl,
+      (all at).0 (0, omega arith, refl),
       record {
-        within = (all at).0 (0, omega arith, refl);
         there = refl;
         before = λ j less.
             ⊎_elim (λ same. absurd (omega (arith, less, same)))
@@ -138,8 +138,8 @@ best_by_order : (ranks : List Rank) (order : List ℕ) → AllPairs (ComesBefore
 best_by_order ranks [] best_first all = sym (none_is_best ranks (λ i within. absurd (omega (arith, ((all i).1 within).1))))
 best_by_order ranks (at ∷ order) best_first all =
     let highest = first_is_highest ranks at order best_first all in
-    ⊎_elim (λ (some : nat_lt 0 (rank_at ranks at).0 ≡ true). rw some (sym (best_is_found highest (grind (arith, nat_tests, some)))))
-    (λ (none : nat_lt 0 (rank_at ranks at).0 ≡ false). rw none (sym (none_is_found highest (grind (arith, nat_tests, none)))))
+    ⊎_elim (λ (some : nat_lt 0 (rank_at ranks at).0 ≡ true). rw some (sym (best_is_found highest (omega arith) (grind (arith, nat_tests, some)))))
+    (λ (none : nat_lt 0 (rank_at ranks at).0 ≡ false). rw none (sym (none_is_found highest (omega arith) (grind (arith, nat_tests, none)))))
     (cases_Bool (nat_lt 0 (rank_at ranks at).0))
 
 -- so the best offer is the first of a ranking, unless it weighs nothing
