@@ -30,6 +30,7 @@ impl ParamKey for Exactly<'_> {
 }
 
 /// Returns the first value under a name, which is in lowercase.
+#[inline(always)]
 #[tactic(auto, using(crate::proofs::Demanded::first_is))]
 pub(crate) fn first_value<'a>(mime: &'a Mime, name: &str) -> Option<Name<'a>>
     ensures { option_map name_text result ≡ first_value name.now mime.now.media.pairs }
