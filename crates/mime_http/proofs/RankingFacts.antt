@@ -1,5 +1,5 @@
 -- Offers that are sorted by their ranks are in order, each with what the ranges give it; and the first entry of a line.
-use Rattle.mime_http.proofs.Common.{AllPairs, None, Option, Some, best_offer, inl, inr, is_gt, nat_lt, nat_tests, zero, ⊎_elim, ◌⊎◌, ◌↔◌, if◌then◌else◌, All-contains, AreBetweenCommas, BeginsPiece, IsPiece, List, MediaType, Reverse, Rank, [], ap, append-nil, append_cancel_left, arith, comma, drop, drop_more, drop_of_length-le, get_or, get_or-map, length, length-drop, length-map, line_end, map, merit, no_line, refl, subst, suc, sym, take, take-append-drop, take_all, ℕ, ⊤, ◌+◌, ◌++◌, ◌-◌, ◌<◌, ◌≡◌, ◌≤◌, ◌∙◌, ◌∷◌, Contains, get_or_default, position, true, false, cases_Bool, Outside}
+use Rattle.mime_http.proofs.Common.{AllPairs, None, Option, Some, best_offer, inl, inr, nat_lt, nat_tests, zero, ⊎_elim, ◌⊎◌, ◌↔◌, if◌then◌else◌, All-contains, AreBetweenCommas, BeginsPiece, IsPiece, List, MediaType, Reverse, Rank, [], ap, append-nil, append_cancel_left, arith, comma, drop, drop_more, drop_of_length-le, get_or, get_or-map, length, length-drop, length-map, line_end, map, merit, no_line, refl, subst, suc, sym, take, take-append-drop, take_all, ℕ, ⊤, ◌+◌, ◌++◌, ◌-◌, ◌<◌, ◌≡◌, ◌≤◌, ◌∙◌, ◌∷◌, Contains, position, true, false, cases_Bool, Outside}
 use Rattle.std.specs.List.{All}
 use Rattle.std.specs.List.Sorted.{IsPermutation, IsSorted}
 use Rattle.std.proofs.lemmas.List.Elements.{All-map}
@@ -8,7 +8,7 @@ use Rattle.mime_http.specs.LineCut.{cut, cut_after}
 use Rattle.mime_http.specs.Ranking.{IsRanking, ranked_as}
 use Rattle.mime_http.specs.declared.ranking.RankedOffer.{RankedOffer}
 use Rattle.mime_http.proofs.Cuts.{are_cut, cut_at_end, end_on}
-use Rattle.mime_http.proofs.Highest.{is_best, IsHighest, NotAbove, best_is_found, lowest, none_is_best, none_is_found}
+use Rattle.mime_http.proofs.Highest.{is_best, IsHighest, best_is_found, none_is_best, none_is_found}
 use Rattle.mime_http.proofs.Order.{ComesBefore, IsAny, Ranked, offer_cmp, rank_at, sorted_best_first, stand}
 
 -- what the next item gives is the first of what is left
