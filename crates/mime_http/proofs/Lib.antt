@@ -16,6 +16,7 @@ pub mod Order
 pub mod PlainIsHttp
 pub mod RangesFacts
 pub mod RankingFacts
+pub mod Rankings
 pub mod ReadAnew
 pub mod ReadAt
 pub mod ReadBack

@@ -17,7 +17,7 @@ abbrev pair : List ℕ → List ℕ × List ℕ
 pair text = (up_to_mark 61 text, get_or (pieces_at 61 [] text) 1 [])
 
 -- the media type of a text without spaces,
-abbrev media : List ℕ → MediaType
+abbrev pub media : List ℕ → MediaType
 media text = record {
   essence = up_to_mark 59 text;
   slash = prefix_len (λ b. not (b == 47)) text;
@@ -27,7 +27,7 @@ media text = record {
 }
 
 -- and those of a list
-abbrev all : List ℕ → List MediaType
+abbrev pub all : List ℕ → List MediaType
 all text = map media (pieces_at 44 [] text)
 
 -- whether a range covers an offer

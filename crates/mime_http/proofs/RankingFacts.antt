@@ -1,153 +1,50 @@
--- Offers that are sorted by their ranks are in order, each with what the ranges give it; and the first entry of a line.
-use Rattle.mime_http.proofs.Common.{AllPairs, None, Option, Some, best_offer, inl, inr, nat_lt, nat_tests, zero, ⊎_elim, ◌⊎◌, ◌↔◌, if◌then◌else◌, All-contains, AreBetweenCommas, BeginsPiece, IsPiece, List, MediaType, Reverse, Rank, [], ap, append-nil, append_cancel_left, arith, comma, drop, drop_more, drop_of_length-le, get_or, get_or-map, length, length-drop, length-map, line_end, map, merit, no_line, refl, subst, suc, sym, take, take-append-drop, take_all, ℕ, ⊤, ◌+◌, ◌++◌, ◌-◌, ◌<◌, ◌≡◌, ◌≤◌, ◌∙◌, ◌∷◌, Contains, position, true, false, cases_Bool, Outside}
-use Rattle.std.specs.List.{All}
-use Rattle.std.specs.List.Sorted.{IsPermutation, IsSorted}
-use Rattle.std.proofs.lemmas.List.Elements.{All-map}
-use Rattle.std.proofs.lemmas.List.Sorted.{IsPermutation-map, Contains-permutation}
-use Rattle.mime_http.specs.LineCut.{cut, cut_after}
-use Rattle.mime_http.specs.Ranking.{IsRanking, ranked_as}
-use Rattle.mime_http.specs.declared.ranking.RankedOffer.{RankedOffer}
-use Rattle.mime_http.proofs.Cuts.{are_cut, cut_at_end, end_on}
-use Rattle.mime_http.proofs.Highest.{is_best, IsHighest, best_is_found, none_is_best, none_is_found}
-use Rattle.mime_http.proofs.Order.{ComesBefore, IsAny, Ranked, offer_cmp, rank_at, sorted_best_first, stand}
+-- Worked facts of the page `Ranking`: the weights that RFC 9110 allows, what an offer lacks, and what ranges give offers.
+use Rattle.mime_http.proofs.Common.{Contains, None, Some, [], ap, arith, codes, false, length, length-map, refl, suc, true, zero, ℕ, ◌<◌, ◌∷◌, ◌≡◌}
+use Rattle.mime_http.specs.Ranges.{merit_at}
+use Rattle.mime_http.specs.Ranking.{IsRanking, is_lacking, is_qvalue, ranked_as}
+use Rattle.mime_http.proofs.RangesFacts.{all, media}
 
--- what the next item gives is the first of what is left
-pub next_mapped : {X Y : Type 0} (f : X → Y) (xs : List X) (at : ℕ) (x : X) → at < length xs → x ≡ get_or xs at x
-    → drop at (map f xs) ≡ f x ∷ drop (at + 1) (map f xs)
-next_mapped f xs at x within is =
-    drop_more (map f xs) at (f x) (omega (arith, within, length-map xs f))
-    ∙ ap (λ first. first ∷ drop (at + 1) (map f xs)) (get_or-map f xs at x (f x) within ∙ ap f (sym is))
+-- strings that are weights (RFC 9110, 12.4.2), and others
+qvalues :
+    (is_qvalue (codes "0") ≡ true) × (is_qvalue (codes "0.") ≡ true) × (is_qvalue (codes "0.125") ≡ true) × (is_qvalue (codes "1.000") ≡ true)
+    -- a fourth decimal is too many, and nothing is above 1
+    × (is_qvalue (codes "0.1250") ≡ false) × (is_qvalue (codes "1.5") ≡ false) × (is_qvalue (codes "2") ≡ false)
+    -- a digit comes before the dot, and no other byte
+    × (is_qvalue (codes ".5") ≡ false) × (is_qvalue (codes "-1") ≡ false) × (is_qvalue (codes "high") ≡ false) × (is_qvalue [] ≡ false)
+    × (is_qvalue (codes "0x5") ≡ false) × (is_qvalue (codes "0.x") ≡ false)
+qvalues = (refl, refl, refl, refl, refl, refl, refl, refl, refl, refl, refl, refl, refl)
 
--- ---- a ranking
+-- an offer lacks a parameter of a range of its essence alone, and only one that it doesn't have
+lacks :
+    (is_lacking (media (codes "application/json")) (media (codes "application/json;charset=utf-8")) ≡ true)
+    × (is_lacking (media (codes "a/b;p=x")) (media (codes "a/b;p=y")) ≡ true)
+    × (is_lacking (media (codes "a/b;p=x")) (media (codes "a/b;p=x")) ≡ false)
+    × (is_lacking (media (codes "a/c")) (media (codes "a/b;p=x")) ≡ false)
+lacks = (refl, refl, refl, refl)
 
--- what offers say that have their ranks
-said : (count : ℕ) (ranks : List Rank) (at : ℕ) (items : List (Reverse Rank × ℕ))
-    → All (λ offer. (offer.0.0 ≡ rank_at ranks offer.1) × ⊤ × (offer.1 < at)) items
-    → map (λ one. ranked_as count one.0.0 one.1) items ≡ map (λ at. ranked_as count (rank_at ranks at) at) (map (λ one. one.1) items)
-said count ranks at [] are = refl
-said count ranks at (item ∷ items) are =
-    let first : item.0.0 ≡ rank_at ranks item.1 = (are 0 item (omega arith)).0 in
-    let others = said count ranks at items (λ k d within. are (suc k) d (omega (arith, within))) in
-    λ i. ranked_as count (first i) item.1 ∷ others i
+-- what a rank says: the range that decides is the second of two, or there is none
+said :
+    (ranked_as 2 (500, 2, 0, 1) 3 ≡ record { offer = 3; weight = 500; range = Some 1 })
+    × (ranked_as 2 (0, 0, 0, 0) 3 ≡ record { offer = 3; weight = 0; range = None })
+said = (refl, refl)
 
--- what is sorted is a ranking
-pub is_ranking : (ranges offers : List MediaType) (count at : ℕ) (found sorted : List (Reverse Rank × ℕ)) → count ≡ length ranges
-    → at ≡ length offers → Ranked IsAny (map (merit ranges) offers) at found → IsPermutation found sorted → IsSorted offer_cmp sorted
-    → IsRanking ranges offers (map (λ one. ranked_as count one.0.0 one.1) sorted)
-is_ranking ranges offers count at found sorted counted past was moved up = record {
-  order = map (λ one. one.1) sorted;
-  best_first = sorted_best_first (map (merit ranges) offers) at found sorted was moved up;
-  all = λ i. (
-    All-contains (λ n. n < length offers) (map (λ one. one.1) sorted) i (All-map (λ n. n < length offers) (λ one. one.1) sorted (λ k d within.
-        omega (arith, past, (stand was sorted moved k d within).2))),
-    λ within. Contains-permutation (map (λ one. one.1) found) (map (λ one. one.1) sorted) i (IsPermutation-map (λ one. one.1) found sorted moved)
-        (was.all i (omega (arith, within, past)) tt),
-  );
-  given =
-      ap (λ n. map (λ one. ranked_as n one.0.0 one.1) sorted) counted
-      ∙ said (length ranges) (map (merit ranges) offers) at sorted (stand was sorted moved);
+-- a ranking of one offer has it alone,
+one_offer : IsRanking (all (codes "a/b,c/d;q=0.5")) (all (codes "c/d")) (record { offer = 0; weight = 500; range = Some 1 } ∷ [])
+one_offer = record {
+  order = 0 ∷ [];
+  best_first = λ i j d before within. absurd (omega (arith, before, within));
+  all = λ at. (there at, λ within. (0, omega arith, omega (arith, within)));
+  given = refl;
 }
+  where
+    there : (at : ℕ) → Contains (0 ∷ []) at → at < 1
+    there at (zero, inside, is) = omega (arith, is)
+    there at (suc k, inside, is) = absurd (omega (arith, inside))
 
--- ---- the first entry
-
--- each line has a piece, and no line has none
-lines_have_pieces : {Other Last : List ℕ → Type 0} {lines pieces : List (List ℕ)} → AreBetweenCommas Other Last lines pieces
-    → length lines ≤ length pieces
-lines_have_pieces no_line = omega arith
-lines_have_pieces (line_end text lines texts last rest) = omega (arith, lines_have_pieces rest)
-lines_have_pieces (comma text line lines texts other rest) = omega (arith, lines_have_pieces rest)
-
-no_line_has_none : {Other Last : List ℕ → Type 0} {lines pieces : List (List ℕ)} → AreBetweenCommas Other Last lines pieces → lines ≡ []
-    → pieces ≡ []
-no_line_has_none no_line none = refl
-no_line_has_none (line_end text lines texts last rest) none = absurd (cc)
-no_line_has_none (comma text line lines texts other rest) none = absurd (cc)
-
--- a line of one piece begins one,
-alone : {line piece : List ℕ} → AreBetweenCommas IsPiece BeginsPiece (line ∷ []) (piece ∷ []) → BeginsPiece line
-alone (line_end text lines texts last rest) = last
-alone (comma text line lines texts other rest) = absurd (omega (arith, lines_have_pieces rest))
-
--- and after the first of more a comma stands
-first_of_more : {line piece : List ℕ} (others : List (List ℕ)) → 0 < length others
-    → AreBetweenCommas IsPiece BeginsPiece (line ∷ []) (piece ∷ others) → (rest : List ℕ) × (line ≡ piece ++ (44 ∷ rest)) × IsPiece piece
-first_of_more others some (line_end text lines texts last rest) = absurd (omega (arith, some, ap length (no_line_has_none rest refl)))
-first_of_more others some (comma text line lines texts other rest) = (line, refl, other)
-
-module _ (line : List ℕ) (end : ℕ) (is : end ≡ end_on Outside line 0) where
-  -- the pieces of the line
-  pieces : AreBetweenCommas IsPiece BeginsPiece (line ∷ []) (take end line ∷ cut_after (drop end line))
-  pieces =
-      subst (AreBetweenCommas IsPiece BeginsPiece (line ∷ [])) (append-nil (cut line) ∙ cut_at_end line 0 end is
-      ∙ ap (λ n. take n line ∷ cut_after (drop end line)) (omega arith)) (are_cut (line ∷ []))
-
-  pub last_entry : length line ≤ end → BeginsPiece line
-  last_entry past =
-      alone (subst (λ rest. AreBetweenCommas IsPiece BeginsPiece (line ∷ []) (take end line ∷ cut_after rest))
-      (drop_of_length-le line past) pieces)
-
-  pub first_entry : end < length line
-      → (line ≡ take end line ++ (44 ∷ take (length line - (end + 1)) (drop (end + 1) line))) × IsPiece (take end line)
-  first_entry within =
-      let after = drop (end + 1) line in
-      let next : drop end line ≡ get_or line end 0 ∷ after = drop_more line end 0 within in
-      let some : 0 < length (cut_after (drop end line)) =
-      rw next (omega (arith, lines_have_pieces (are_cut (after ∷ [])), ap length (append-nil (cut after)))) in
-      let more = first_of_more (cut_after (drop end line)) some pieces in
-      let rest : after ≡ more.0 = ap (drop 1) (sym next ∙ append_cancel_left (take end line) _ _ (take-append-drop end line ∙ more.1)) in
-      (more.1 ∙ ap (λ rest. take end line ++ (44 ∷ rest)) (sym (take_all _ after (omega (arith, length-drop (end + 1) line)) ∙ rest)), more.2)
-
--- ---- the best
-
--- the first of an order is the best, unless it weighs nothing
-abbrev first_weighs : List Rank → List ℕ → Option ℕ
-first_weighs ranks [] = None
-first_weighs ranks (at ∷ order) = if nat_lt 0 (rank_at ranks at).0 then Some at else None
-
-module _ (ranks : List Rank) (at : ℕ) (order : List ℕ) (best_first : AllPairs (ComesBefore ranks) (at ∷ order))
-    (all : (i : ℕ) → Contains (at ∷ order) i ↔ (i < length ranks)) where
-  -- each other comes after it
-  comes_after : (i : ℕ) → i < length ranks → (i ≡ at) ⊎ ComesBefore ranks at i
-  comes_after i within = go ((all i).1 within)
-    where
-      go : Contains (at ∷ order) i → (i ≡ at) ⊎ ComesBefore ranks at i
-      go (zero, inside, is) = inl (sym is)
-      go (suc k, inside, is) = inr (subst (ComesBefore ranks at) is (best_first 0 (suc k) i (omega arith) inside))
-
-  first_is_highest : IsHighest ranks (length ranks) (rank_at ranks at) (Some at)
-  first_is_highest = record {
-    above = λ k within.
-        ⊎_elim (λ same. rw same (grind (arith, nat_tests)))
-        (λ after. ⊎_elim (λ higher. grind (arith, nat_tests, higher)) (λ tied. grind (arith, nat_tests, tied.0)) after) (comes_after k within);
-    first = λ some. (
-      at,
-      refl,
-      (all at).0 (0, omega arith, refl),
-      record {
-        there = refl;
-        before = λ j less.
-            ⊎_elim (λ same. absurd (omega (arith, less, same)))
-            (λ after. ⊎_elim (λ higher. higher) (λ tied. absurd (omega (arith, less, tied.1))) after)
-            (comes_after j (omega (arith, less, (all at).0 (0, omega arith, refl))));
-      },
-    );
-  }
-
-best_by_order : (ranks : List Rank) (order : List ℕ) → AllPairs (ComesBefore ranks) order
-    → ((i : ℕ) → Contains order i ↔ (i < length ranks)) → position (is_best ranks) ranks ≡ first_weighs ranks order
-best_by_order ranks [] best_first all = sym (none_is_best ranks (λ i within. absurd (omega (arith, ((all i).1 within).1))))
-best_by_order ranks (at ∷ order) best_first all =
-    let highest = first_is_highest ranks at order best_first all in
-    ⊎_elim (λ (some : nat_lt 0 (rank_at ranks at).0 ≡ true). rw some (sym (best_is_found highest (omega arith) (grind (arith, nat_tests, some)))))
-    (λ (none : nat_lt 0 (rank_at ranks at).0 ≡ false). rw none (sym (none_is_found highest (omega arith) (grind (arith, nat_tests, none)))))
-    (cases_Bool (nat_lt 0 (rank_at ranks at).0))
-
--- so the best offer is the first of a ranking, unless it weighs nothing
-best_is_first : (ranges offers : List MediaType) (ranking : List RankedOffer) (is : IsRanking ranges offers ranking)
-    → best_offer ranges offers ≡ first_weighs (map (merit ranges) offers) is.order
-best_is_first ranges offers ranking is =
-    best_by_order (map (merit ranges) offers) is.order is.best_first
-    (λ i. (
-      λ there. omega (arith, (is.all i).0 there, length-map offers (merit ranges)),
-      λ within. (is.all i).1 (omega (arith, within, length-map offers (merit ranges))),
-    ))
+-- and one that leaves it out is none
+no_offer : ¬ (IsRanking (all (codes "a/b,c/d;q=0.5")) (all (codes "c/d")) [])
+no_offer is =
+    let inside = (is.all 0).1 (omega arith) in
+    let given = ranked_as 2 in
+    let rank = merit_at (all (codes "a/b,c/d;q=0.5")) (all (codes "c/d")) in
+    absurd (omega (arith, inside.1, ap length is.given, length-map is.order (λ at. given (rank at) at)))

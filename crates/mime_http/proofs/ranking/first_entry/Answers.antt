@@ -1,5 +1,5 @@
 -- The first piece of the line's cut.
-use Rattle.mime_http.proofs.RankingFacts.{first_entry, last_entry}
+use Rattle.mime_http.proofs.Rankings.{first_entry, last_entry}
 use Rattle.mime_http.proofs.Common.{refl}
 use Rattle.mime_http.proofs.ranking.first_entry.Goals as goal
 

@@ -3,7 +3,7 @@ use Rattle.mime_http.proofs.Common.{IfOk, IfOk-weaker, List, Rank, Reverse, arit
 use Rattle.mime_http.specs.Ranking.{IsRanking, ranked_as}
 use Rattle.mime_http.proofs.Highest.{value_at}
 use Rattle.mime_http.proofs.Order.{IsAny, Ranked, one_ranked, rank_at}
-use Rattle.mime_http.proofs.RankingFacts.{is_ranking}
+use Rattle.mime_http.proofs.Rankings.{is_ranking}
 use Rattle.mime_http.proofs.ranking.rank_offers.Goals as goal
 
 pub loop-at-preserved : goal.loop-at-preserved
