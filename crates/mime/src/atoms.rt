@@ -11,8 +11,8 @@ use crate::value::Mime;
 use std::fmt;
 
 /// A constant media type (RFC 7231, 3.1.1.1): [`Atom::mime`] returns it as a [`Mime`], [`Atom::text`] as a string. It
-/// can be matched and copied, and never allocates: `TEXT_PLAIN.mime()` is the media type `text/plain`. It has no order:
-/// order the media types.
+/// can be matched and copied, and never allocates: `TEXT_PLAIN.mime()` is the media type `text/plain`. Constants aren't
+/// ordered, but their media types are.
 ///
 /// Each constant of the crate's root, such as [`TEXT_PLAIN`](crate::TEXT_PLAIN), is the variant of its name, so a
 /// `match` can name it:
@@ -20,7 +20,7 @@ use std::fmt;
 /// ```rust
 /// use mime::{Atom, IMAGE_PNG, TEXT_HTML, TEXT_HTML_UTF_8};
 ///
-/// /// The file extension of this media type, if it has one here.
+/// /// Returns the file extension of this media type, if it has one here.
 /// pub fn extension(atom: Atom) -> Option<&'static str> {
 ///     match atom {
 ///         TEXT_HTML | TEXT_HTML_UTF_8 => Some("html"),

@@ -23,7 +23,7 @@ const P: u8 = 4;
 /// Any other byte that may occur in a token.
 const T: u8 = 5;
 
-/// The kind of each byte. A kind may also occur wherever the kinds before it may.
+/// The kind of each byte. A byte of one kind may occur wherever a byte of an earlier kind may.
 static KINDS: [u8; 256] = [
     N, N, N, N, N, N, N, N, N, Q, N, N, N, N, N, N, N, N, N, N, N, N, N, N, N, N, N, N, N, N, N, N,
     Q, T, B, T, T, T, T, T, Q, Q, T, P, Q, T, T, Q, T, T, T, T, T, T, T, T, T, T, Q, Q, Q, Q, Q, Q,

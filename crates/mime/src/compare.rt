@@ -44,8 +44,8 @@ fn starts_with_essence(essence: &str, text: &str) -> bool
     eq_ignore_ascii_case(essence.as_bytes(), &text.as_bytes()[..end])
 }
 
-/// Returns `true` if a string's parameter is the kept one, `name` with `value`: ignoring ASCII case in the name, and in the
-/// value if the name is `charset`.
+/// Returns `true` if a string's parameter equals the kept one, `name` with `value`. ASCII case is ignored in the name, and
+/// in the value if the name is `charset`.
 #[inline]
 fn is_pair(name: &str, value: &str, other_name: &str, other_value: &str) -> bool
     requires { IsLowPair (name.now, value.now) }
@@ -87,8 +87,8 @@ fn has_shape(positions: Positions, semicolon: usize, count: usize) -> bool
     positions.semicolon == Some(semicolon) && positions.pair_count == count
 }
 
-/// Returns `true` if a string that begins with a value's essence and a semicolon, ignoring ASCII case, is accepted, with as
-/// many parameters. Only what follows the semicolon is scanned. It isn't inlined: the scan needs its registers.
+/// Returns `true` if a string is accepted, and has as many parameters as a value. It begins with the value's essence and a
+/// semicolon, ignoring ASCII case, so only the rest is scanned. It isn't inlined: the scan needs its registers.
 #[inline(never)]
 fn has_list_of(mime: &Mime, s: &str) -> bool
     requires reads { Reads mime.now.media.kept mime.now.media }
@@ -104,9 +104,9 @@ fn has_list_of(mime: &Mime, s: &str) -> bool
     }
 }
 
-/// Returns `true` if a string is equal to a value with parameters, part by part: it has the essence, and then the parameters.
-/// If `equal_ignoring_case`, it is the kept text ignoring ASCII case, and so accepted; otherwise it is scanned. It isn't
-/// inlined: few strings need it.
+/// Returns `true` if a string is equal to a value with parameters: if its essence and then its parameters are equal to those
+/// of the value. If `equal_ignoring_case`, the string is the kept text ignoring ASCII case, and so is accepted; otherwise it
+/// is scanned. It isn't inlined: few strings need it.
 #[inline(never)]
 fn eq_by_parts(mime: &Mime, s: &str, equal_ignoring_case: bool) -> bool
     requires reads { Reads mime.now.media.kept mime.now.media }
@@ -128,7 +128,7 @@ fn eq_by_parts(mime: &Mime, s: &str, equal_ignoring_case: bool) -> bool
     equal_ignoring_case || has_list_of(mime, s)
 }
 
-/// Returns `true` if a difference at this byte means different values: all bytes but space, tab and quote reach the value.
+/// Returns `true` if a difference at this byte means different values: it does at all bytes but space, tab and quote.
 #[inline(always)]
 fn reaches_value(byte: u8) -> bool
     ensures { result ≡ reaches_value byte }
@@ -140,9 +140,10 @@ fn reaches_value(byte: u8) -> bool
 enum Compared {
     /// They are equal ignoring ASCII case.
     Equal,
-    /// They are read as different values: their first difference, ignoring ASCII case, reaches the value.
+    /// They are read as different values: their first difference, ignoring ASCII case, isn't at a space, tab or quote.
     Different,
-    /// Neither is known: one is shorter than a block, or they first differ at a space, tab or quote, or one ends first.
+    /// Neither is known: one string is shorter than a block, one is a prefix of the other, or they first differ at a
+    /// space, tab or quote.
     Undecided,
 }
 
@@ -164,9 +165,9 @@ fn compare_texts(kept: &str, text: &str) -> Compared
     }
 }
 
-/// Returns `true` if a string other than the kept text is equal to a value with parameters. The first difference decides most;
-/// a lone charset in another case is equal; otherwise the parts are compared. It isn't inlined: most calls end with the kept
-/// text.
+/// Returns `true` if a string other than the kept text is equal to a value with parameters. Their first difference decides
+/// most calls, and a charset without other parameters is equal in any case; otherwise the parts are compared. It isn't
+/// inlined: most strings are the kept text.
 #[inline(never)]
 fn eq_other_text(mime: &Mime, s: &str) -> bool
     requires { mime.now.media.pairs ≢ [] }

@@ -1,4 +1,4 @@
-//! Media types one by one out of a string.
+//! An iterator over the media types of a string.
 
 ghost use Rattle.std.specs.Prelude.{◌≡◌, ◌+◌, ◌-◌, ◌<◌, ◌≤◌, ◌^◌, ℕ, false, [], ◌∷◌, length, IfSome, None, ⊤};
 ghost use Rattle.std.specs.Str.{IsCharBoundary};
@@ -36,8 +36,8 @@ struct ReadPiece<'a> {
     steps: u128,
 }
 
-/// Returns the end of a string's first character. It isn't inlined: few strings have a character outside ASCII where no media type goes on,
-/// and its loop would take registers from those of its caller.
+/// Returns the end of a string's first character. It isn't inlined: few pieces end before a character outside ASCII, and its loop would use
+/// registers of its caller.
 #[cold]
 #[inline(never)]
 fn end_of_first(text: &str) -> usize

@@ -1,5 +1,5 @@
-//! The laws of the definitions, as calls: a caller that calls one can use its law in its own proof. Most do nothing;
-//! `name_constants` returns the constant names. docs/LAWS.md lists all claims, docs/RULES.md says what viable,
+//! The laws of the definitions, as functions: a caller that calls one can use its law in its own proof. Most do
+//! nothing; `name_constants` returns the constant names. docs/LAWS.md lists all claims, docs/RULES.md says what viable,
 //! accepted and cut mean.
 
 ghost use Rattle.std.specs.Borrow.{Bor};
@@ -152,26 +152,27 @@ pub fn parameter_is_read()
     ensures { ParameterIsRead }
 {}
 
-/// Of two values exactly one of these is true: the first comes before the second, they are equal, or the second comes
-/// before the first. `a/b` comes before `a/b;p=1`, and that before `a/c`.
+/// Two values are equal, or exactly one of them is before the other: `a/b` is before `a/b;p=1`, and that is before
+/// `a/c`.
 #[tactic(auto, using(crate::proofs::ValueLemmas::Traits::one_order))]
 pub fn one_order()
     ensures { OneOrder }
 {}
 
-/// What comes before a value comes before all that comes after it: `a/b` before `a/c` and so before `a/d`.
+/// If a value is before a second one, and that is before a third, the first is before the third: `a/b` is before `a/c`,
+/// and so before `a/d`.
 pub fn before_is_transitive()
     ensures { BeforeIsTransitive }
 {}
 
-/// A string is a value without parameters exactly if the string in lowercase is the kept text: `Text/Plain` is
-/// `text/plain`, and `text/plain;` isn't.
+/// A string equals a value without parameters exactly if the string in lowercase is the kept text: `Text/Plain` equals
+/// `text/plain`, and `text/plain;` doesn't.
 pub fn bare_text_is()
     ensures { BareTextIs }
 {}
 
-/// A value is equal to the kept text of a value that was read exactly if the two values are equal: that of
-/// `a/b; p="x"` to the string `a/b;p=x`, the kept text of `A/B;P=x`.
+/// A value is equal to the kept text of a value that was read exactly if the two values are equal: the value of
+/// `a/b; p="x"` is equal to the string `a/b;p=x`, the kept text of `A/B;P=x`.
 pub fn kept_text_is()
     ensures { KeptTextIs }
 {}
@@ -183,8 +184,7 @@ pub fn one_answer<K: ParamKey>(key: &K)
     ensures least { HasAnswer (K.Accepts key.now) }
 {}
 
-/// It is decided whether a string as a key accepts a name, whether a `TextKey` does, and whether a `Name` does: `"P"`
-/// accepts `p`, and not `q`.
+/// A key that is a string, a `TextKey` or a `Name` accepts a name or doesn't: `"P"` accepts `p`, and not `q`.
 pub fn keys_decide()
     ensures string { (key : Bor (List ℕ)) → IsDecided (⟦<&'static str as ParamKey>⟧.Accepts key) }
     ensures text { (key : TextKey) → IsDecided (⟦<TextKey<'static> as ParamKey>⟧.Accepts key) }
@@ -196,7 +196,7 @@ pub fn mime_equality()
     ensures { (first second : OwnedMedia) → IsTrue (⟦<Mime as PartialEq>⟧.eq first second) ↔ Same first.media second.media }
 {}
 
-/// The `Ordering` of two values says which of them comes before the other: `a/b` is less than `a/c`.
+/// The `Ordering` of two values says which of them is before the other: `a/b` is less than `a/c`.
 pub fn mime_order()
     ensures { (first second : OwnedMedia) → IsOrderOf first.media second.media (⟦<Mime as Ord>⟧.cmp first second) }
 {}
@@ -234,8 +234,8 @@ pub fn cut_has_items()
     ensures { CutHasItems }
 {}
 
-/// A string is pieces, a character after each, and a last piece, which is accepted or the rest of the
-/// text's cut: `e,a/b` is the piece `e`, a comma, and the last piece `a/b`.
+/// A string consists of pieces, a character after each, and a last piece, which is accepted or the rest of the cut:
+/// `e,a/b` consists of the piece `e`, a comma, and the last piece `a/b`.
 #[tactic(auto, using(crate::proofs::CutLemmas::Containment::cut_writes_text))]
 pub fn cut_writes_text()
     ensures { CutWritesText }
@@ -247,7 +247,7 @@ pub fn passes_one_character()
     ensures { PassesOneCharacter }
 {}
 
-/// A string takes exactly one number of steps: `a/b,c/d` takes 7, one for each byte.
+/// A string is cut in exactly one number of steps: `a/b,c/d` in 7, one for each byte.
 #[tactic(auto, using(crate::proofs::CutLemmas::Containment::one_count))]
 pub fn one_count()
     ensures { OneCount }
@@ -260,8 +260,8 @@ pub fn comma_contains()
     ensures { CommaContains }
 {}
 
-/// If the kept texts of values that were read are joined by a comma and a space, exactly these values are yielded:
-/// `a/b, c/d` gives `a/b` and `c/d`.
+/// If the kept texts of values that were read are joined by a comma and a space, the cut has exactly these values: that
+/// of `a/b, c/d` has `a/b` and `c/d`.
 #[tactic(auto, using(crate::proofs::CutLemmas::Containment::joined_comes_back))]
 pub fn joined_comes_back()
     ensures { JoinedComesBack }
@@ -282,14 +282,14 @@ pub fn run_gives_cut()
     ensures { RunGivesCut }
 {}
 
-/// A run over a string with a comma gives the items of the string before the comma, the rest of that, and the items of
-/// the string after the comma, unless the rest is an open quoted value: over `e, c/d` it gives the bad piece `e`, which
-/// is the rest of `e` alone, and `c/d`.
+/// A run over a string with a comma yields the items of the string before the comma, its rest, and the items of the
+/// string after the comma, unless the rest ends in an open quoted string: over `e, c/d` it yields the bad piece `e`,
+/// which is the rest of `e`, and `c/d`.
 pub fn comma_contains_on_runs()
     ensures { CommaContainsOnRuns }
 {}
 
-/// A run over a printed list of values that were read yields these values: over `a/b, c/d` the two.
+/// A run over a printed list of values that were read yields these values: over `a/b, c/d` it yields the two.
 pub fn printed_list_comes_back()
     ensures { PrintedListComesBack }
 {}
@@ -310,8 +310,7 @@ pub fn name_equality()
         ↔ ((first.text.now ≡ second.text.now) × (first.ignores_case ≡ second.ignores_case)) }
 {}
 
-/// Names are ordered by the bytes of their texts, and then by their flags, `false` first: `HTML` comes before
-/// `XML`.
+/// Names are ordered by the bytes of their texts, and then by their flags, `false` first: `HTML` is before `XML`.
 pub fn name_order()
     ensures { (first second : Name) → ⟦<Name<'static> as Ord>⟧.cmp first second
         ≡ ordering_then (slice_cmp nat_cmp first.text.now second.text.now) (bool_cmp first.ignores_case second.ignores_case) }

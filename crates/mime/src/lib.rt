@@ -28,10 +28,10 @@
 //! ends in an open quoted string. A last entry that isn't a media type, but could still become one, isn't yielded.
 //!
 //! # Memory
-//! `Mime::from_str`, `MimeIter::new` and `KnownText::into_mime` take the allocator. To read or make a media type from more
-//! than 40 bytes, including white space, allocates at most once, and so does each `clone` of it. If memory runs out, an
-//! error is returned. Nothing else allocates: not to reject a string, nor a media type from at most 40 bytes, which is
-//! stored in the `Mime` itself, nor a constant, nor `*/*`.
+//! `Mime::from_str`, `MimeIter::new` and `KnownText::into_mime` take the allocator. Reading or making a media
+//! type from more than 40 bytes, including white space, allocates at most once, and so does each `clone` of it. If memory
+//! runs out, an error is returned. Nothing else allocates: a rejected string doesn't, nor a media type from at most 40
+//! bytes, which is stored in the `Mime` itself, nor a constant, nor `*/*`.
 //!
 //! # Standards
 //! The grammar is that of RFC 7231 and RFC 7230, with the departures that docs/DIFFERENCES.md lists. RFC 9110 (8.3.1,
@@ -39,9 +39,9 @@
 //! one: `a/b;` is read, `a/b;;p=x` isn't.
 //!
 //! # Left out
-//! What a media type means isn't here: `mime_http` has ranges, weights, the choice by `Accept` and quoted pairs, and a
-//! recipe has the endings of files. docs/DIFFERENCES.md lists the differences from the Rust crate and from RFC 7231,
-//! crates/mime/CALLING.md lists every contract, docs/RECIPES.md solves common tasks.
+//! This crate doesn't interpret media types: `mime_http` has ranges, weights, the choice by `Accept` and
+//! quoted pairs, and a recipe has the endings of files. docs/DIFFERENCES.md lists the differences from the Rust crate
+//! and from RFC 7231, crates/mime/CALLING.md lists every contract, docs/RECIPES.md solves common tasks.
 //!
 //! This is version 1.0.0; README.md says what may change within 1.
 #![tactic(auto)]

@@ -17,7 +17,7 @@ use std::fmt;
 /// text, and then by the flag, `false` first. To compare with a string, see [`name_eq_str`].
 #[derive(Clone, Copy, PartialEq, Eq, PartialOrd, Ord, Hash)]
 pub struct Name<'a> {
-    /// The part's text. In a name that this crate returns and that ignores case, it has no ASCII capital.
+    /// The part's text. It has no ASCII capital in a name that this crate returns and that ignores case.
     pub text: &'a str,
     /// Whether the name is compared with a string ignoring ASCII case.
     pub ignores_case: bool,

@@ -129,7 +129,7 @@ impl Mime {
                 return Err(FromStrError::new(ParseError::InvalidToken { pos, byte }));
             }
         };
-        // Each branch for a short text returns, so that the text isn't moved where the branches would join.
+        // Each branch for a short text returns, so that the text isn't moved where they would join.
         if s.len() <= SHORT {
             if positions.pair_count == 0 {
                 return Ok(Mime::of_short(s, positions, ShortText::essence(s, positions)));
@@ -286,9 +286,9 @@ impl Mime {
         &self.text.as_str()[..self.essence_end]
     }
 
-    /// Returns the kept text, which is what is printed. If there is a parameter, it is the whole string that was
-    /// read, with type, subtype, parameter names and charset in lowercase; else it is the essence.
-    /// That of `a/b;P=X; ` is `a/b;p=X; `. It is read as an equal value with the same kept text.
+    /// Returns the kept text, which is what is printed. If there is a parameter, it is the whole string that was read,
+    /// with type, subtype, parameter names and charset in lowercase; else it is the essence. For `a/b;P=X; ` it is
+    /// `a/b;p=X; `. It is read as an equal value with the same kept text.
     pub fn as_str(&self) -> &str
         ensures text { result.now ≡ self.now.media.kept }
         ensures reads { Reads result.now self.now.media }

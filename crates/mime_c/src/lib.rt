@@ -1,4 +1,4 @@
-//! Media types for programs that aren't in Rattle: the calls that include/mime.h declares.
+//! The calls that include/mime.h declares, for programs that aren't in Rattle.
 //!
 //! No call keeps a pointer or a state. Each returns a number, its answer, and writes strings, with the byte 0 after each, into the
 //! caller's buffer. The files `Answers`, `HeaderAnswers` and `ParameterAnswers` of `Rattle.mime_c.specs` define which, and
@@ -104,7 +104,7 @@ fn number_of(fault: &ParseError) -> u32
     }
 }
 
-/// Returns what is found in a text that isn't UTF-8: how much of it is UTF-8.
+/// Returns what is found in a text that isn't UTF-8: the length of its valid part.
 fn found_at(pos: usize) -> MimeFound
     ensures { result ≡ found_at pos 0 }
 {
@@ -370,8 +370,8 @@ fn put_range(out: &mut [u8], at: usize, range: &Mime) -> usize
 }
 
 /// Reads a line of an Accept header (RFC 9110, 12.5.1), and writes the strings of each range to `out`, of at least
-/// `3 * text.len() + 3` bytes: its weight in thousandths, as four digits, its parts, and an empty string. `bad` is the
-/// number of the other entries.
+/// `3 * text.len() + 3` bytes: its weight in thousandths, as four digits, its parts, and an empty string. It sets `bad`
+/// to the number of the other entries.
 #[unsafe(no_mangle)]
 pub extern "C" fn mime_accept(
     alloc: Global,
@@ -399,7 +399,7 @@ pub extern "C" fn mime_accept(
     MIME_OK
 }
 
-/// Returns what a header accepts, of one line or of none. Its bad entries are left out.
+/// Reads an `Accept` header of one line, or of none unless `is_there`. Its bad entries are left out.
 fn accepted(alloc: Global, is_there: bool, line: &[u8]) -> Result<Accept, AllocError>
     ensures header { IfOk result (λ accept. (header : Header) × IsHeader (lines_of is_there line.now) header × (accept.ranges ≡ header.ranges)) }
     ensures nothing { HaveNoEntry (lines_of is_there line.now) → IsOk result }
@@ -451,7 +451,7 @@ pub extern "C" fn mime_best(
 }
 
 /// Sets the first places of `order` to the positions of the acceptable offers of a list, the best first, as `mime_best` chooses it
-/// (RFC 9110, 12.5.1), and `count` to how many they are. It returns `MIME_OK`, or why it wrote nothing: mime.h.
+/// (RFC 9110, 12.5.1), and `count` to their number. It returns `MIME_OK`, or why it wrote nothing: mime.h.
 #[unsafe(no_mangle)]
 pub extern "C" fn mime_order(
     alloc: Global,

@@ -18,7 +18,7 @@ use std::alloc::Global;
 /// The most bytes that a boundary has, and a 0 (RFC 2046, 5.1.1).
 const BOUNDARY_ROOM: usize = 71;
 
-/// Writes a string at the beginning, and returns how long it is without its 0.
+/// Writes a string at the beginning, and returns its length without its 0.
 #[tactic(auto, using(crate::proofs::Writing::both_written))]
 fn put_string(out: &mut [u8], text: &[u8]) -> usize
     requires { length text.now < length out.old }
@@ -59,21 +59,22 @@ pub extern "C" fn mime_boundary(
     }
 }
 
-/// Returns `true` if a byte is a backslash that begins a pair, after one or not.
+/// Returns `true` if a byte begins a quoted pair: if it is a backslash, and the byte before it doesn't begin one, which
+/// `is_paired` says.
 fn begins_quoted_pair(is_paired: bool, byte: u8) -> bool
     ensures { result ≡ (not is_paired && byte == backslash_byte) }
 {
     !is_paired && byte == b'\\'
 }
 
-/// Returns `true` if a value has a backslash. Without one it means itself.
+/// Returns `true` if a value has a backslash. A value without one means itself.
 fn has_backslash(value: &[u8]) -> bool
     ensures { result ≡ false → unescaped value.now ≡ value.now }
 {
     first_stop(value, 0, &Class::of(b'\\', b'\\')) < value.len()
 }
 
-/// Writes what a value means, and returns how many bytes that is: each backslash and the byte after it are that byte.
+/// Writes what a value means, and returns its number of bytes: each backslash and the byte after it mean that byte.
 fn put_unescaped(out: &mut [u8], value: &[u8]) -> usize
     requires { length value.now < length out.old }
     ensures written { HasWritten out.old out.new result (unescaped value.now) }

@@ -26,7 +26,7 @@ pub fn read_to_limit<S: Source>(alloc: Global, source: &mut S) -> Result<Vec<u8>
     // The source fails exactly if the result is `Read`.
     ensures read { result ≡ Err RunError.Read → S.has_failed source.new ≡ true }
     ensures unfailed { result ≢ Err RunError.Read → S.has_failed source.new ≡ S.has_failed source.old }
-    // If the result is `TooLong`, the source gave one byte more than the limit.
+    // If the result is `TooLong`, the source had one byte more than the limit.
     ensures too_long { result ≡ Err RunError.TooLong
         → (bytes : List ℕ) × Consumes (S.left source.old) (S.left source.new) bytes × (length bytes ≡ limit + 1) }
     // The result is never `Write`.

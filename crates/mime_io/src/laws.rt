@@ -1,4 +1,4 @@
-//! The laws of the public types, as a function that does nothing: whoever calls it has them in the proof.
+//! The laws of the public types, as a function that does nothing: a caller can use them in its own proof.
 
 ghost use Rattle.std.specs.Prelude.{◌≡◌};
 

@@ -1,5 +1,5 @@
-//! What the programs share: sources and sinks, reading an input up to a limit and cutting it into lines, writing a report at once, and why
-//! a run stops.
+//! Code that the programs share: sources and sinks, reading an input up to a limit and cutting it into lines, writing a report at once,
+//! and errors.
 #![tactic(auto)]
 
 mod device;

@@ -11,11 +11,11 @@ use std::process::ExitCode;
 /// Writes a report to a sink, and flushes it.
 ///
 /// # Errors
-/// `Write` if the sink fails. No call is made again.
+/// `Write` if the sink fails. A failed call isn't repeated.
 pub fn write_report<T: Sink>(sink: &mut T, report: &[u8]) -> Result<(), RunError>
     ensures bytes { OnOk result (Appends (T.held sink.old) (T.held sink.new) report.now) }
     ensures flushed { OnOk result (T.IsFlushed sink.new) }
-    // The sink fails exactly if the result isn't `Ok`, but `Write`.
+    // The sink fails exactly if the result is `Write`, the only error.
     ensures unfailed { OnOk result (T.has_failed sink.new ≡ T.has_failed sink.old) }
     ensures failed { OnErr result (T.has_failed sink.new ≡ true) }
     ensures write { IfErr result (λ error. error ≡ RunError.Write) }

@@ -3,8 +3,7 @@
 /// What is reported on each line.
 #[derive(Clone, Copy, PartialEq, Eq, Debug)]
 pub enum Mode {
-    /// The parts of the media type that the line is: for `a/b` the rows `ok a/b`, `type a` and
-    /// `subtype b`.
+    /// The parts of the line's media type: for `a/b` the rows `ok a/b`, `type a` and `subtype b`.
     Parts,
     /// The media types and the bad pieces of the line, as [`mime::MimeIter`] yields them.
     List,

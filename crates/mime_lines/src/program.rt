@@ -15,9 +15,9 @@ use std::alloc::Global;
 /// [`Mode::List`].
 ///
 /// # Errors
-/// `Read` if the source fails, and `Write` if the sink does; no call is made again. `TooLong` if the source
-/// gives more than 1,048,576 bytes. `NoMemory` if memory runs out. The first of these is returned. Only
-/// after `Write` may a part of the report have been written.
+/// `Read` if the source fails, and `Write` if the sink does; a failed call isn't repeated. `TooLong` if the
+/// source has more than 1,048,576 bytes. `NoMemory` if memory runs out. The first of these is returned. Only after
+/// `Write` may a part of the report have been written.
 pub fn run<S: Source, T: Sink>(
     alloc: Global,
     source: &mut S,
@@ -37,7 +37,7 @@ pub fn run<S: Source, T: Sink>(
     ensures write { result ≡ Err RunError.Write → T.has_failed sink.new ≡ true }
     ensures source_unfailed { result ≢ Err RunError.Read → S.has_failed source.new ≡ S.has_failed source.old }
     ensures sink_unfailed { result ≢ Err RunError.Write → T.has_failed sink.new ≡ T.has_failed sink.old }
-    // If the result is `TooLong`, the source gave one byte more than the limit.
+    // If the result is `TooLong`, the source had one byte more than the limit.
     ensures too_long { result ≡ Err RunError.TooLong
         → (bytes : List ℕ) × Consumes (S.left source.old) (S.left source.new) bytes × (length bytes ≡ limit + 1) }
     // Nothing is written before the report is complete.

@@ -1,5 +1,5 @@
-//! What runs over readers and writers in memory return and write. The reports on ordinary inputs are data: vectors/ and
-//! tools/program.
+//! Runs over readers and writers in memory: what they return and write. vectors/ and tools/program test the reports on
+//! ordinary inputs.
 
 ghost use Rattle.std.specs.Prelude.{◌≡◌, None, false};
 
@@ -26,7 +26,7 @@ struct Scenario {
     repeats: usize,
     /// How many times more the report is written.
     again: usize,
-    /// What a read after the end gives, as a terminal does.
+    /// The bytes that a read after the end returns, as one from a terminal may.
     after_end: &'static [u8],
     /// Whether source and sink have failed before.
     has_failed: bool,
@@ -48,8 +48,8 @@ const PLAIN: Scenario = Scenario {
     cases: CASES,
 };
 
-/// Gives a byte `repeats` times, and then its bytes, at most `most` a read. After `reads` reads it is interrupted, once or
-/// for ever; that is a failure like any other. A read after its end gives more, as a terminal does.
+/// A reader of a byte `repeats` times, and then of bytes, at most `most` a read. After `reads` reads it is interrupted,
+/// once or for ever, which is a failure like any other. A read after its end returns more, as one from a terminal may.
 #[derive(Drop)]
 struct Reader<'a> {
     byte: u8,
@@ -64,7 +64,7 @@ struct Reader<'a> {
     is_called_again: bool,
 }
 
-/// Returns a reader that gives these bytes.
+/// Returns a reader of these bytes.
 fn giving<'a>(bytes: &'a [u8], scenario: &Scenario, reads: usize, fails_once: bool) -> Reader<'a> {
     Reader {
         byte: *bytes.first().unwrap_or(&b'a'),
@@ -103,8 +103,9 @@ impl Read for Reader<'_> {
     }
 }
 
-/// Takes its bytes, and again so many times, at most `most` a write and in at most `writes` writes, and fails at any
-/// others. After `flushes` flushes it fails at a flush. If it fails only once, it takes anything after that.
+/// A writer that accepts its bytes, and then accepts them `again` times, at most `most` a write and in at most `writes`
+/// writes. It fails at any other bytes, and at a flush after `flushes` flushes. If it fails only once, it accepts
+/// anything after that.
 #[derive(Drop)]
 struct Writer<'a> {
     bytes: &'a [u8],
@@ -119,7 +120,7 @@ struct Writer<'a> {
     is_called_again: bool,
 }
 
-/// Returns a writer that takes these bytes.
+/// Returns a writer that accepts these bytes.
 fn taking<'a>(bytes: &'a [u8], scenario: &Scenario, fails_once: bool) -> Writer<'a> {
     Writer {
         bytes,
@@ -195,8 +196,8 @@ fn written<'a>(case: &Case<'a>, scenario: &Scenario, at: usize) -> &'a [u8] {
     }
 }
 
-/// Checks a run of a scenario, in which the read or the written byte of this number fails if its answer says so: what it
-/// returns, that its writer has taken all its bytes, that only what its answer names has failed, and that no call was made after that.
+/// Checks a run of a scenario, in which the read or the written byte of this number fails if its answer says so. It checks what the
+/// run returns, that its writer got all its bytes, that only what its answer names has failed, and that no call was made after that.
 fn check(
     rt: &impl Abort,
     alloc: Global,
@@ -345,8 +346,8 @@ fn an_earlier_failure_stops_nothing(rt: HostRuntime) {
     check_all(&rt, rt.alloc(), &FAILED);
 }
 
-/// Runs into a slice of bytes, which takes no memory. tools/refused_requests refuses each request for memory between the
-/// lines `now` and `end`.
+/// Runs into a slice of bytes, which doesn't allocate. tools/refused_requests refuses each request for memory between
+/// the lines `now` and `end`.
 fn run_into(
     rt: &HostRuntime,
     case: &Case<'_>,
@@ -407,7 +408,7 @@ fn stops_where_a_write_fails(rt: HostRuntime) {
 
 #[test]
 fn stops_where_a_flush_fails(rt: HostRuntime) {
-    // A flush is made for an empty report too.
+    // An empty report is flushed, too.
     static FLUSH: Scenario = Scenario {
         flushes: 0,
         answer: Err(RunError::Write),
@@ -493,7 +494,7 @@ fn a_report_may_be_longer_than_the_limit(rt: HostRuntime) {
     check_all(&rt, rt.alloc(), &FLUSH);
 }
 
-/// A sink that drops what it is given, and knows whether a flush is due.
+/// A sink that drops what is written, and records whether a flush is due.
 #[derive(Drop)]
 struct Pending {
     is_pending: bool,
@@ -538,7 +539,7 @@ fn memory_is_found(rt: HostRuntime) {
     assert!(rt; error.is_none(), "memory ran out");
 }
 
-/// Returns `true` if an error prints this text, and nothing else, to a writer that takes no other bytes.
+/// Returns `true` if an error prints this text, and nothing else, to a writer that accepts no other bytes.
 fn prints(error: RunError, text: &[u8]) -> bool {
     static ANY: Scenario = PLAIN;
     let mut writer = taking(text, &ANY, false);

@@ -1,4 +1,4 @@
-//! Classes of bytes, and which of 16 bytes are of one.
+//! Classes of bytes, at which searches stop.
 
 ghost use Rattle.std.specs.Prelude.{◌≡◌, ◌<◌, ◌^◌, ◌==◌, ◌||◌, not, ℕ};
 ghost use Rattle.mime_search.specs.Classes.{is_stop, outside, stops};
@@ -12,20 +12,20 @@ pub const BLOCK: usize = 16;
 #[derive(Clone, Copy)]
 pub struct Range(pub u8, pub u8);
 
-/// The bytes at which a search stops: those in one of three ranges, or all others. The first range is of bytes whose bits of `fold`
-/// are set, as 32 is set in lowercase letters: so letters of either case are in one range.
+/// The bytes at which a search stops: those in one of three ranges, or all others. The bits of `fold` are set in a byte before it
+/// is compared with the first range: with 32, letters of either case are in one range.
 #[derive(Clone, Copy)]
 pub struct Class {
     pub fold: u8,
     pub folded: Range,
     pub second: Range,
     pub third: Range,
-    /// Whether a search stops in the ranges, or else outside.
+    /// Whether a search stops in the ranges; otherwise it stops outside them.
     pub inside: bool,
 }
 
 impl Class {
-    /// Returns one of two bytes.
+    /// Returns the class of two bytes.
     #[inline(always)]
     pub fn of(one: u8, other: u8) -> Class
         ensures { (b : ℕ) → is_stop result b ≡ (b == one || b == other) }
@@ -39,7 +39,7 @@ impl Class {
         }
     }
 
-    /// Returns the bytes at which a search for these doesn't stop.
+    /// Returns the class of all other bytes.
     #[inline(always)]
     pub fn others(&self) -> Class
         ensures { (b : ℕ) → is_stop result b ≡ not (is_stop self.now b) }
@@ -90,7 +90,7 @@ fn outside_in_lanes(bytes: u8x16, class: &Class) -> u64
     (no_folded & no_second & no_third).to_bitmask()
 }
 
-/// Returns at which of 16 bytes a search stops, as a bit mask.
+/// Returns which of 16 bytes stop a search, as a bit mask.
 #[inline(always)]
 pub(crate) fn stops_in_lanes(bytes: u8x16, class: &Class) -> u64
     ensures mask { result ≡ stops class.now bytes }

@@ -1,5 +1,5 @@
-//! What the libraries do with the bytes of strings, a block at a time: they search the first byte of a class, the end of a quoted string's
-//! content, or where two strings differ ignoring ASCII case; and they copy short strings.
+//! Searches of strings, a block of bytes at a time: for the first byte of a class, for the end of a quoted string's content, and for the
+//! first difference, ignoring ASCII case. Short strings are copied without a call.
 #![tactic(auto)]
 
 mod class;

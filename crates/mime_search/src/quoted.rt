@@ -7,7 +7,8 @@ ghost use Rattle.mime_search.specs.Quoted.{quote, backslash, len_from};
 use crate::class::{BLOCK, Class};
 use crate::search::{first_stop, stops_from};
 
-/// Skips the quoted pair at this position, a backslash and a byte. A backslash that ends the text counts as one.
+/// Returns the position after the quoted pair at this position, a backslash and a byte. A backslash that ends the text
+/// counts as a quoted pair.
 #[inline(always)]
 fn after_quoted_pair(text: &[u8], from: usize) -> usize
     requires within { from < length text.now }
@@ -19,12 +20,12 @@ fn after_quoted_pair(text: &[u8], from: usize) -> usize
     if from + 1 == text.len() {
         return from + 1;
     }
-    // The byte that it pairs closes nothing.
+    // The byte after the backslash closes nothing.
     from + 2
 }
 
-/// Skips quoted pairs in a row, a backslash and a byte each, of which the first is at this position. A backslash that
-/// ends the text counts as one.
+/// Returns the position after the quoted pairs in a row that begin at this position. A backslash that ends the text
+/// counts as a quoted pair.
 #[inline(always)]
 fn after_quoted_pairs(text: &[u8], from: usize) -> usize
     requires within { from < length text.now }
@@ -37,7 +38,7 @@ fn after_quoted_pairs(text: &[u8], from: usize) -> usize
     let end = text.len().saturating_sub(7);
     let mut last = from;
     while last < end && text[last + 2] == b'\\' {
-        // Another pair follows, or three.
+        // Another quoted pair follows, or three.
         if text[last + 4] == b'\\' && text[last + 6] == b'\\' {
             last += 6;
         } else {
@@ -47,9 +48,8 @@ fn after_quoted_pairs(text: &[u8], from: usize) -> usize
     after_quoted_pair(text, last)
 }
 
-/// Skips the quoted pairs among `size` bytes from a position on, and the bytes between them: up to the first quote that isn't
-/// in a quoted pair, or to the end of these bytes, or of a quoted pair that ends after them. `stops` are the quotes and
-/// backslashes.
+/// Returns the position of the first of `size` bytes that is a quote outside a quoted pair. If there is none, returns their
+/// end, or the end of a quoted pair that ends after them. `stops` are the quotes and backslashes.
 #[inline(always)]
 fn after_quoted_pairs_among(text: &[u8], from: usize, size: usize, stops: u64) -> usize
     requires few { size ≤ BLOCK }
@@ -77,7 +77,8 @@ fn after_quoted_pairs_among(text: &[u8], from: usize, size: usize, stops: u64) -
     end
 }
 
-/// Skips the bytes from a position on up to a quote or a backslash, or to a later such position that the content goes on to.
+/// Skips the bytes up to the next quote or backslash, or a block of bytes with its quoted pairs, and returns the position
+/// after them.
 #[inline(always)]
 fn after_plain(text: &[u8], from: usize) -> usize
     requires { from ≤ length text.now }

@@ -67,7 +67,7 @@ impl<'a> Rest<'a> {
         }
     }
 
-    /// Returns the rest itself.
+    /// Returns the rest as a string.
     #[inline(always)]
     pub fn text(&self) -> &'a str
         ensures { result.now ≡ self.now }
@@ -92,7 +92,7 @@ impl<'a> Rest<'a> {
         !self.text.is_empty() && self.text.as_bytes()[0] == byte
     }
 
-    /// Returns the rest of it from this position on.
+    /// Returns what is left of the rest from this position on.
     #[inline(always)]
     pub fn after(&self, from: usize) -> Rest<'a>
         requires { IsCharBoundary self.now from }

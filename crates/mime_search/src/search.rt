@@ -1,4 +1,4 @@
-//! The first byte of a string at which a search stops.
+//! The search for the first byte of a class.
 
 ghost use Rattle.std.specs.Prelude.{◌≡◌, ◌+◌, ◌<◌, ◌≤◌, ◌^◌, length, take, drop};
 ghost use Rattle.mime_search.specs.Classes.{stops, end_of_run};
@@ -6,7 +6,7 @@ ghost use Rattle.mime_search.specs.Classes.{stops, end_of_run};
 use crate::class::{BLOCK, Class, stops_in_lanes};
 use std::simd::prelude::*;
 
-/// Returns at which bytes of the block that begins at a position a search stops, as a bit mask.
+/// Returns which bytes of the block that begins at a position stop a search, as a bit mask.
 #[inline(always)]
 pub(crate) fn stops_in_block(text: &[u8], at: usize, class: &Class) -> u64
     requires { at + BLOCK ≤ length text.now }
@@ -31,7 +31,7 @@ fn first_stop_by_bytes(text: &[u8], from: usize, class: &Class) -> usize
 }
 
 /// Returns the position of the first byte, from a position on, at which a search stops, or the length. Less than a block is
-/// left after that position, so the text's last block is searched at once.
+/// left, so the text's last block is searched at once.
 #[inline(always)]
 pub(crate) fn first_stop_at_end(text: &[u8], from: usize, class: &Class) -> usize
     requires block { BLOCK ≤ length text.now }
@@ -48,8 +48,8 @@ pub(crate) fn first_stop_at_end(text: &[u8], from: usize, class: &Class) -> usiz
     }
 }
 
-/// Returns at which of the bytes from a position on a search stops, as a bit mask, and how many bytes these are: a block, or the
-/// rest of the text.
+/// Returns how many bytes are searched from a position on, a block or the rest of the text, and which of them stop the search,
+/// as a bit mask.
 #[inline(always)]
 pub(crate) fn stops_from(text: &[u8], from: usize, class: &Class) -> (usize, u64)
     requires block { BLOCK ≤ length text.now }
@@ -68,7 +68,7 @@ pub(crate) fn stops_from(text: &[u8], from: usize, class: &Class) -> (usize, u64
     )
 }
 
-/// Returns what `first_stop` returns. It isn't inlined: most searches end before.
+/// Returns what `first_stop` returns. It isn't inlined: most searches don't need it.
 #[cold]
 #[inline(never)]
 pub fn first_stop_far(text: &[u8], from: usize, class: &Class) -> usize

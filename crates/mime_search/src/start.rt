@@ -1,4 +1,4 @@
-//! At which of its first bytes a search of a string stops, as a bit mask.
+//! Which of a string's first bytes stop a search, as a bit mask.
 
 ghost use Rattle.std.specs.Prelude.{◌≡◌, ◌+◌, ◌*◌, ◌/◌, ◌-◌, ◌<◌, ◌≤◌, ◌^◌, ◌++◌, length, take, drop};
 ghost use Rattle.mime_search.specs.Classes.{stops};
@@ -37,7 +37,7 @@ fn both_ends(text: &[u8]) -> u8x16
     first.shuffle(last, [0, 1, 2, 3, 4, 5, 6, 7, 8, 9, 10, 11, 12, 13, 14, 15])
 }
 
-/// Returns at which bytes of a string a search stops. The string has from half a block to a block.
+/// Returns which bytes of a string stop a search. The string has from half a block to a block.
 #[inline(always)]
 fn stops_in_halves(text: &[u8], class: &Class) -> u64
     requires room { HALF ≤ length text.now }
@@ -48,8 +48,8 @@ fn stops_in_halves(text: &[u8], class: &Class) -> u64
     joined(found % 256, found / 256, HALF, text.len())
 }
 
-/// Returns at which bytes of a string a search stops. The string has from one block to four. `first` are the bytes in its
-/// first block at which it stops.
+/// Returns which bytes of a string stop a search. The string has from one block to four. `first` has those of its first
+/// block.
 #[inline(always)]
 pub fn stops_in_window(text: &[u8], first: u64, class: &Class) -> u64
     requires room { BLOCK ≤ length text.now }
@@ -68,8 +68,8 @@ pub fn stops_in_window(text: &[u8], first: u64, class: &Class) -> u64
     joined(start, end, BLOCK + BLOCK, size)
 }
 
-/// Returns the length of a string's start, and at which of its bytes a search stops. The start is a block, or the whole string
-/// if it is shorter, or nothing if it is shorter than half a block.
+/// Returns the length of a string's start, and which of its bytes stop a search. The start is a block, or the whole string if
+/// it is shorter, or nothing if it is shorter than half a block.
 #[inline(always)]
 pub fn stops_at_start(text: &[u8], class: &Class) -> (usize, u64)
     ensures few { result.0 ≤ BLOCK }

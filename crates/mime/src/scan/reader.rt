@@ -50,7 +50,7 @@ fn end_of_token(text: &[u8], from: usize, with_plus: bool) -> usize
     at
 }
 
-/// Returns the position that `end_of_token` finds, if a plus ends a run. It isn't inlined: between other loops, its own would have
+/// Returns the position that `end_of_token` finds, if a plus ends a run. It isn't inlined: beside other loops, its own would have
 /// twice as many instructions.
 #[inline(never)]
 fn end_at_plus(text: &[u8], from: usize) -> usize
@@ -207,7 +207,7 @@ impl<'a> ByteReader<'a> {
     }
 
     /// Skips token bytes other than the plus that are known, and returns the first known byte that may end them. A later run
-    /// is read byte by byte: after so many bytes there may be many short ones.
+    /// is read byte by byte, since many short ones may follow.
     #[inline(always)]
     pub(crate) fn known_stop(&mut self) -> Option<u8>
         ensures { Reaches is_token_except_plus self.old self.new result }
@@ -226,8 +226,8 @@ impl<'a> ByteReader<'a> {
         Some(self.text[stop])
     }
 
-    /// Returns `true` if the string may continue after the token at the next byte: unless a known byte ends the token
-    /// that isn't a semicolon.
+    /// Returns `false` if a known byte that no media type has there ends the token at the next byte. Such a string is
+    /// rejected at that byte.
     #[inline(always)]
     fn may_go_on(&self) -> bool {
         if self.at >= self.known {
@@ -242,7 +242,7 @@ impl<'a> ByteReader<'a> {
     }
 
     /// Looks at all bytes of a window, if only a block of them is known and the string may continue after the token at the
-    /// next byte. Most strings that are rejected end before.
+    /// next byte. Most rejected strings stop before.
     #[inline(always)]
     pub(crate) fn look_further(&mut self)
         ensures { self.new ≡ self.old }
@@ -254,7 +254,7 @@ impl<'a> ByteReader<'a> {
         }
     }
 
-    /// Skips bytes of quoted text, if the next byte is known: perhaps not all that follow.
+    /// Skips bytes of quoted text if the next byte is known, but perhaps not all of them.
     #[inline(always)]
     pub(crate) fn skip_quoted_text(&mut self)
         ensures { Passing is_quoted_text_byte self.old self.new }

@@ -45,7 +45,7 @@ fn content_len(text: &[u8], quote: usize) -> usize
     ensures { result ≡ content_len text.now }
 {
     if quote == 0 || text[quote - 1] != b'\\' {
-        // No backslash precedes it, so nothing pairs it.
+        // No backslash precedes it, so it isn't in a quoted pair.
         return quote;
     }
     content_len_past_quoted_pairs(text)
@@ -125,8 +125,8 @@ fn cut_value<'a>(list: usize, name: &'a str, end: &Rest<'a>) -> Pair<'a>
     }
 }
 
-/// Returns a list without the spaces and tabs with which it begins. Each way returns a rest, so that no number is added where they would
-/// join.
+/// Returns a list without the spaces and tabs with which it begins. Each branch returns a rest, so that no number is added where they
+/// would join.
 #[inline(always)]
 fn without_spaces<'a>(list: &Rest<'a>) -> Rest<'a>
     ensures { result ≡ without_spaces list.now }
@@ -153,8 +153,8 @@ fn cut_name<'a>(list: &Rest<'a>) -> (&'a str, Rest<'a>)
     without_spaces(list).split_at_first(b'=')
 }
 
-/// Cuts a name of `size` bytes off a list that begins with it, if an equals sign follows so many bytes, or the list ends there. The
-/// name may have an equals sign itself.
+/// Cuts the first `size` bytes off a list as its first name, if an equals sign follows them or the list ends there. The name may
+/// have an equals sign itself.
 #[inline(always)]
 fn cut_name_of_size<'a>(list: &Rest<'a>, size: usize) -> Option<(&'a str, Rest<'a>)>
     ensures other { result ≡ None → first_position equals_byte list.now ≢ size }
@@ -199,7 +199,7 @@ fn is_accepted<K: ParamKey>(key: &K, name: &str) -> bool
     })
 }
 
-/// Returns `true` if a byte string has an equals sign. For a constant one the compiler knows it.
+/// Returns `true` if a byte string has an equals sign. The compiler computes the result for a constant.
 #[inline(always)]
 fn has_equals(bytes: &[u8]) -> bool
     ensures { result ≡ has_equals bytes.now }
@@ -221,7 +221,7 @@ struct FirstName<'a> {
 }
 
 /// Cuts the first name off a list for a key, with the spaces before it. If it is the only name and the key has a text, no equals sign
-/// is searched: a name of that length is expected, and the result is `None` if the key doesn't accept the name.
+/// is searched for: a name of that length is expected, and the result is `None` if the key doesn't accept the name.
 #[inline(always)]
 fn cut_name_for<'a, K: ParamKey>(list: &Rest<'a>, is_only: bool, key: &K) -> Option<FirstName<'a>>
     ensures other { result ≡ None → IsTrue is_only × ¬ (K.Accepts key.now (cut_of list.now).name true) }
@@ -309,8 +309,8 @@ impl<'a> Pairs<'a> {
         self.left == 1 && self.list.text().as_bytes().starts_with(b" charset=")
     }
 
-    /// Returns the value of the first pair whose name a key accepts. If the last name isn't accepted, its value isn't searched
-    /// for its end.
+    /// Returns the value of the first pair whose name a key accepts. If the last name isn't accepted, the end of its value
+    /// isn't searched for.
     #[inline(always)]
     pub(crate) fn first_accepted<K: ParamKey>(self, key: &K) -> Option<Name<'a>>
         requires { AreLowPairs self }

@@ -1,4 +1,4 @@
-//! The positions of a kept text's parts, as a value has them.
+//! The positions of a kept text's parts, as a value stores them.
 
 ghost use Rattle.std.specs.Prelude.{◌≡◌, ◌≢◌, Some};
 ghost use Rattle.mime.specs.Inner.KeptText.{kept_semicolon};
@@ -6,12 +6,12 @@ ghost use Rattle.mime.specs.Inner.KeptPlaces.{unless_zero, positions_at};
 
 use crate::scan::Positions;
 
-/// The positions of the parts of a text but for the end of its essence, and its number of parameters, in one word each.
+/// The positions of a text's parts, except the end of its essence, and its number of parameters, in one word each.
 #[derive(Clone, Copy)]
 pub(crate) struct Places {
     pub(crate) slash: usize,
     pub(crate) pair_count: usize,
-    /// The plus before the suffix, or 0, which says that there is none.
+    /// The plus before the suffix, or 0 if there is none.
     // It is last, where an error of `from_str` has its byte: LLVM writes a constant there in parts, unless it is 0 beside
     // others.
     pub(crate) plus: usize,

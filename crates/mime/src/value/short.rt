@@ -1,4 +1,4 @@
-//! A short kept text, which is stored in the value itself: to make, clone and drop it doesn't allocate.
+//! A short kept text, which is stored in the value itself: making, cloning and dropping it doesn't allocate.
 
 ghost use Rattle.std.specs.Prelude.{◌≡◌, ◌<◌, ◌≤◌, ◌-◌, IfSome, None, Some, IsUtf8, length, take, drop, slice_get, replicate};
 ghost use Rattle.mime_search.specs.Differences.{DifferAt};
@@ -12,7 +12,7 @@ use crate::value::kept::{has_capital, lowercase_text};
 use mime_search::difference_from;
 use std::marker::Model;
 
-/// The number of bytes that a short text has at most.
+/// The most bytes that a short text has.
 pub(crate) const SHORT: usize = 40;
 
 /// The number of bytes in which a short text is made: a multiple of 16, so that whole vectors are lowercased.
@@ -72,7 +72,7 @@ impl ShortText {
         unsafe { str::from_utf8_unchecked(&self.bytes[..self.len as usize]) }
     }
 
-    /// Returns a copy of it.
+    /// Returns a copy of the text.
     #[inline(always)]
     pub(crate) fn copy(&self) -> ShortText
         ensures { result ≡ self.now }

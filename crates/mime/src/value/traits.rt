@@ -16,8 +16,8 @@ use std::cmp::Ordering;
 use std::fmt;
 use std::hash::{Hash, Hasher};
 
-/// Returns `true` if two values are equal, part by part. They may be written otherwise: `p=x` and `p="x"`. It isn't inlined:
-/// most calls of `eq` end before it.
+/// Returns `true` if two values are equal, part by part. Equal values may be written differently, as `p=x` and `p="x"`. It
+/// isn't inlined: most calls of `eq` end before it.
 #[cold]
 #[inline(never)]
 fn same_parts(first: &Mime, second: &Mime) -> bool
@@ -26,7 +26,8 @@ fn same_parts(first: &Mime, second: &Mime) -> bool
     first.essence_str() == second.essence_str() && first.pairs().eq(second.pairs())
 }
 
-/// Returns `true` if two values have the same kept text. Two that lie in their `Mime` are compared in whole blocks.
+/// Returns `true` if two values have the same kept text. Two texts that are in their `Mime` are compared in whole
+/// blocks.
 #[inline(always)]
 fn have_same_text(first: &Mime, second: &Mime) -> bool
     ensures same { IsTrue result → Same first.now.media second.now.media }
@@ -66,7 +67,7 @@ fn order_pairs(first: &Mime, second: &Mime) -> Ordering
     pairs.cmp(others)
 }
 
-/// Compares two values, if both are stored in their `Mime`, and are the same or differ first in their essences.
+/// Compares two values if both kept texts are in their `Mime`, and are the same or first differ in their essences.
 #[inline(always)]
 fn order_short(first: &Mime, second: &Mime) -> Option<Ordering>
     ensures { IfSome result (λ order. order ≡ media_cmp first.now.media second.now.media) }
@@ -104,7 +105,7 @@ impl PartialEq for Mime {
         ensures computed { result ≡ eq_by_cmp media_cmp self.now.media other.now.media }
         ensures same { IsTrue result ↔ Same self.now.media other.now.media }
     {
-        // Lists of different lengths differ, and so do essences of different lengths. This is found without a look at the texts.
+        // Lists of different lengths differ, and so do essences of different lengths. To find this, the texts aren't read.
         if self.param_count() != other.param_count() {
             return false;
         }
@@ -138,8 +139,8 @@ impl PartialOrd for Mime {
     }
 }
 
-/// Values are ordered by the bytes of their essences, and then by their parameters, pair by pair, each by its name
-/// and then its value; a list that is a prefix of another comes first: `a/b`, `a/b;p=1`, `a/b;p=2`, `a/c`. It doesn't
+/// Values are ordered by the bytes of their essences, and then by their parameters, pair by pair, each by its name and
+/// then its value; a list that is a prefix of another is before it: `a/b`, `a/b;p=1`, `a/b;p=2`, `a/c`. It doesn't
 /// allocate.
 impl Ord for Mime {
     ghost cmp = { on (λ mime. mime.media) media_cmp };
@@ -166,7 +167,7 @@ impl Ord for Mime {
         if order.is_ne() {
             return order;
         }
-        // None are fewer than some, and come first.
+        // A value without parameters is before one with parameters.
         if self.param_count() == 0 || other.param_count() == 0 {
             return self.param_count().cmp(&other.param_count());
         }
@@ -190,8 +191,8 @@ impl Hash for Mime {
     }
 }
 
-/// Returns a copy with the same kept text. It allocates once at most, and its error says that memory ran out. Cloning a
-/// constant, `*/*`, or a value that was read from at most 40 bytes or made of so few, doesn't allocate.
+/// Returns a copy with the same kept text. It allocates at most once, and its error says that memory ran out. Cloning a
+/// constant, `*/*`, or a value that was read or made from at most 40 bytes doesn't allocate.
 impl Clone for Mime {
     ghost is_clone = { λ mime copy. copy ≡ mime };
 
