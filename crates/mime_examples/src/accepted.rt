@@ -1,11 +1,10 @@
-//! What an `Accept` header says, a line each.
+//! A description of an `Accept` header, a line for each range.
 
 use mime_http::{Accept, weight_of};
 use std::alloc::{AllocError, Global};
 use std::fmt::Write;
 
-/// Returns the ranges of an `Accept` header with their weights in thousandths, and the number of entries that are none: for a
-/// log.
+/// Returns the ranges of an `Accept` header with their weights in thousandths, and the number of bad entries, for a log.
 ///
 /// # Errors
 /// `AllocError` if memory runs out.

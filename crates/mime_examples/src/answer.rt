@@ -1,4 +1,4 @@
-//! What to answer a `Content-Type`.
+//! The status for a `Content-Type`.
 
 ghost use Rattle.std.specs.Prelude.{◌≡◌, ◌≢◌, ◌↔◌, ◌⊎◌, Some, None, IfSome, IsSomeAnd, codes};
 ghost use Rattle.std.specs.Str.{IsUtf8};
@@ -9,8 +9,8 @@ use mime_http::laws::one_http_reading;
 use mime_http::{FieldError, content_type};
 use std::alloc::Global;
 
-/// Returns the status that answers a `Content-Type` with this error: 400 if it isn't a media type (RFC 9110, 15.5.1), and 503
-/// if there was no memory to read it (RFC 9110, 15.6.4).
+/// Returns the status for a `Content-Type` with this error: 400 if it isn't a media type (RFC 9110, 15.5.1), and 503 if
+/// memory ran out (15.6.4).
 pub fn status_of(error: &FieldError) -> u16
     ensures malformed { (result ≡ 400) ↔ (error.now ≢ FieldError.NoMemory) }
     ensures memory { (result ≡ 503) ↔ (error.now ≡ FieldError.NoMemory) }
@@ -21,21 +21,21 @@ pub fn status_of(error: &FieldError) -> u16
     }
 }
 
-/// Returns the status that refuses a request by its `Content-Type`, or `None` if that is `application/json`, whatever its
-/// parameters are: 415 for any other media type (RFC 9110, 15.5.16).
+/// Returns the status that rejects a request by its `Content-Type`, or `None` if that is `application/json`, whatever its
+/// parameters are. For any other media type the status is 415 (RFC 9110, 15.5.16).
 pub fn refusal(alloc: Global, value: &[u8]) -> Option<u16>
-    // JSON alone is taken.
+    // Only JSON is accepted.
     ensures taken { result ≡ None
         → (media : MediaType) × HttpReads value.now media × (media.essence ≡ codes "application/json") }
-    // 400 is never the answer to a media type,
+    // A media type never has the status 400.
     ensures malformed { result ≡ Some 400 → ¬ (IsUtf8 value.now × IsHttpMediaType value.now) }
-    // and 415 is so to another one alone.
+    // Only a media type other than JSON has the status 415.
     ensures unsupported { result ≡ Some 415
         → (media : MediaType) × HttpReads value.now media × (media.essence ≢ codes "application/json") }
-    // JSON is refused only for want of memory.
+    // JSON is rejected only if memory runs out.
     ensures json { IsUtf8 value.now → (media : MediaType) → HttpReads value.now media → media.essence ≡ codes "application/json"
         → IfSome result (λ status. status ≡ 503) }
-    // No other status is answered.
+    // No other status is returned.
     ensures known { IfSome result (λ status. (status ≡ 400) ⊎ ((status ≡ 415) ⊎ (status ≡ 503))) }
 {
     one_http_reading();
@@ -51,8 +51,8 @@ pub fn refusal(alloc: Global, value: &[u8]) -> Option<u16>
     }
 }
 
-/// Returns the status that refuses a request with a body by its `Content-Type`, if there is one: without it the body may be
-/// anything (RFC 9110, 8.3), so it isn't taken. Answer 400 to a request with two: recipients differ in which of them they take.
+/// Returns the status that rejects a request with a body by its `Content-Type`. Without one the body may be anything (RFC 9110,
+/// 8.3), so it is rejected. Reply with 400 to a request with two, since recipients differ in which one they use.
 pub fn refusal_of_body(alloc: Global, content_type: Option<&[u8]>) -> Option<u16>
     ensures without { content_type.entry ≡ None → result ≡ Some 415 }
     ensures taken { result ≡ None → IsSomeAnd content_type.entry (λ value. (media : MediaType) × HttpReads value.now media

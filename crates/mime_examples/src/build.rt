@@ -6,8 +6,8 @@ ghost use Rattle.mime.specs.Values.{Reads};
 use mime::{Mime, ParseError};
 use std::alloc::{AllocError, Global};
 
-/// Returns the media type that a kind of document has, in JSON: `application/vnd.cart+json` for `cart`. `None` if the name can't stand
-/// there, as `a/b` can't, or would add a parameter, as `a; q=1` would.
+/// Returns the media type of a kind of document in JSON: `application/vnd.cart+json` for `cart`. Returns `None` if the name isn't part
+/// of a token, as `a/b`, or would add a parameter, as `a; q=1` would.
 ///
 /// # Errors
 /// `AllocError` if memory runs out.

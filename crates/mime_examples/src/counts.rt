@@ -12,7 +12,8 @@ use std::collections::HashMap;
 use std::hash::RandomState;
 use std::io;
 
-/// How often each media type came. Its keys come from requests, so it is seeded at random: nobody can choose them so that they collide.
+/// The number of requests with each media type. Clients choose the keys, so the map is seeded at random: nobody can choose keys that
+/// collide.
 pub type Counts = HashMap<Mime, u64, RandomState>;
 
 /// Returns empty counts.

@@ -1,4 +1,4 @@
-//! The name of a form's field, and that of a file in it.
+//! The field name and the file name of a form's part.
 
 ghost use Rattle.std.specs.Prelude.{ℕ, List, Option, IfOk, MatchOption, option_map};
 ghost use Rattle.std.specs.Vec.{vec_items};
@@ -9,12 +9,12 @@ use mime_http::laws::one_http_reading;
 use mime_http::{FieldError, content_type, unescape};
 use std::alloc::{AllocError, Global};
 
-/// What the `Content-Disposition` of a part of a form says.
+/// The names in the `Content-Disposition` of a form's part.
 #[derive(Drop)]
 pub struct Disposition {
     /// The name of the field.
     pub name: Vec<u8>,
-    /// The name of the file, as the client gives it: don't open it as a path. `None` if there is none.
+    /// The name of the file, as the client sent it: don't open it as a path. `None` if there is none.
     pub file_name: Option<Vec<u8>>,
 }
 
@@ -31,10 +31,11 @@ fn meaning(alloc: Global, mime: &Mime, name: &str) -> Result<Option<Vec<u8>>, Al
 }
 
 /// Reads the value of a `Content-Disposition` of a part of `multipart/form-data` (RFC 7578, 4.2), without white space before it:
-/// `form-data; name="field"; filename="a \"b\".txt"` names the field `field` and the file `a "b".txt`. `None` exactly if it isn't
-/// `form-data` with a `name`, and with parameters as HTTP writes them, in UTF-8. Of two parameters with a name the first counts.
+/// `form-data; name="field"; filename="a \"b\".txt"` names the field `field` and the file `a "b".txt`. Returns `None` exactly if
+/// it isn't `form-data` with a `name` and with parameters that HTTP allows, in UTF-8. Of two parameters with one name the first
+/// counts.
 ///
-/// Many clients write `%22` for a quote, which stays, and a parameter `filename*` isn't read.
+/// Many clients write `%22` for a quote, which isn't decoded. A parameter `filename*` isn't read.
 ///
 /// # Errors
 /// `AllocError` if memory runs out.

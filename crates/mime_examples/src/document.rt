@@ -7,7 +7,7 @@ use mime::Mime;
 use mime_http::{FieldError, content_type};
 use std::alloc::Global;
 
-/// The bytes of a body, and what they are.
+/// A body and its media type.
 #[derive(Drop)]
 pub struct Document<'a> {
     /// The media type of its `Content-Type`.
@@ -16,7 +16,7 @@ pub struct Document<'a> {
     pub body: &'a [u8],
 }
 
-/// Returns a body with the media type that the value of its `Content-Type` is read as.
+/// Returns a body with the media type of its `Content-Type`.
 ///
 /// # Errors
 /// Those of [`content_type`].

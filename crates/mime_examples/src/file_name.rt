@@ -13,8 +13,8 @@ use mime_http::laws::written_is_meant;
 use mime_http::{unescape, with_parameter};
 use std::alloc::{AllocError, Global};
 
-/// Returns the media type with a file's name in place of its own; `None` exactly if the name has a control character other than
-/// the tab. `image/png` with the name `a "b".png` is `image/png; name="a \"b\".png"`.
+/// Returns the media type with a file's name in place of its own, or `None` exactly if the name has a control character other
+/// than the tab. `image/png` with the name `a "b".png` is `image/png; name="a \"b\".png"`.
 ///
 /// # Errors
 /// `AllocError` if memory runs out, here and below.
@@ -25,7 +25,7 @@ pub fn with_file_name(alloc: Global, mime: &Mime, name: &str) -> Result<Option<M
     with_parameter(alloc, mime, "name", name)
 }
 
-/// Returns the file name of a media type as it was before it was written: `a "b".png`.
+/// Returns the file name of a media type, without quotes and backslashes: `a "b".png`.
 pub fn file_name(alloc: Global, mime: &Mime) -> Result<Option<Vec<u8>>, AllocError>
     ensures { IfOk result (λ answer. IfSome answer (λ name. (value : List ℕ) × (flag : Bool)
         × IsFirstAccepted (λ name flag. NameIs name flag (codes "name")) (items_of mime.now.media.pairs) (Some (value, flag))
@@ -39,7 +39,7 @@ pub fn file_name(alloc: Global, mime: &Mime) -> Result<Option<Vec<u8>>, AllocErr
     Ok(Some(name))
 }
 
-/// Returns the file's name that is read where a name was written: the same.
+/// Writes a file's name and returns the name that is then read, which is the same.
 pub fn written_and_read(
     alloc: Global,
     mime: &Mime,

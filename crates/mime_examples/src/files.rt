@@ -3,11 +3,11 @@
 ghost use Rattle.std.specs.Prelude.{◌≡◌, ◌≢◌, ℕ, List, None, IfSome, Contains, map};
 ghost use Rattle.mime.specs.Values.{lowered};
 
-/// The media type of what isn't known (RFC 2046, 4.5.1).
+/// The media type of any other file (RFC 2046, 4.5.1).
 const OTHER: &str = "application/octet-stream";
 
 /// The media types of files by their endings, in lowercase: those of the constants, and those of Debian's package media-types that
-/// servers send most. A text that is sent without a charset is taken for another one by some clients, so texts are sent as UTF-8.
+/// servers send most. Some clients read a text without a charset in the wrong one, so texts have the charset UTF-8.
 static TYPES: [(&str, &str); 95] = [
     ("7z", "application/x-7z-compressed"),
     ("aac", "audio/aac"),

@@ -12,7 +12,7 @@ pub enum Handler {
     Json,
     /// It reads the body as the fields of a form.
     Form,
-    /// It takes no such body.
+    /// It rejects the body.
     Refuse,
 }
 

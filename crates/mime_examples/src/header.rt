@@ -1,4 +1,4 @@
-//! A media type as a header holds it.
+//! A media type as the value of a header.
 
 ghost use Rattle.std.specs.Prelude.{◌≡◌};
 ghost use Rattle.mime.specs.HeaderLaws.{AreHeaderBytes};
@@ -9,7 +9,7 @@ use mime::laws::kept_is_safe;
 /// Returns the value of a header for a media type (RFC 9110, 8.3).
 pub fn header_text(mime: &Mime) -> &str
     ensures text { result.now ≡ mime.now.media.kept }
-    // It has no line feed, no carriage return and no zero, so nothing can be put into the response by it.
+    // It has no line feed, no carriage return and no zero, so it can't inject anything into the response.
     ensures safe { AreHeaderBytes result.now }
 {
     kept_is_safe();

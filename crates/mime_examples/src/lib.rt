@@ -1,5 +1,5 @@
-//! What callers do with media types: a module for each task, which docs/RECIPES.md lists. README.md and crates/mime/CALLING.md quote
-//! some of them whole. crates/mime_tests tries them.
+//! Solutions to common tasks, a module each, which docs/RECIPES.md lists. README.md and CALLING.md quote some of them whole.
+//! crates/mime_tests tests them.
 #![tactic(auto)]
 
 pub mod accepted;

@@ -16,7 +16,8 @@ use std::alloc::{AllocError, Global};
 pub struct Body<'a> {
     /// Each part: its own header, an empty line, and its content.
     pub parts: Vec<&'a [u8]>,
-    /// Whether a delimiter closes the body. If not, it was cut off, and what follows the last delimiter is no part.
+    /// Whether a delimiter closes the body. If not, the body was cut off, and what follows the last delimiter isn't a
+    /// part.
     pub is_whole: bool,
 }
 
@@ -84,7 +85,8 @@ fn without_end(before: &[u8]) -> &[u8]
     }
 }
 
-/// Returns the part between a delimiter, which these bytes follow, and the next delimiter; and what follows that.
+/// Returns the part that these bytes begin with, up to the next delimiter, and what follows that. A delimiter precedes
+/// these bytes.
 fn next_part<'a>(left: &'a [u8], delimiter: &[u8]) -> Option<(&'a [u8], &'a [u8])>
     requires { delimiter.now ≢ [] }
     ensures part { IfSome result (λ halves. IsNextPart delimiter.now left.now halves.0.now halves.1.now) }
@@ -128,8 +130,9 @@ fn parts_between<'a>(
     })
 }
 
-/// Returns the parts of a body: what is between each two lines that begin with the delimiter, up to a line that continues with two
-/// hyphens, or to the last. Returns `None` exactly if the media type has no boundary. A part isn't examined: it may have no header.
+/// Returns the parts of a body, which are between lines that begin with the delimiter. The last such line is one that continues
+/// with two hyphens, if there is one. Returns `None` exactly if the media type has no boundary. Parts aren't examined, and may have
+/// no header.
 pub fn parts<'a>(alloc: Global, mime: &Mime, body: &'a [u8]) -> Result<Option<Body<'a>>, AllocError>
     ensures { IfOk result (λ answer. MatchOption answer ((boundary : List ℕ) → ¬ (IsBoundaryOf mime.now.media boundary))
         (λ found. (boundary : List ℕ) × IsBoundaryOf mime.now.media boundary
@@ -180,8 +183,8 @@ fn value_of<'a>(part: &'a [u8], name: &str) -> Option<&'a [u8]>
     None
 }
 
-/// Returns what the first `Content-Disposition` of a part says: the names of its field and of its file. Returns `None` exactly if there
-/// is none, or it names no field. A value that continues in a second line isn't read further (RFC 5322, 2.2.3).
+/// Returns the names of the field and of the file in a part's first `Content-Disposition`. Returns `None` exactly if there is none, or
+/// it names no field. The second line of a value isn't read (RFC 5322, 2.2.3).
 pub fn disposition_of(alloc: Global, part: &[u8]) -> Result<Option<Disposition>, AllocError>
     ensures { IfOk result (λ answer. (first : Option (List ℕ)) × IsFirstField (codes "content-disposition") part.now first
         × MatchOption answer ((value name : List ℕ) (file_name : Option (List ℕ)) → first ≡ Some value → ¬ (IsDisposition value name file_name))
@@ -194,7 +197,7 @@ pub fn disposition_of(alloc: Global, part: &[u8]) -> Result<Option<Disposition>,
     }
 }
 
-/// Returns `true` if bytes can be the boundary of a part: they are a boundary, and don't stand in it.
+/// Returns `true` if bytes can be the boundary of a part: if they are a boundary, and the part doesn't contain them.
 pub fn may_delimit(bytes: &[u8], part: &[u8]) -> bool
     ensures { IsTrue result ↔ IsBoundary bytes.now × ((before after : List ℕ) → part.now ≢ before ++ (bytes.now ++ after)) }
 {

@@ -9,8 +9,8 @@ use mime::Mime;
 use mime_http::Accept;
 use std::alloc::{AllocError, Global};
 
-/// Returns the positions of the offers that the lines of a request's `Accept` header accept, the best first: if the first can't be
-/// made, try the next.
+/// Returns the positions of the offers that the lines of a request's `Accept` header accept, the best first. If the first can't be
+/// produced, try the next.
 ///
 /// # Errors
 /// `AllocError` if memory runs out.

@@ -1,4 +1,4 @@
-//! A reader chosen without memory.
+//! A reader chosen without allocating.
 
 ghost use Rattle.std.specs.Prelude.{◌≡◌, ◌==◌, ℕ, List, if◌then◌else◌, codes};
 ghost use Rattle.std.specs.List.{before_first};
@@ -20,8 +20,8 @@ pub fn essence_of(content_type: &str) -> &str
     before.trim_ascii()
 }
 
-/// Returns which reader takes a body, by the essence of its `Content-Type` and without memory, whatever the parameters are: `bytes`
-/// if it is none of three media types.
+/// Returns the reader of a body by the essence of its `Content-Type`, whatever the parameters are: `bytes` if the essence isn't one
+/// of three. It doesn't allocate.
 pub fn reader_of(content_type: &str) -> &'static str
     ensures { (essence : List ℕ) × IsTrimAscii (before_first (λ b. b == semicolon_byte) content_type.now) essence
         × (result.now ≡ (if bytes_eq (lowered essence) (codes "application/json") then codes "json" else

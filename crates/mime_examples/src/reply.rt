@@ -1,4 +1,4 @@
-//! The `Content-Type` of what is sent.
+//! The `Content-Type` of a reply.
 
 ghost use Rattle.std.specs.Prelude.{◌≡◌, IfOk, IfSome, codes};
 ghost use Rattle.mime.specs.Values.{MediaType, Reads, lowered};
@@ -17,7 +17,7 @@ use std::alloc::{AllocError, Global};
 pub fn page_in(alloc: Global, charset: &str) -> Result<Option<Mime>, AllocError>
     ensures made { IfOk result (λ answer. IfSome answer (λ page. (html : MediaType) × Reads (codes "text/html") html
         × (page.media ≡ with_pair html (codes "charset") (lowered charset.now)))) }
-    // In UTF-8 it is printed so exactly.
+    // For UTF-8 exactly this text is printed.
     ensures printed { charset.now ≡ codes "utf-8"
         → IfOk result (λ answer. IfSome answer (λ page. page.media.kept ≡ codes "text/html; charset=utf-8")) }
 {
@@ -25,8 +25,8 @@ pub fn page_in(alloc: Global, charset: &str) -> Result<Option<Mime>, AllocError>
     with_charset(alloc, &TEXT_HTML.mime(), charset)
 }
 
-/// Returns a form whose fields are parts between lines with this boundary: `multipart/form-data; boundary=x`. `None` if that is no
-/// boundary.
+/// Returns the media type of a form whose parts have this boundary: `multipart/form-data; boundary=x`. Returns `None` if it isn't
+/// a boundary.
 pub fn form_with(alloc: Global, boundary: &str) -> Result<Option<Mime>, AllocError>
     ensures { IfOk result (λ answer. IfSome answer (λ made. (form : MediaType) × Reads (codes "multipart/form-data") form
         × (made.media ≡ with_pair form (codes "boundary") boundary.now))) }

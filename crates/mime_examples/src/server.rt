@@ -1,4 +1,4 @@
-//! What a server asks of two headers of a request.
+//! Checks of two headers of a request.
 
 use mime::Mime;
 use mime_http::{Accept, FieldError, content_type};
