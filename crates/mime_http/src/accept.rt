@@ -1,4 +1,4 @@
-//! An `Accept` header, read once, and what it says of a server's offers.
+//! An `Accept` header, read once, and its choice among a server's offers.
 
 ghost use Rattle.std.specs.Prelude.{◌≡◌, ◌≢◌, ◌<◌, true, [], ◌∷◌, ◌++◌, map, length, if◌then◌else◌, IfSome, IsOk, IfOk, OnOk};
 ghost use Rattle.std.specs.Str.{IsAscii, IsUtf8};
@@ -15,7 +15,7 @@ use mime::{Mime, ParseError};
 use std::alloc::{AllocError, Global};
 use std::marker::Model;
 
-/// How many ranges there is room for at first. Few headers have more, so that they aren't moved as they come.
+/// The number of ranges for which there is room at first. Few headers have more, so that ranges are seldom moved.
 const FIRST_RANGES: usize = 8;
 
 /// What an `Accept` header accepts (RFC 9110, 12.5.1).
@@ -61,8 +61,8 @@ impl Accept {
         Ok(())
     }
 
-    /// Adds a piece that the library rejects for this fault, without the white space around it. It isn't inlined, so that the code for
-    /// pieces that the library accepts stays short.
+    /// Adds a piece that `mime` rejects for this fault, without the white space around it. It isn't inlined, so that the code for
+    /// pieces that `mime` accepts stays short.
     #[inline(never)]
     #[tactic(auto, using(crate::proofs::Around::utf8_around))]
     fn take_rejected(
@@ -124,7 +124,7 @@ impl Accept {
         let is_ascii = is_short_ascii(line);
         let mut from = 0;
         loop {
-            // The short way for an empty piece, which is nothing.
+            // An empty piece is skipped at once.
             if is_empty_piece(line, from) {
                 from += 1;
                 continue;
@@ -158,14 +158,14 @@ impl Accept {
         Ok(accept)
     }
 
-    /// Reads a header's lines, which are one list; no line at all, `&[]`, is a request without the header, which accepts everything
-    /// (RFC 9110, 5.3 and 12.5.1). Lines without a range, such as an empty one or `invalid`, accept nothing. Each line is cut at its
+    /// Reads the lines of a header, which are one list (RFC 9110, 5.3 and 12.5.1). A request without the header has no line, `&[]`,
+    /// and accepts everything. Lines without a range, such as an empty one or `invalid`, accept nothing. Each line is cut at its
     /// commas outside quoted strings; a quoted string that is open ends with its line.
     ///
     /// It allocates the two lists, a copy of each bad entry, and what [`content_type`](crate::content_type) allocates for each range.
     ///
     /// # Errors
-    /// `AllocError` if memory runs out, which is never for lines that hold nothing but commas and white space.
+    /// `AllocError` if memory runs out, which never happens for lines of only commas and white space.
     pub fn from_lines(alloc: Global, lines: &[&[u8]]) -> Result<Accept, AllocError>
         ensures header { IfOk result (λ accept. IsHeader (map (λ line. line.now) lines.now) accept) }
         ensures nothing { IsHeader (map (λ line. line.now) lines.now) (record { ranges = []; bad = [] }) → IsOk result }
@@ -173,11 +173,10 @@ impl Accept {
         Accept::read(alloc, lines, true)
     }
 
-    /// Reads a header's lines as [`Accept::from_lines`] does, for a caller who doesn't ask for the bad entries: they are left out and not
-    /// copied.
+    /// Reads the lines of a header as [`Accept::from_lines`] does, but doesn't keep the bad entries.
     ///
     /// # Errors
-    /// `AllocError` if memory runs out, which is never for lines that hold nothing but commas and white space.
+    /// `AllocError` if memory runs out, which never happens for lines of only commas and white space.
     pub fn from_lines_without_bad(alloc: Global, lines: &[&[u8]]) -> Result<Accept, AllocError>
         ensures header { IfOk result (λ accept. (header : Header) × IsHeader (map (λ line. line.now) lines.now) header
             × (accept ≡ record header { bad = [] })) }
@@ -202,8 +201,8 @@ impl Accept {
 
     /// Returns the weight of an offer, in thousandths: that of the most specific range that covers it (of two equally specific
     /// ones, the higher weight), or 0 if none does (RFC 9110, 12.5.1). [`covers`](crate::covers) says what a range covers. It
-    /// allocates nothing. An offer `application/json` weighs nothing for the range `application/json; charset=utf-8`, which
-    /// demands the parameter.
+    /// allocates nothing. The offer `application/json` weighs 0 for the range `application/json; charset=utf-8`, which demands
+    /// the parameter.
     pub fn weight(&self, offer: &Mime) -> u16
         ensures { result ≡ given_weight self.now.ranges offer.now.media }
     {

@@ -1,4 +1,5 @@
-//! The laws of the definitions and of `FieldError`, as calls: a caller that calls one can use its law in its own proof.
+//! The laws of the definitions and of `FieldError`, as functions: a caller that calls one can use its law in its own
+//! proof.
 
 ghost use Rattle.std.specs.Prelude.{◌≡◌};
 ghost use Rattle.mime_http.specs.HeaderLaws.{PlainIsHttp, OneHttpReading, OnePrintedText, PrintedIsRead, OneHttpFault};
@@ -8,14 +9,14 @@ ghost use Rattle.mime_http.specs.RangesLaws.{ClosestIsClosest, BestIsAcceptable,
 
 use crate::value::FieldError;
 
-/// What the library `mime` reads, HTTP allows, and it is read as the same media type: `a/b; p=x;`.
+/// HTTP allows whatever `mime` reads, as the same media type: `a/b; p=x;`.
 #[tactic(auto, using(crate::proofs::PlainIsHttp::plain_is_http))]
 pub fn plain_is_http()
     ensures { PlainIsHttp }
 {}
 
-/// A value is at most one media type, though several trees spell `a/b; ;p=x`: the second space is after the first semicolon
-/// or before the second.
+/// A value is read as at most one media type, though several trees spell `a/b; ;p=x`: the second space is after the first
+/// semicolon or before the second.
 pub fn one_http_reading()
     ensures { OneHttpReading }
 {}
@@ -25,12 +26,12 @@ pub fn one_printed_text()
     ensures { OnePrintedText }
 {}
 
-/// What is printed of a value is read as the same media type, and prints the same text again.
+/// The text that is printed for a value is read as the same media type, and is printed as itself.
 pub fn printed_is_read()
     ensures { PrintedIsRead }
 {}
 
-/// A value that is no media type has exactly one fault: that of `   a/b c` is its byte at position 7, counted from 0
+/// A value that isn't a media type has exactly one fault: that of `   a/b c` is its byte at position 7, counted from 0
 /// (RFC 9110, 8.3.1).
 #[tactic(auto, using(crate::proofs::ReadFaults::one_http_fault))]
 pub fn one_http_fault()
@@ -74,7 +75,8 @@ pub fn closest_is_closest()
     ensures { ClosestIsClosest }
 {}
 
-/// What is written for a value means the value; that of a `charset` means it in lowercase, as it is read (RFC 9110, 5.6.4).
+/// A written value means the value that was passed; that of a `charset` means it in lowercase, as it is read (RFC 9110,
+/// 5.6.4).
 #[tactic(auto, using(crate::proofs::Contents::written_is_meant))]
 pub fn written_is_meant()
     ensures { WrittenIsMeant }

@@ -31,7 +31,7 @@ static BOUNDARY_BYTES: [bool; 256] = [
     N, N, N, N, N, N, N, N, N, N, N, N, N, N, N, N, N, N, N, N, N, N, N, N, N, N, N, N, N, N, N, N,
 ];
 
-/// The number of bytes that a boundary has at most.
+/// The most bytes that a boundary has.
 const LONGEST: usize = 70;
 
 /// Returns `true` if a byte may occur in a boundary.
@@ -106,11 +106,11 @@ fn first_boundary(alloc: Global, mime: &Mime) -> Result<Option<Vec<u8>>, AllocEr
 }
 
 /// Returns the boundary between the parts of a body of any `multipart` type, byte for byte as it stands in the body (RFC 2046, 5.1.1):
-/// `a b` for `multipart/mixed; boundary="a b"`. `None` exactly if the type isn't `multipart`, there is no parameter `boundary`, or what
-/// the first one means isn't a boundary, as [`is_boundary`] says.
+/// `a b` for `multipart/mixed; boundary="a b"`. Returns `None` exactly if the type isn't `multipart`, there is no parameter `boundary`,
+/// or what the first one means isn't a boundary, as [`is_boundary`] says.
 ///
 /// # Errors
-/// `AllocError` if memory runs out, which is never for another type, nor without that parameter.
+/// `AllocError` if memory runs out, which never happens for any other type or without that parameter.
 pub fn boundary(alloc: Global, mime: &Mime) -> Result<Option<Vec<u8>>, AllocError>
     ensures meant { IfOk result (λ answer. MatchOption answer ((bytes : List ℕ) → ¬ (IsBoundaryOf mime.now.media bytes))
         (λ boundary. IsBoundaryOf mime.now.media (vec_items boundary))) }

@@ -82,7 +82,7 @@ fn push_parameter(text: &mut String, name: &str, value: &str, form: Form) -> Res
     }
 }
 
-/// Returns a media type's essence, its parameters of other names, and this one; and how many the others are.
+/// Returns a text of a media type's essence, its parameters of other names, and this one; and the number of the others.
 fn text_with(
     alloc: Global,
     mime: &Mime,
@@ -95,19 +95,19 @@ fn text_with(
         ≡ mime.now.media.essence ++ text_of_pairs (others name.now mime.now.media.pairs ++ ((name.now, escaped value.now) ∷ []))) }
     ensures count { IfOk result (λ written. written.1 ≡ length (others name.now mime.now.media.pairs)) }
 {
-    // What is added besides the name: the value, and its marks.
+    // The bytes of the value and of its marks.
     let content = match form {
         Form::Token => value.len().saturating_add(3),
         Form::Quoted => value.len().saturating_add(5),
         Form::Escaped => value.len().saturating_mul(2).saturating_add(5),
     };
     let most = param_count(mime);
-    // Each parameter is written after `; `. If the kept text has `;` alone, each may need a byte more.
+    // Each parameter is written after `; `. If the kept text has only `;`, each may need a byte more.
     let spaces = match after_essence(mime) {
         [_, b' ', ..] => 0,
         _ => most,
     };
-    // The kept text has the parameters that stay: for most texts that is all the room that is needed.
+    // The kept text has the parameters that stay, so most texts need no more room.
     let added = name.len().saturating_add(content).saturating_add(spaces);
     let room = mime.as_str().len().saturating_add(added);
     let mut text = String::with_capacity(alloc, room)?;
@@ -174,7 +174,7 @@ fn mime_with(
 /// It allocates the text, which may grow, and at most once more for what is kept of it, if that has more than 40 bytes.
 ///
 /// # Errors
-/// `AllocError` if memory runs out, which is never if the answer is `None`.
+/// `AllocError` if memory runs out, which never happens if the result is `None`.
 pub fn with_parameter(
     alloc: Global,
     mime: &Mime,
@@ -199,7 +199,7 @@ pub fn with_parameter(
 /// token (RFC 9110, 8.3.2). `text/html` with the charset `UTF-8` is `text/html; charset=utf-8`.
 ///
 /// # Errors
-/// `AllocError` if memory runs out, which is never if the answer is `None`.
+/// `AllocError` if memory runs out, which never happens if the result is `None`.
 #[tactic(auto, using(crate::proofs::Contents::token_written), unfolding(mime::specs::Bytes::is_token_byte))]
 pub fn with_charset(alloc: Global, mime: &Mime, charset: &str) -> Result<Option<Mime>, AllocError>
     ensures exact { IfOk result (λ answer. IsTrue (is_some answer) ↔ IsToken charset.now) }
@@ -217,7 +217,7 @@ pub fn with_charset(alloc: Global, mime: &Mime, charset: &str) -> Result<Option<
 /// Any media type is accepted, though a boundary has a meaning only for the type `multipart`.
 ///
 /// # Errors
-/// `AllocError` if memory runs out, which is never if the answer is `None`.
+/// `AllocError` if memory runs out, which never happens if the result is `None`.
 #[tactic(auto, using(crate::proofs::Contents::boundary_written), unfolding(mime::specs::Bytes::is_token_byte))]
 pub fn with_boundary(alloc: Global, mime: &Mime, boundary: &str) -> Result<Option<Mime>, AllocError>
     ensures exact { IfOk result (λ answer. IsTrue (is_some answer) ↔ IsBoundary boundary.now) }

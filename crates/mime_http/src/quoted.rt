@@ -1,4 +1,4 @@
-//! The content of a quoted string: what it means, and what is written for a value.
+//! The content of a quoted string: what it means, and how a value is written.
 
 ghost use Rattle.std.specs.Prelude.{◌≡◌, ◌∷◌, [], ◌++◌, ◌≤◌, ◌+◌, None, Some, OnOk, IsOk, is_ok, if◌then◌else◌, length, take, drop, string_bytes};
 ghost use Rattle.std.specs.List.{list_all, prefix_len};
@@ -15,7 +15,7 @@ use std::alloc::AllocError;
 /// has room for as many bytes as the value has.
 ///
 /// # Errors
-/// `AllocError` if memory runs out, which is only without that room; the buffer is then as it was.
+/// `AllocError` if memory runs out, which happens only without that room. The buffer is then unchanged.
 pub fn unescape(value: &str, buffer: &mut Vec<u8>) -> Result<(), AllocError>
     ensures meant { vec_items buffer.new ≡ (if is_ok result then vec_items buffer.old ++ unescaped value.now else vec_items buffer.old) }
     ensures room { vec_len buffer.old + length value.now ≤ vec_capacity buffer.old → IsOk result }
@@ -29,7 +29,7 @@ pub fn unescape(value: &str, buffer: &mut Vec<u8>) -> Result<(), AllocError>
     Ok(())
 }
 
-/// Replaces the bytes from this position on by what they mean, and returns where that ends.
+/// Replaces the bytes from this position on by what they mean, and returns the position after that.
 #[tactic(auto, using(crate::proofs::Contents::moved))]
 fn unescape_in_place(bytes: &mut [u8], start: usize) -> usize
     requires { start ≤ length bytes.old }

@@ -38,7 +38,7 @@ pub(crate) fn first_value<'a>(mime: &'a Mime, name: &str) -> Option<Name<'a>>
     mime.get_param(Exactly(name))
 }
 
-/// Returns the weight that the value of a `q` is, in thousandths, or 1000 without one.
+/// Returns the weight of a `q` with this value, in thousandths, or 1000 without a value.
 #[inline]
 fn weight_in(value: Option<&str>) -> u16
     ensures { result ≡ unwrap_or (option_map (λ text. thousandths_of text.now) value.entry) 1000 }
@@ -60,8 +60,8 @@ pub fn weight_of(range: &Mime) -> u16
     }
 }
 
-/// Returns `true` if a range is `*/*`, whatever its parameters. It isn't inlined, so that a range whose length differs isn't
-/// looked at.
+/// Returns `true` if a range is `*/*`, whatever its parameters. It isn't inlined, so that a range of any other length isn't
+/// read.
 #[inline(never)]
 fn is_star(range: &Mime) -> bool
     ensures { result ≡ bytes_eq range.now.media.essence (codes "*/*") }
@@ -69,7 +69,7 @@ fn is_star(range: &Mime) -> bool
     range.essence_str() == "*/*"
 }
 
-/// Returns `true` if a range is `text/*`, for the type `text`, whatever its parameters. It isn't inlined, as `is_star`.
+/// Returns `true` if a range is `text/*`, for the type `text`, whatever its parameters. It isn't inlined, like `is_star`.
 #[inline(never)]
 fn is_all_of(range: &Mime, type_: &str) -> bool
     ensures { result ≡ bytes_eq range.now.media.essence (type_.now ++ codes "/*") }
@@ -77,7 +77,7 @@ fn is_all_of(range: &Mime, type_: &str) -> bool
     range.essence_str().strip_suffix("/*") == Some(type_)
 }
 
-/// Returns `true` if a range has this essence. It isn't inlined, as `is_star`.
+/// Returns `true` if a range has this essence. It isn't inlined, like `is_star`.
 #[inline(never)]
 fn is_same(range: &Mime, essence: &str) -> bool
     ensures { result ≡ bytes_eq range.now.media.essence essence.now }
@@ -93,7 +93,7 @@ pub(crate) fn named_parts(range: &Mime, essence: &str, type_: &str) -> Option<u8
         if bytes_eq range.now.media.essence (type_.now ++ codes "/*") then Some 1 else
         if bytes_eq range.now.media.essence essence.now then Some 2 else None) }
 {
-    // Most lengths differ, so that the range's text isn't looked at.
+    // Most lengths differ, so that the range's text isn't read.
     let len = range.essence_str().len();
     if len == 3 && is_star(range) {
         Some(0)
@@ -134,7 +134,7 @@ fn demanded_among(range: &Mime, offer: &Mime) -> Option<(usize, u16)>
     ensures { result ≡ (if list_all (has offer.now.media) (demanded range.now.media.pairs)
         then Some (length (demanded range.now.media.pairs), weight_of range.now.media) else None) }
 {
-    // For the proof alone: it bounds the count.
+    // Only for the proof: it bounds the count.
     let most = param_count(range);
     let mut count = 0;
     let mut weight = None;

@@ -1,4 +1,4 @@
-//! Why an offer is chosen: what the ranges of an `Accept` header give each, which of them decides, and a header's entries one by one.
+//! Why an offer is chosen: all offers with their weights and the ranges that decide, and a header's entries one by one.
 
 ghost use Rattle.std.specs.Prelude.{◌≡◌, ◌++◌, ◌∷◌, ◌==◌, ◌||◌, ◌&&◌, not, map, option_map, unwrap_or, true, position, codes, IfOk, MatchOption};
 ghost use Rattle.std.specs.Char.{is_ascii_digit};
@@ -16,18 +16,18 @@ use mime::Mime;
 use std::alloc::{AllocError, Global};
 use std::cmp::Reverse;
 
-/// What the ranges give an offer.
+/// An offer with its weight and the range that decides.
 #[derive(Clone, Copy, PartialEq, Eq, Debug)]
 pub struct RankedOffer {
     /// The offer's position.
     pub offer: usize,
-    /// Its weight in thousandths, as [`Accept::weight`](crate::Accept::weight) gives it.
+    /// Its weight in thousandths, as [`Accept::weight`](crate::Accept::weight) returns it.
     pub weight: u16,
-    /// The position of the range that gives it this weight, the most specific that covers it; `None` if none does.
+    /// The position of the range that decides its weight, the most specific that covers it; `None` if none does.
     pub range: Option<usize>,
 }
 
-/// Returns what an offer's rank and position say.
+/// Returns an offer with its weight and range, from its rank and its position.
 fn ranked_offer(count: usize, ranked: &(Reverse<(u16, u8, usize, usize)>, usize)) -> RankedOffer
     ensures { result ≡ ranked_as count ranked.now.0.0 ranked.now.1 }
 {
@@ -43,7 +43,7 @@ fn ranked_offer(count: usize, ranked: &(Reverse<(u16, u8, usize, usize)>, usize)
     }
 }
 
-/// Returns what the ranks and positions of offers say.
+/// Returns offers with their weights and ranges, from their ranks and positions.
 fn ranked_offers(
     alloc: Global,
     count: usize,
@@ -58,8 +58,8 @@ fn ranked_offers(
     Ok(offers)
 }
 
-/// Returns what the ranges of a header give all of these offers, in the order in which [`Accept::best`](crate::Accept::best) takes them: the first
-/// is the best, unless it weighs 0. Each offer is compared with the ranges once.
+/// Returns all of these offers, the best first, each with its weight and the range that decides. Their order is that of
+/// [`Accept::best`](crate::Accept::best), so the first is the best, unless it weighs 0. Each offer is compared with the ranges once.
 ///
 /// # Errors
 /// `AllocError` if memory runs out.
@@ -85,8 +85,8 @@ fn is_lacking(range: &Mime, offer: &Mime) -> bool
     range.essence_str() == offer.essence_str() && !covers(range, offer)
 }
 
-/// Returns the position of the first range that has an offer's essence, but demands a parameter that the offer lacks: why an offer
-/// `application/json` weighs nothing beside `application/json; charset=utf-8`.
+/// Returns the position of the first range that has an offer's essence, but demands a parameter that the offer lacks:
+/// `application/json; charset=utf-8` for the offer `application/json`.
 pub fn lacking(ranges: &[Mime], offer: &Mime) -> Option<usize>
     ensures { result ≡ position (is_lacking offer.now.media) (map (λ range. range.media) ranges.now) }
 {
@@ -98,14 +98,14 @@ pub fn lacking(ranges: &[Mime], offer: &Mime) -> Option<usize>
     None
 }
 
-/// Returns `true` if these are zeros, or digits.
+/// Returns `true` if all bytes are digits, or are zeros if `zeros_alone`.
 fn are_digits(zeros_alone: bool, bytes: &[u8]) -> bool
     ensures { result ≡ list_all (λ b. b == 48 || (not zeros_alone && is_ascii_digit b)) bytes.now }
 {
     bytes.iter().all(|byte| *byte == b'0' || (!zeros_alone && byte.is_ascii_digit()))
 }
 
-/// Returns `true` if these are a dot and up to three zeros, or digits, or nothing.
+/// Returns `true` if bytes are empty, or a dot and at most three digits, which are zeros if `zeros_alone`.
 fn are_decimals(zeros_alone: bool, bytes: &[u8]) -> bool
     ensures { result ≡ are_decimals zeros_alone bytes.now }
 {
