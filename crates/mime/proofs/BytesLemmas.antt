@@ -7,11 +7,11 @@ use Rattle.std.proofs.lemmas.List.FromFn.{get_or-map-range_with_len}
 use Rattle.std.specs.Prelude.{IsTrue, IsFalse, ◌==◌, not}
 use Rattle.std.proofs.lemmas.Bool.{and_parts, and_from}
 use Rattle.std.proofs.lemmas.Bool.Decides.{nat_tests}
-use Rattle.mime.specs.Bytes.{is_token_byte, semicolon_byte, equals_byte, quote_byte}
+use Rattle.mime.specs.Bytes.{is_token_byte, semicolon_byte, quote_byte}
 use Rattle.mime.specs.Grammar.{is_space, AreTokenBytes, IsToken}
 use Rattle.std.specs.Str.{IsUtf8, IsCharBoundary}
 use Rattle.std.proofs.lemmas.Option.{slice_get_within, get_or_from_slice_get}
-use Rattle.std.proofs.lemmas.Str.{IsCharBoundary-before_ascii, IsCharBoundary-after_ascii}
+use Rattle.std.proofs.lemmas.Str.{IsCharBoundary-after_ascii}
 
 -- what a test of a table says of a byte is whether the byte is of the class, if it does byte by byte
 pub in_table : (class test : ℕ → Bool) (table : List ℕ) → map test table ≡ map class (range_with_len 0 256) → length table ≡ 256
@@ -36,11 +36,6 @@ pub semicolon_is_no_token : IsFalse (is_token_byte semicolon_byte)
 unfolding is_token_byte
 semicolon_is_no_token = refl
 
--- an equals sign is no token byte
-pub equals_is_no_token : IsFalse (is_token_byte equals_byte)
-unfolding is_token_byte
-equals_is_no_token = refl
-
 -- a quote is no token byte
 pub quote_is_no_token : IsFalse (is_token_byte quote_byte)
 unfolding is_token_byte
@@ -50,10 +45,6 @@ quote_is_no_token = refl
 pub token_byte-not_space : (b : ℕ) → IsTrue (is_token_byte b) → IsFalse (is_space b)
 unfolding is_token_byte
 token_byte-not_space b token = grind (arith, nat_tests)
-
--- a token byte differs from a byte that is no token byte
-pub token_byte-not : (b other : ℕ) → IsFalse (is_token_byte other) → IsTrue (is_token_byte b) → IsFalse (b == other)
-token_byte-not b other none token = grind (arith, nat_tests, ap is_token_byte {x = b} {y = other})
 
 -- a list of a class is one of a wider class
 pub list_all-wider : (class wider : ℕ → Bool) → ((b : ℕ) → class b ≡ true → wider b ≡ true)
@@ -91,11 +82,6 @@ token-size (b ∷ token) is = omega arith
 pub AreTokenBytes-from_token : (bytes : List ℕ) → IsToken bytes → AreTokenBytes bytes
 AreTokenBytes-from_token [] token = absurd token
 AreTokenBytes-from_token (b ∷ bytes) token = token
-
--- a text may be cut before an ASCII byte
-pub boundary_before : (text : List ℕ) (at b : ℕ) → slice_get text at ≡ Some b → b < 128 → IsCharBoundary text at
-boundary_before text at b there ascii =
-    IsCharBoundary-before_ascii text at (slice_get_within text at b there) (omega (arith, get_or_from_slice_get text at b 0 there))
 
 -- a text may be cut after an ASCII byte
 pub boundary_after : (text : List ℕ) (at b : ℕ) → IsUtf8 text → slice_get text at ≡ Some b → b < 128 → IsCharBoundary text (at + 1)

@@ -66,14 +66,13 @@ AreParameters-lowered (blank n) white = white
 AreParameters-lowered (final n p) (white, well) = (white, IsParameter-lowered p well)
 AreParameters-lowered (more n p rest) (white, well, others) = (white, IsParameter-lowered p well, AreParameters-lowered rest others)
 
--- what follows a lowercased subtype is well formed
-IsTail-lowered : (tail : Tail) → IsTail tail → IsTail (lowered_tail tail)
-IsTail-lowered no_list well = tt
-IsTail-lowered (listed list) well = AreParameters-lowered list well
-
 -- a lowercased tree is well formed
 pub IsWellFormed-lowered_tree : (tree : SyntaxTree) → IsWellFormed tree → IsWellFormed (lowered_tree tree)
-IsWellFormed-lowered_tree tree well = (IsToken-lowered tree.top well.0, IsToken-lowered tree.sub well.1, IsTail-lowered tree.tail well.2)
+IsWellFormed-lowered_tree tree well = (
+  IsToken-lowered tree.top well.0,
+  IsToken-lowered tree.sub well.1,
+  (elim tree.tail as (λ tail. IsTail tail → IsTail (lowered_tail tail)) [ no_list ↦ λ well. tt | listed list ↦ AreParameters-lowered list ]) well.2,
+)
 
 -- a kept value is its own lowercased form
 pub lowered_value-lowered : (name value : List ℕ) → lowered_value (lowered name) (lowered_value name value) ≡ lowered_value name value
@@ -102,14 +101,12 @@ lowered_list-lowered (blank n) = refl
 lowered_list-lowered (final n p) = ap (final n) (lowered_parameter-lowered p)
 lowered_list-lowered (more n p rest) = cc (lowered_parameter-lowered p, lowered_list-lowered rest)
 
--- what follows a lowercased subtype is its own lowercased form
-lowered_tail-lowered : (tail : Tail) → lowered_tail (lowered_tail tail) ≡ lowered_tail tail
-lowered_tail-lowered no_list = refl
-lowered_tail-lowered (listed list) = ap listed (lowered_list-lowered list)
-
 -- a lowercased tree is its own lowercased form
 pub lowered_tree-lowered_tree : (tree : SyntaxTree) → lowered_tree (lowered_tree tree) ≡ lowered_tree tree
-lowered_tree-lowered_tree tree = cc (lowered-lowered tree.top, lowered-lowered tree.sub, lowered_tail-lowered tree.tail)
+lowered_tree-lowered_tree tree =
+    let tail = elim tree.tail as (λ tail. lowered_tail (lowered_tail tail) ≡ lowered_tail tail)
+    [ no_list ↦ refl | listed list ↦ ap listed (lowered_list-lowered list) ] in
+    cc (lowered-lowered tree.top, lowered-lowered tree.sub, tail)
 
 -- lowercasing keeps the position of the last plus
 pub last_plus-lowered : (at : ℕ) (bytes : List ℕ) → last_plus at (lowered bytes) ≡ last_plus at bytes
@@ -137,15 +134,11 @@ pairs_of_tail-lowered (listed list) = pairs_of_list-lowered list
 pub length-tail_lowered : (tail : Tail) → length (pairs_of_tail (lowered_tail tail)) ≡ length (pairs_of_tail tail)
 length-tail_lowered tail = ap length (pairs_of_tail-lowered tail) ∙ length-map (pairs_of_tail tail) lowered_pair
 
--- lowercasing keeps the position of the semicolon
-semicolon_of-lowered : (at : ℕ) (tail : Tail) → semicolon_of at (lowered_tail tail) ≡ semicolon_of at tail
-semicolon_of-lowered at no_list = refl
-semicolon_of-lowered at (listed list) = refl
-
 -- lowercasing moves no part
 pub positions_of-lowered_tree : (tree : SyntaxTree) → positions_of (lowered_tree tree) ≡ positions_of tree
 positions_of-lowered_tree tree =
     let at = length tree.top + 1 + length tree.sub in
     let plus = last_plus-lowered (length tree.top + 2) (drop 1 tree.sub) in
+    let semicolon = elim tree.tail as (λ tail. semicolon_of at (lowered_tail tail) ≡ semicolon_of at tail) [ no_list ↦ refl | listed list ↦ refl ] in
     rw (length-lowered tree.top, length-lowered tree.sub, ← lowered-drop 1 tree.sub)
-    (cc (semicolon_of-lowered at tree.tail, length-tail_lowered tree.tail, plus))
+    (cc (semicolon, length-tail_lowered tree.tail, plus))

@@ -10,7 +10,7 @@ use Rattle.std.proofs.lemmas.List.Elements.{filter-append}
 use Rattle.mime.specs.Bytes.{semicolon_byte, equals_byte, quote_byte}
 use Rattle.mime.specs.Grammar.{Parameter, plain, quoted, Parameters, blank, final, more, Tail, no_list, listed, text_of, text_of_tail, text_of_list, text_of_parameter, is_space, AreSpaces, AreParameters, IsParameter, IsTail}
 use Rattle.mime.specs.Values.{MediaType, Reads, value_of, essence_of, lowered, lowered_parameter, lowered_list, lowered_tail, pair_of, pairs_of_list, pairs_of_tail}
-use Rattle.mime.specs.Comparison.{Same, TextIs}
+use Rattle.mime.specs.Comparison.{Same}
 use Rattle.mime.specs.Difference.{reaches_value, DifferInValue}
 use Rattle.mime.proofs.ValueLemmas.KeptText.{text_of-essence}
 use Rattle.mime.proofs.LowercaseLemmas.{lowered-append, lowered-lowered}
@@ -129,7 +129,3 @@ different_values one other first second reads also d same =
     let other_cut = rw (← d.first.equal_before) at (stripped-at other d.at d.first.within_other d.other_reaches) in
     let both = rw (cut, other_cut) at (sym begins.is ∙ whole ∙ other_begins.is) in
     d.first.differ (same_byte (filter reaches_value (take d.at (lowered one))) _ _ _ _ begins.rest other_begins.rest both)
-
--- a text whose first difference from a kept text reaches the value isn't that value
-pub text_is-different_values : (kept text : List ℕ) (value : MediaType) → Reads kept value → DifferInValue kept text → TextIs value text → ⊥
-text_is-different_values kept text value reads d is = different_values kept text value is.read reads is.reads d is.same

@@ -16,7 +16,7 @@ use Rattle.mime.specs.Inner.KeptText.{lowered_pair}
 use Rattle.mime.specs.Inner.ComparedText.{StartsWithEssence, IsAcceptedAt, IsLoneCharset}
 use Rattle.mime.specs.declared.scan.Positions.{Positions}
 use Rattle.mime.proofs.BytesLemmas.{list_all-parts, AreTokenBytes-from_token, are_other-token, semicolon_is_no_token}
-use Rattle.mime.proofs.ValueLemmas.Pairs.{cut_after_equals-name}
+use Rattle.mime.proofs.ValueLemmas.Pairs.{cut_of-name}
 use Rattle.mime.proofs.ValueLemmas.Parts.{kept-essence, read-low_essence}
 use Rattle.mime.proofs.ValueLemmas.KeptText.{text_of-essence, take-essence, length-essence_of, slice_get-semicolon, kept_is_read, pairs_within-text_of}
 use Rattle.mime.proofs.LowercaseLemmas.{lowered-append, length-tail_lowered, pairs_of_tail-lowered, list_all-lowered}
@@ -147,16 +147,11 @@ text_is-lone_charset kept text value reads some is lone =
 
 -- ---- a lone charset
 
--- the first name of a list that begins with ` charset=`
-cut_of-charset : (after : List ℕ) → (cut_of (codes " charset=" ++ after)).name ≡ codes "charset"
-unfolding cut_of
-cut_of-charset after = cut_after_equals-name (length (codes " charset=" ++ after)) (codes "charset") after
-
--- the only pair of such a list is a charset
+-- the only pair of a list that begins with ` charset=` is a charset
 pub lone_charset : (list : List ℕ) → take 9 list ≡ codes " charset=" → IsLoneCharset (pairs_within 1 list)
 lone_charset list is =
     let whole : list ≡ codes " charset=" ++ drop 9 list = sym (take-append-drop 9 list) ∙ ap (λ prefix. prefix ++ drop 9 list) is in
-    let name = ap (λ l. (cut_of l).name) whole ∙ cut_of-charset (drop 9 list) in
+    let name = ap (λ l. (cut_of l).name) whole ∙ sym (cut_of-name (codes " charset=" ++ drop 9 list) (codes "charset") refl) in
     ((cut_of list).name, (cut_of list).value, refl, subst (λ n. is_charset n ≡ true) (sym name) refl)
 
 -- ---- a text against a value without pairs

@@ -233,16 +233,6 @@ takes-split text p c l n split takes =
 pub takes-viable : (text : List ℕ) → IsViable text → TakesSteps text (length text)
 takes-viable text viable = record { pieces = []; end = text; cut = last text viable; counted = refl }
 
--- the empty text takes none
-pieces-empty : (text : List ℕ) (pieces : List (List ℕ × List ℕ)) (end : List ℕ) → Pieces text pieces end → text ≡ []
-    → steps_of pieces end ≡ 0
-pieces-empty text pieces end (last t viable) is = ap length is
-pieces-empty text pieces end (next t p c l others e split found) is =
-    let size = split-size t p c l split in absurd (omega (arith, size.0, size.1, ap length is))
-
-pub takes-empty : (n : ℕ) → TakesSteps [] n → n ≡ 0
-takes-empty n takes = takes.counted ∙ pieces-empty [] takes.pieces takes.end takes.cut refl
-
 -- a text has one list of pieces
 pieces_unique : (text : List ℕ) (pieces : List (List ℕ × List ℕ)) (end : List ℕ) → Pieces text pieces end
     → (others : List (List ℕ × List ℕ)) (stop : List ℕ) → Pieces text others stop → (others ≡ pieces) × (stop ≡ end)

@@ -22,7 +22,7 @@ use Rattle.mime.specs.declared.scan.Positions.{Positions}
 use Rattle.mime.specs.declared.scan.Scanned.{Scanned}
 use Rattle.mime.specs.declared.scan.Scanned.TheVariants.{Accepted, Unfinished}
 use Rattle.mime.proofs.GrammarLemmas.Characters.{following-low, prefix_ends_between_characters}
-use Rattle.mime.proofs.CutLemmas.Cuts.{empty-rejected, empty-cut, split-size, split-from_dead, cut_unique, takes-split, takes-viable, takes-empty}
+use Rattle.mime.proofs.CutLemmas.Cuts.{empty-rejected, empty-cut, split-size, split-from_dead, cut_unique, takes-split, takes-viable, takes_unique}
 use Rattle.mime.proofs.GrammarLemmas.Begun.{in_type}
 use Rattle.mime.proofs.ValueLemmas.Reading.{accepted-from_positions, rejected-from_fault}
 use Rattle.mime.proofs.GrammarLemmas.Viability.{accepted_is_viable, empty_is_viable}
@@ -87,7 +87,7 @@ under_way-viable : (text : List ℕ) → IsViable text → IsUnderWay text [] fa
 under_way-viable text viable = record {
   few = omega arith;
   exact = λ fed n takes.
-      let none : n ≡ 0 = takes-empty n takes in
+      let none : n ≡ 0 = takes_unique [] n 0 takes (takes-viable [] empty_is_viable) in
       subst (TakesSteps text) (omega (arith, none)) (takes-viable text viable);
 }
 

@@ -171,10 +171,6 @@ prefix_ends_between_characters text count utf8 prefix =
     subst (IsCharBoundary text) (prefix_unique text (length text) count (whole_prefix-from_walk text begun walked) prefix)
     (IsCharBoundary-end text))
 
--- a byte past ASCII that isn't from 128 to 191 is 192 or above
-begins-high : (b : ℕ) → IsFalse (is_following_byte b) → 128 ≤ b → 192 ≤ b
-begins-high b begins high = grind (arith, nat_tests, begins, high)
-
 -- a byte that only follows is from 128 to 191
 pub following-low : (b : ℕ) → IsTrue (is_following_byte b) → (128 ≤ b) × (b < 192)
 following-low b follows = (grind (arith, nat_tests, follows), grind (arith, nat_tests, follows))
@@ -186,7 +182,7 @@ character-border (a ∷ f) [] one = (omega (arith, length-append (a ∷ f) []), 
 character-border (a ∷ f) (b ∷ l) one =
     let there : get_or ((a ∷ f) ++ (b ∷ l)) (length (a ∷ f)) 0 ≡ b = get_or-append_seam (a ∷ f) b l 0 in (
       omega (arith, length-append (a ∷ f) (b ∷ l)),
-      λ within high. subst (λ (x : ℕ). 192 ≤ x) (sym there) (begins-high b one.1 (subst (λ (x : ℕ). 128 ≤ x) there high)),
+      λ within high. grind (arith, nat_tests, one.1, there, high),
     )
 
 -- between the bytes of a character a text may not be cut

@@ -18,11 +18,6 @@ unfolding is_quoted_byte
 takes-quote true = refl
 takes-quote false = refl
 
--- after a letter none is awaited
-awaits_next-letter : (awaiting : Bool) → awaits_next awaiting 120 ≡ false
-awaits_next-letter true = refl
-awaits_next-letter false = refl
-
 -- a byte past ASCII that isn't taken is 192 or above
 pub takes-high : (awaiting : Bool) (b : ℕ) → IsFalse (takes awaiting b) → 128 ≤ b → 192 ≤ b
 unfolding is_quoted_byte
@@ -169,7 +164,8 @@ takes_all-any true (b ∷ run) all =
 pub closed-letter : (content : List ℕ) → IsFalse (continues (content ++ 120 ∷ []) quote_byte)
 closed-letter content =
     takes-quote (awaits_after false (content ++ 120 ∷ []))
-    ∙ awaits_after-append false content (120 ∷ []) ∙ awaits_next-letter (awaits_after false content)
+    ∙ awaits_after-append false content (120 ∷ [])
+    ∙ elim (awaits_after false content) as (λ a. awaits_next a 120 ≡ false) [ true ↦ refl | false ↦ refl ]
 
 -- ---- lowercasing
 

@@ -13,10 +13,10 @@ use Rattle.mime_search.proofs.IgnoringCase.{length-lowered}
 use Rattle.mime.proofs.ValueLemmas.ListText.{ended, drop_past}
 use Rattle.mime.proofs.ValueLemmas.Parts.{slash_in, plus_in, subtype_end}
 use Rattle.mime.proofs.GrammarLemmas.Readings.{one_reading, walk-accepted}
-use Rattle.std.specs.List.{AllByRecursion}
+use Rattle.std.specs.List.{AllByRecursion, list_all}
 use Rattle.std.proofs.lemmas.Bool.{and_parts, and_from, cond-false, true_from_ne_false}
 use Rattle.std.proofs.lemmas.Bool.Decides.{nat_tests}
-use Rattle.mime.specs.Grammar.{Parameter, plain, quoted, Parameters, blank, final, more, Tail, no_list, listed, SyntaxTree, AreTokenBytes, IsToken, IsContent, IsParameter, AreParameters, IsTail}
+use Rattle.mime.specs.Grammar.{Parameter, plain, quoted, Parameters, blank, final, more, no_list, listed, SyntaxTree, AreTokenBytes, IsToken, IsContent, IsParameter, AreParameters, IsTail}
 use Rattle.mime.specs.HeaderLaws.{AreHeaderBytes, IsSafePair, KeptIsSafe, text_with_parameter, with_parameter, ParameterIsRead}
 use Rattle.mime.specs.Inner.Quoted.{takes, awaits_after, continues}
 use Rattle.mime.proofs.GrammarLemmas.Begun.{Begun, in_type, in_list, in_quotes, list_at, grow, walk_from}
@@ -95,11 +95,6 @@ same_essence one other first second reads again = (
 
 -- ---- the bytes of an accepted text
 
--- a byte that a header doesn't have is foreign to the grammar
-unsafe-foreign : (b : ℕ) → IsFalse (is_quoted_byte b) → IsForeign b
-unfolding is_quoted_byte
-unsafe-foreign b unsafe = IsForeign-outside b (grind (arith, nat_tests))
-
 -- no quoted value takes it
 unsafe-untaken : (awaiting : Bool) (b : ℕ) → IsFalse (is_quoted_byte b) → IsFalse (takes awaiting b)
 unsafe-untaken true b unsafe = unsafe
@@ -107,6 +102,7 @@ unsafe-untaken false b unsafe = ap (λ t. t && not (b == quote_byte)) unsafe
 
 -- a byte that a header doesn't have leads nowhere
 unsafe-dead : (begun : Begun) (b : ℕ) → IsFalse (is_quoted_byte b) → grow begun b ≡ None
+unfolding is_quoted_byte
 unsafe-dead begun b unsafe =
     elim (grow begun b) as (λ o. MatchOption o (Unit {0}) (λ next. IsOpen begun × IsOpen next) → grow begun b ≡ o → o ≡ None) [
       | None ↦ λ leads is. refl
@@ -115,7 +111,7 @@ unsafe-dead begun b unsafe =
     (grow-foreign begun b foreign) refl
   where
     foreign : IsForeign b
-    foreign = unsafe-foreign b unsafe
+    foreign = IsForeign-outside b (grind (arith, nat_tests, unsafe))
 
     closed : (at : IsOpen begun) → grow (in_list at.top at.sub (list_at at.closed (in_quotes at.spaces at.name at.content))) b ≡ None
     closed at =
@@ -134,15 +130,12 @@ walked-safe start last (b ∷ text) walked =
 
 -- ---- the parts
 
--- a token byte may be quoted without a backslash
-token_byte-text : (b : ℕ) → is_token_byte b ≡ true → is_quoted_text_byte b ≡ true
-unfolding is_token_byte is_quoted_byte
-token_byte-text b token = grind (arith, nat_tests)
-
 -- a token is quoted content
 pub content-from_token : (bytes : List ℕ) → IsToken bytes → IsContent bytes
+unfolding is_token_byte is_quoted_byte
 content-from_token bytes token =
-    let text = list_all-wider is_token_byte is_quoted_text_byte token_byte-text bytes (AreTokenBytes-from_token bytes token) in
+    let text : list_all is_quoted_text_byte bytes ≡ true =
+    list_all-wider is_token_byte is_quoted_text_byte (λ b token. grind (arith, nat_tests, token)) bytes (AreTokenBytes-from_token bytes token) in
     IsContent-taken bytes (takes_all-text bytes text) (awaits_after-text bytes text)
 
 -- the pairs of a well-formed list, lowercased
@@ -154,10 +147,6 @@ safe_pairs : (list : Parameters) → AreParameters list → AllByRecursion IsSaf
 safe_pairs (blank n) well = tt
 safe_pairs (final n p) well = (safe_pair p well.1, tt)
 safe_pairs (more n p rest) well = (safe_pair p well.1, safe_pairs rest well.2)
-
-safe_pairs-tail : (tail : Tail) → IsTail tail → AllByRecursion IsSafePair (pairs_of_tail tail)
-safe_pairs-tail no_list well = tt
-safe_pairs-tail (listed list) well = safe_pairs list well
 
 -- a prefix of a token
 token-take : (n : ℕ) (bytes : List ℕ) → 0 < n → IsToken bytes → IsToken (take n bytes)
@@ -193,7 +182,8 @@ kept_is_safe text value reads =
           (list_all-parts is_token_byte (subtype_of value) (suffix_text (suffix_of value))
           (subst AreTokenBytes (after_slash text value value.plus reads refl) (AreTokenBytes-from_token _ after))).1;
       pairs = subst (λ (v : MediaType). AllByRecursion IsSafePair v.pairs) reads.valued
-          (safe_pairs-tail (lowered_tail reads.tree.tail) low.2);
+          ((elim (lowered_tail reads.tree.tail) as (λ tail. IsTail tail → AllByRecursion IsSafePair (pairs_of_tail tail))
+          [ no_list ↦ λ well. tt | listed list ↦ safe_pairs list ]) low.2);
     }
 
 -- ---- a parameter

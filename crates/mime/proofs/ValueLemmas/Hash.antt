@@ -11,7 +11,7 @@ use Rattle.std.proofs.lemmas.Bool.Decides.{nat_tests}
 use Rattle.std.proofs.lemmas.List.Concat.{flat_map-cons}
 use Rattle.std.proofs.lemmas.List.Folds.{concat-append, list_all-append}
 use Rattle.mime.specs.Bytes.{is_token_byte, slash_byte}
-use Rattle.mime.specs.Grammar.{Parameter, plain, quoted, Parameters, blank, final, more, Tail, no_list, listed, AreTokenBytes, IsParameter, AreParameters, IsTail, text_of_parameter, text_of_list, text_of_tail}
+use Rattle.mime.specs.Grammar.{Parameter, plain, quoted, Parameters, blank, final, more, no_list, listed, AreTokenBytes, IsParameter, AreParameters, IsTail, text_of_parameter, text_of_list, text_of_tail}
 use Rattle.mime.specs.Values.{MediaType, lowered, lowered_parameter, lowered_list, lowered_tail, pair_of, pairs_of_list, pairs_of_tail}
 use Rattle.mime.specs.HashLaws.{IsReadInUtf8, IsPrefixFree}
 use Rattle.mime.proofs.BytesLemmas.{list_all-parts, list_all-wider, is_other, AreTokenBytes-from_token, are_other-token}
@@ -126,10 +126,6 @@ fed_list (more n p rest) well all =
     let bytes = text_parts (text_of_parameter p) (59 ∷ text_of_list rest) (text_parts n _ all).1 in
     (fed_pair p well.1 bytes.0, fed_list rest well.2 bytes.1)
 
-fed_tail : (tail : Tail) → IsTail tail → AreTextBytes (text_of_tail tail) → AllByRecursion IsFedPair (pairs_of_tail (lowered_tail tail))
-fed_tail no_list well all = tt
-fed_tail (listed list) well all = fed_list list well all
-
 -- a text with a slash is no token
 slash_is_no_token : (prefix back : List ℕ) → ¬ (AreTokenBytes (prefix ++ (slash_byte ∷ back)))
 unfolding is_token_byte
@@ -148,7 +144,8 @@ fed-read value (text, utf8, reads) =
     let parts = text_parts tree.top _ (subst AreTextBytes (sym reads.spelled) (utf8_bytes text utf8)) in
     let after = text_parts tree.sub (text_of_tail tree.tail) parts.1 in
     subst IsFed reads.valued (record {
-      pairs = fed_tail tree.tail well.2 after.1;
+      pairs = (elim tree.tail as (λ tail. IsTail tail → AreTextBytes (text_of_tail tail) → AllByRecursion IsFedPair (pairs_of_tail (lowered_tail tail)))
+          [ no_list ↦ λ well all. tt | listed list ↦ fed_list list ]) well.2 after.1;
       essence = text_join (lowered tree.top) (47 ∷ lowered tree.sub) (lowered_bytes tree.top parts.0) (lowered_bytes tree.sub after.0);
       slash = slash_is_no_token (lowered tree.top) (lowered tree.sub);
     })

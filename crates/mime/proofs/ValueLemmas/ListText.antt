@@ -13,7 +13,7 @@ use Rattle.mime.specs.Inner.Quoted.{content_len, content_of, after_content}
 use Rattle.mime_search.specs.Rests.{before_byte, after_byte}
 use Rattle.mime.specs.Inner.Pairs.{PairCut, cut_after_equals, leading_spaces, without_spaces, cut_of, pairs_within, lowered_within}
 use Rattle.mime.proofs.ValueLemmas.Pairs.{content_len-content, lowered_within-first}
-use Rattle.mime.proofs.BytesLemmas.{semicolon_is_no_token, equals_is_no_token, quote_is_no_token, token_byte-not, token_byte-not_space, is_other, are_other-token, are_other, AreTokenBytes-from_token}
+use Rattle.mime.proofs.BytesLemmas.{semicolon_is_no_token, quote_is_no_token, token_byte-not_space, is_other, are_other-token, are_other, AreTokenBytes-from_token}
 use Rattle.mime.proofs.LowercaseLemmas.{lowered-append}
 
 -- what may follow a run: nothing, or the byte and the rest
@@ -67,7 +67,7 @@ cut_value-plain whole name [] follow rest all (ended _) = refl
 cut_value-plain whole name (v ∷ value) follow rest all follows =
     let first = and_parts (is_token_byte v) (list_all is_token_byte value) all in
     let others = are_other-token semicolon_byte semicolon_is_no_token (v ∷ value) all in
-    cond-false (v == quote_byte) _ _ (token_byte-not v quote_byte quote_is_no_token first.0)
+    cond-false (v == quote_byte) _ _ (grind (arith, nat_tests, first.0, quote_is_no_token, ap is_token_byte {x = v} {y = quote_byte}))
     ∙ cc (before_byte-run semicolon_byte (v ∷ value) follow rest others follows, after_byte-run semicolon_byte (v ∷ value) follow rest others follows)
 
 -- a quoted value is cut up to its closing quote
@@ -95,9 +95,9 @@ without_spaces-token n (b ∷ name) after white is =
 -- a name is cut from the spaces before it up to the equals sign
 cut_of-named : (n name after : List ℕ) → AreSpaces n → IsToken name
     → cut_of (n ++ (name ++ (equals_byte ∷ after))) ≡ cut_after_equals (length (n ++ (name ++ (equals_byte ∷ after)))) name after
-unfolding cut_of
+unfolding cut_of is_token_byte
 cut_of-named n name after white is =
-    let others = are_other-token equals_byte equals_is_no_token name (AreTokenBytes-from_token name is) in
+    let others = are_other-token equals_byte refl name (AreTokenBytes-from_token name is) in
     rw (
       without_spaces-token n name (equals_byte ∷ after) white is,
       before_byte-run equals_byte name (equals_byte ∷ after) after others (ended after),

@@ -52,7 +52,7 @@ pub content_len-content : (content after : List ℕ) → IsContent content → c
 content_len-content content after is = len_from-run false content after (content-taken content is) (content-awaits content is)
 
 -- at the length of the content that a text begins with there is a quote, or the text ends
-quote_at_len : (awaiting : Bool) (text : List ℕ) → len_from awaiting text < length text
+pub quote_at_len : (awaiting : Bool) (text : List ℕ) → len_from awaiting text < length text
     → get_or text (len_from awaiting text) 0 ≡ quote_byte
 quote_at_len awaiting [] within = absurd (omega arith)
 quote_at_len awaiting (b ∷ text) within =
@@ -61,19 +61,11 @@ quote_at_len awaiting (b ∷ text) within =
     (λ on within. quote_at_len (awaits_next awaiting b) text (omega (arith, within))) within
 
 -- it is no longer than its text
-len_from-le : (awaiting : Bool) (text : List ℕ) → len_from awaiting text ≤ length text
+pub len_from-le : (awaiting : Bool) (text : List ℕ) → len_from awaiting text ≤ length text
 len_from-le awaiting [] = omega arith
 len_from-le awaiting (b ∷ text) =
     cond_both (not awaiting && b == quote_byte) _ _ (λ n. n ≤ length (b ∷ text)) (λ closes. omega arith)
     (λ on. omega (arith, len_from-le (awaits_next awaiting b) text))
-
--- content is no longer than its text
-pub content_len-le : (text : List ℕ) (n : ℕ) → n ≡ content_len text → n ≤ length text
-content_len-le text n e = omega (arith, e, len_from-le false text)
-
--- at the content's end there is a quote
-pub get_or-content_len : (text : List ℕ) (n : ℕ) → n ≡ content_len text → n < length text → get_or text n 0 ≡ quote_byte
-get_or-content_len text n e within = rw e (quote_at_len false text (omega (arith, e, within)))
 
 -- ---- the first quote
 

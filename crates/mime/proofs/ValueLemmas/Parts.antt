@@ -1,19 +1,19 @@
 -- The parts of a value that was read: its plus, where its essence may be cut, what is lowercase, and how many pairs it has.
-use Rattle.std.proofs.Common.{◌≡◌, ◌≢◌, ℕ, Bool, suc, ◌+◌, ◌-◌, ◌<◌, List, map, [], ◌∷◌, ◌++◌, length, drop, Option, Some, None, refl, sym, ap, ◌∙◌, subst, arith, ⊎_elim, zero, ◌≤◌, true, take, lit<}
+use Rattle.std.proofs.Common.{◌≡◌, ◌≢◌, ℕ, Bool, suc, ◌+◌, ◌-◌, ◌<◌, List, map, [], ◌∷◌, ◌++◌, length, drop, Option, Some, None, refl, sym, ap, ◌∙◌, subst, arith, ⊎_elim, zero, ◌≤◌, true, lit<}
 use Rattle.std.specs.Prelude.{slice_get, MatchOption, if◌then◌else◌, ◌==◌, unwrap_or, IsUtf8, codes}
 use Rattle.std.specs.Option.{option_or}
 use Rattle.std.proofs.lemmas.Bool.{cond_both, cases_lt, eqb-true, eqb-false}
-use Rattle.std.proofs.lemmas.Option.{same_Some, none-some, slice_get_within, MatchOption-at_some}
+use Rattle.std.proofs.lemmas.Option.{same_Some, none-some, slice_get_within, get_or_from_slice_get, MatchOption-at_some}
 use Rattle.mime.specs.Bytes.{slash_byte, plus_byte, equals_byte}
 use Rattle.mime.specs.Values.{lowered, last_plus, MediaType, Reads, pairs_of_tail, lowered_tree, kept_text, essence_of}
 use Rattle.mime.specs.Laws.{HasNoPlusFrom, PlusIsLast}
-use Rattle.mime.proofs.BytesLemmas.{slice_get-after, slice_get-prefix, boundary_before, boundary_after}
+use Rattle.mime.proofs.BytesLemmas.{slice_get-after, slice_get-prefix, boundary_after}
 use Rattle.mime.proofs.LowercaseLemmas.{lowered-lowered, lowered-append, lowered_value-lowered, low_pair-parts, length-tail_lowered, pairs_of_tail-lowered}
-use Rattle.mime_search.proofs.IgnoringCase.{length-lowered, lowered-take, lowered-drop}
+use Rattle.mime_search.proofs.IgnoringCase.{length-lowered, lowered-drop}
 use Rattle.mime.proofs.ValueLemmas.KeptText.{media_of-kept}
 use Rattle.std.specs.List.{AllByRecursion}
 use Rattle.std.specs.Str.{IsCharBoundary, bytes_eq}
-use Rattle.std.proofs.lemmas.Str.{IsCharBoundary-end}
+use Rattle.std.proofs.lemmas.Str.{IsCharBoundary-end, IsCharBoundary-before_ascii}
 use Rattle.mime_search.specs.Rests.{before_byte, after_byte}
 use Rattle.mime.specs.Inner.Pairs.{PairCut, cut_of, cut_after_equals, without_spaces, pairs_within}
 use Rattle.mime.specs.Items.{items_of, IsLowItem, IsLowIf, IsFirstAccepted}
@@ -77,11 +77,6 @@ slash_in text essence value reads is =
     let there = slice_get-prefix (lowered reads.tree.top) slash_byte (lowered reads.tree.sub) _ (sym (length-lowered reads.tree.top)) in
     rw is (subst (λ (v : MediaType). slice_get v.essence v.slash ≡ Some slash_byte) reads.valued there)
 
--- the subtype begins after it, at a character
-pub subtype_start : (text essence : List ℕ) (value : MediaType) → Reads text value → essence ≡ value.essence → IsUtf8 essence
-    → IsCharBoundary essence (value.slash + 1)
-subtype_start text essence value reads is utf8 = boundary_after essence _ slash_byte utf8 (slash_in text essence value reads is) (lit< tt)
-
 -- the plus lies in the essence, after the subtype's first byte
 pub record PlusIn (essence : List ℕ) (slash plus : ℕ) : Type 0 where
   pub above : slash + 1 < plus
@@ -100,8 +95,11 @@ pub subtype_end : (text essence : List ℕ) (value : MediaType) (plus : Option �
 subtype_end text essence value None reads is found =
     (omega (arith, slice_get_within essence value.slash slash_byte (slash_in text essence value reads is)), IsCharBoundary-end essence)
 subtype_end text essence value (Some plus) reads is found =
-    let at = plus_in text essence value plus reads is found in
-    (omega (arith, at.above), boundary_before essence plus plus_byte at.there (lit< tt))
+    let at = plus_in text essence value plus reads is found in (
+      omega (arith, at.above),
+      IsCharBoundary-before_ascii essence plus (slice_get_within essence plus plus_byte at.there)
+          (omega (arith, get_or_from_slice_get essence plus plus_byte 0 at.there)),
+    )
 
 -- the suffix begins after the plus, at a character within the essence
 pub suffix_start : (text essence : List ℕ) (value : MediaType) (plus : ℕ) → Reads text value → essence ≡ value.essence → IsUtf8 essence
@@ -112,11 +110,7 @@ suffix_start text essence value plus reads is utf8 found =
 
 -- ---- what is in lowercase
 
--- the text before a position in a text of lowercase letters
-pub low_take : (n : ℕ) (text : List ℕ) → lowered text ≡ text → lowered (take n text) ≡ take n text
-low_take n text low = lowered-take n text ∙ ap (take n) low
-
--- the text after it
+-- the text after a position in a text of lowercase letters
 pub low_drop : (n : ℕ) (text : List ℕ) → lowered text ≡ text → lowered (drop n text) ≡ drop n text
 low_drop n text low = lowered-drop n text ∙ ap (drop n) low
 
@@ -163,11 +157,6 @@ first_value-found Accepts count list name back value flag some low name_is back_
       found-first Accepts count list value flag some (subst (λ n. Accepts n true) named accepted) valued flagged,
       rw (valued, flagged) items.0.1,
     )
-
--- the pairs after it are low too
-pub rest-low : (count : ℕ) (list : List ℕ) → count ≢ 0 → AreLowPairs (pairs_within count list)
-    → AreLowPairs (pairs_within (count - 1) (cut_of list).rest)
-rest-low count list some low = (subst AreLowPairs (pairs_within-first count list some) low).1
 
 -- as many pairs are cut from a list as the count says
 pub length-pairs_within : (count : ℕ) (list : List ℕ) → length (pairs_within count list) ≡ count

@@ -42,7 +42,3 @@ returns-else-equal_ignoring_case c =
       }),
       λ is. accepted.1 (by_parts.0 is).accepted,
     )
-
-pub has_list_of-requires-clause-begins : goal.has_list_of-requires-clause-begins
-has_list_of-requires-clause-begins c =
-    rw c.essence_str-essence.ensures at (c.starts_with_essence.ensures.0 c.if-not-starts_with_essence.false)

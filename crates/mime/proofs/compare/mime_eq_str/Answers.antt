@@ -1,5 +1,5 @@
 -- Without parameters case alone may differ; the kept text is the value, and no text without a semicolon after the essence is.
-use Rattle.std.proofs.Common.{◌≢◌, ◌∙◌, [], length, true≢false, sym, ap, rules}
+use Rattle.std.proofs.Common.{◌≢◌, ◌∙◌, [], length, true≢false, sym, ap}
 use Rattle.std.proofs.lemmas.List.{nil_from_length}
 use Rattle.mime.proofs.CompareLemmas.Parts.{text_is-kept_case, text_is-by_parts}
 use Rattle.mime.proofs.compare.mime_eq_str.Goals as goal
@@ -18,6 +18,3 @@ returns-then-not-has_semicolon_at c =
     let parts = text_is-by_parts _ c.args.s.now value c.as_str-kept.ensures.reads some in
     let told = rw c.essence_str.ensures at c.has_semicolon_at.ensures in
     (λ bad. absurd (true≢false (sym bad)), λ is. absurd (true≢false (sym (told.1 (parts.0 is).list.0) ∙ c.if-not-has_semicolon_at.true)))
-
-pub returns-else-eq : goal.returns-else-eq
-returns-else-eq c = search rules

@@ -29,13 +29,6 @@ rest_is : (c : In-Some) (start : ℕ) → start ≡ c.separators.new.reader.coun
 rest_is c start is =
     (λ i. drop ((is ∙ starts c) i) (spelled c i)) ∙ drop_at c.in-Some.ensures.run (others c) (length c.in-Some.ensures.run) refl
 
-pub read_piece-requires-clause-first : goal.read_piece-requires-clause-first
-read_piece-requires-clause-first c =
-    c.range_from.ensures.value ∙ rest_is (goal.at.read_piece-requires-clause-first c).In-Some _ c.position-start.ensures
-
-pub read_piece-requires-clause-begun : goal.read_piece-requires-clause-begun
-read_piece-requires-clause-begun c = omega (arith, c.in-Some.ensures.given.counted)
-
 pub returns-in-None-clause-reads : goal.returns-in-None-clause-reads
 returns-in-None-clause-reads c =
     let run = c.in-None.ensures.run in

@@ -27,10 +27,6 @@ returns-then-not-is_token-clause-reads c =
     (passes-stopped _ _ _ _ 0 _ _ _ judged (omega (arith, c.count.ensures.count))
     c.none.ensures.piece c.range_from.ensures.value next.bound next.boundary next.nearest)
 
--- what is left begins at a character
-pub range_from-requires : goal.range_from-requires
-range_from-requires c = λ _. c.end_of_first.ensures.boundary
-
 pub returns-in-Accepted-clause-reads : goal.returns-in-Accepted-clause-reads
 returns-in-Accepted-clause-reads c =
     let here = (goal.at.returns-in-Accepted-clause-reads c).Start in

@@ -105,9 +105,3 @@ loop-first-preserved c =
       same_positions = one_pair_more _ _ _ c.loop-first.invariant.same_positions ∙ ap (λ n. record c.args.before { pair_count = n }) (omega arith);
       room = omega (arith, v.less, given_less c.in-Some.ensures.given, given_less c.in-Some-eq61.ensures.given);
     }
-
-pub loop-first-smaller : goal.loop-first-smaller
-loop-first-smaller c =
-    let here = goal.at.loop-first-smaller c in
-    let v = valued here.Joined-first-eq34 (named here.In-Some-eq61) in
-    omega (arith, v.less, given_less c.in-Some.ensures.given, given_less c.in-Some-eq61.ensures.given)

@@ -1,14 +1,11 @@
 -- The first byte is read, and then what follows it.
-use Rattle.std.proofs.Common.{arith, refl, None}
+use Rattle.std.proofs.Common.{refl, None}
 use Rattle.mime.proofs.ScanLemmas.Verdicts.{scans_at}
 use Rattle.mime.proofs.ScanLemmas.Lists.{none_walked}
 use Rattle.mime.proofs.scan.scan.Goals as goal
 
 pub returns-in-None : goal.returns-in-None
 returns-in-None c = scans_at None (none_walked c.in-None.ensures) c.in-None.ensures.1 refl
-
-pub scan_after-requires : goal.scan_after-requires
-scan_after-requires c = omega (arith, c.in-Some.ensures.0.counted)
 
 pub returns-in-Some : goal.returns-in-Some
 returns-in-Some c = c.scan_after.ensures _ c.in-Some.ensures

@@ -1,5 +1,5 @@
 -- Each way out of the scanner, after the first byte.
-use Rattle.std.proofs.Common.{◌≡◌, ℕ, sym, ap, refl, ◌∙◌, ◌+◌, ◌∷◌, [], length, Some, None, arith, ne_eqb, eq-eqb}
+use Rattle.std.proofs.Common.{◌≡◌, ℕ, sym, ap, refl, ◌∙◌, ◌∷◌, [], length, Some, None, arith, ne_eqb, eq-eqb}
 use Rattle.std.proofs.lemmas.Bool.{cond-true, cond-false}
 use Rattle.mime.specs.Bytes.{slash_byte, semicolon_byte}
 use Rattle.mime.specs.Values.{last_plus}
@@ -7,7 +7,6 @@ use Rattle.mime.specs.declared.scan.Positions.{Positions}
 use Rattle.mime.specs.Inner.Remaining.{Remaining}
 use Rattle.mime.specs.Inner.Scanning.{positions_of, before_list, GivesFirst}
 use Rattle.mime.proofs.GrammarLemmas.Begun.{in_type, in_subtype}
-use Rattle.mime.proofs.ScanLemmas.Passing.{given_sum}
 use Rattle.mime.proofs.ScanLemmas.Verdicts.{Reaches, reaches_run, reaches_byte, scans_at}
 use Rattle.mime.proofs.ScanLemmas.Lists.{none_walked, type_walked, subtype_walked, Subtyped, essence_is, scans_list}
 use Rattle.mime.proofs.scan.scan_after.Goals.{After-position-slash, After-subtype-plus}
@@ -61,11 +60,6 @@ returns-then-not-is_token-2 c = λ start gives.
     scans_at None (reaches_run (slashed here.After-position-slash start gives) c.in-Some-next.ensures.0 refl)
     (cond-false _ _ _ (sym c.is_token-2.ensures ∙ c.if-not-is_token-2.true)) refl
 
--- what is counted and left
-next_sum : (c : After-position-slash)
-    → c.token.new.reader.count + length c.token.new.reader.left ≡ c.args.reader.now.count + length c.args.reader.now.left
-next_sum c = given_sum c.in-Some-eq47.ensures.given
-
 -- the subtype
 subtyped : (c : After-subtype-plus) (start : Remaining) → GivesFirst start c.args.reader.now (Some c.args.first)
     → Reaches (in_type []) start c.token.new.reader None (in_subtype (c.args.first ∷ c.in-Some-eq47.ensures.run) [])
@@ -101,12 +95,6 @@ returns-in-Some-stop c = λ start gives.
     scans_at (Some _) s.walked
     (cond-false _ _ _ s.stopped ∙ cond-false _ _ _ (ne_eqb _ semicolon_byte (rw c.in-Some-stop.is at c.in-Some-stop.byte-test.1)))
     (ap Some (essence_is _ _ (c.args.first ∷ c.in-Some-eq47.ensures.run) s.others (slash_is here.After-position-slash) s.plussed))
-
--- what is counted and left after the subtype
-subtype_sum : (c : After-subtype-plus)
-    → c.subtype-plus.new.reader.count + length c.subtype-plus.new.reader.left ≡ c.args.reader.now.count + length c.args.reader.now.left
-subtype_sum c =
-    given_sum c.subtype-plus.ensures.passes.given ∙ given_sum c.in-Some-next.ensures.0 ∙ given_sum c.in-Some-eq47.ensures.given
 
 pub returns : goal.returns
 returns c = λ start gives.

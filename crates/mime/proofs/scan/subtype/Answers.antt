@@ -6,7 +6,7 @@ use Rattle.std.proofs.lemmas.Bool.{cond-true, cond-false}
 use Rattle.mime.specs.Bytes.{plus_byte}
 use Rattle.mime.specs.Inner.ByteClasses.{is_token_except_plus}
 use Rattle.mime.specs.Inner.Scanning.{Passes}
-use Rattle.mime.proofs.ScanLemmas.Passing.{passing_plus, last_plus-stop, subtype_at, stopped_by, given_sum}
+use Rattle.mime.proofs.ScanLemmas.Passing.{passing_plus, last_plus-stop, subtype_at, stopped_by}
 use Rattle.mime.proofs.scan.subtype.Goals as goal
 
 pub loop-plus-init : goal.loop-plus-init
@@ -35,12 +35,6 @@ loop-plus-preserved c =
           ∙ sym (cond-false (position == 0) None (Some position) (ne_eqb position 0 (λ zero. omega (arith, at, zero, c.requires.begun))));
       passes = c.token-stop-in-loop-plus.ensures;
     }
-
-pub loop-plus-smaller : goal.loop-plus-smaller
-loop-plus-smaller c =
-    let test : option_eq eqb c.loop-plus.stop (Some plus_byte) ≡ true = sym c.eq.ensures ∙ c.loop-plus-test.true in
-    let given = c.token-stop-in-loop-plus.ensures.given in
-    omega (arith, ap (λ s. length (option_to_list s)) (stopped_by plus_byte c.loop-plus.stop test), given.counted, given_sum given)
 
 pub returns-then-plus-eq0 : goal.returns-then-plus-eq0
 returns-then-plus-eq0 c =

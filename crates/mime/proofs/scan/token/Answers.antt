@@ -1,5 +1,5 @@
 -- The bytes so far, those up to a stop that is known or found by a call, and the stop, if it is of the class.
-use Rattle.std.proofs.Common.{refl, sym, ◌∙◌}
+use Rattle.std.proofs.Common.{sym, ◌∙◌}
 use Rattle.mime.specs.Inner.ByteClasses.{token_bytes}
 use Rattle.mime.proofs.ScanLemmas.Passing.{passing_more, passing_none, passing_with, passes_to, reaches_wider, token_bytes-wider}
 use Rattle.mime.proofs.scan.token.Goals.{in-Some+else-not-is_in_token, in_default}
@@ -30,6 +30,3 @@ pub loop-stop-preserved : goal.loop-stop-preserved
 loop-stop-preserved c =
     passing_with (λ _ is. is) c.loop-stop.invariant c.in-Some-next_far.ensures.reaches
     (sym c.is_in_token-in-Some-next_far.ensures ∙ c.if-not-is_in_token-3.false)
-
-pub returns : goal.returns
-returns c = passes_to _ (λ _ is. is) c.loop-stop.invariant c.in_default-next_far.ensures.reaches (c.in_default-next_far.ensures.end refl)

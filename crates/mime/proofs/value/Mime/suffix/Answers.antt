@@ -1,11 +1,8 @@
 -- The suffix begins at a character of the essence, and is in lowercase.
-use Rattle.std.proofs.Common.{ap, sym, ◌∙◌, arith, rules}
+use Rattle.std.proofs.Common.{ap, sym, ◌∙◌, arith}
 use Rattle.mime.proofs.ValueLemmas.KeptText.{reads-from_kept}
 use Rattle.mime.proofs.ValueLemmas.Parts.{suffix_start, read-low_essence, low_drop}
 use Rattle.mime.proofs.value.Mime.suffix.Goals as goal
-
-pub returns-clause-text : goal.returns-clause-text
-returns-clause-text c = search rules
 
 pub overflow_add-plus : goal.overflow_add-plus
 overflow_add-plus c =

@@ -4,7 +4,7 @@ use Rattle.std.proofs.lemmas.List.{take_rest}
 use borrow.Rule.Slice.PartMut.{put_mid}
 use Rattle.mime.specs.Inner.KeptText.{with_pairs_lowered}
 use Rattle.mime.proofs.BytesLemmas.{boundary_after}
-use Rattle.mime.proofs.ValueLemmas.LoweredTo.{IsLoweredTo, lowered_to-none, lowered_to-more, lowered_to-all, lowered_to-sizes, low_within}
+use Rattle.mime.proofs.ValueLemmas.LoweredTo.{IsLoweredTo, lowered_to-none, lowered_to-more, lowered_to-sizes, low_within}
 use Rattle.mime.proofs.value.kept.lowercase_text.Goals as goal
 
 pub of-left-requires : goal.of-left-requires
@@ -13,19 +13,10 @@ of-left-requires c = boundary_after _ _ _ c.utf8.text c.requires.parted (lit< tt
 pub loop-init : goal.loop-init
 loop-init c = lowered_to-none _ _ _ _ _ _ c.requires.same c.of-left.ensures (omega arith) c.requires.some
 
-pub overflow_sub-start : goal.overflow_sub-start
-overflow_sub-start c = omega (arith, c.len.ensures, lowered_to-sizes _ _ _ _ _ c.loop.invariant)
-
 pub overflow_add-low : goal.overflow_add-low
 overflow_add-low c =
     let cut = c.cut-pair.ensures in
     omega (arith, low_within c.loop.left _ _ _ _ cut.value_start cut.value c.low_len.ensures, lowered_to-sizes _ _ _ _ _ c.loop.invariant)
-
-pub slice_bounds-lowercase_start-count : goal.slice_bounds-lowercase_start-count
-slice_bounds-lowercase_start-count c = omega (arith, lowered_to-sizes _ _ _ _ _ c.loop.invariant)
-
-pub overflow_sub-start-in-loop : goal.overflow_sub-start-in-loop
-overflow_sub-start-in-loop c = omega (arith, c.len.ensures, lowered_to-sizes _ _ _ _ _ c.loop.invariant)
 
 pub overflow_add-start : goal.overflow_add-start
 overflow_add-start c =
@@ -55,6 +46,3 @@ overflow_sub-from c = omega (arith, c.len-in-loop.ensures, lowered_to-sizes _ _ 
 
 pub loop-preserved : goal.loop-preserved
 loop-preserved c = rw c.len-in-loop.ensures (next_turn c)
-
-pub returns : goal.returns
-returns c = lowered_to-all _ _ _ _ _ c.loop.invariant (omega arith)

@@ -1,13 +1,12 @@
 -- One text is read as one value.
 use Rattle.std.proofs.Common.{ℕ, Option, None, Some, refl, sym, ap, ◌∙◌, ◌≡◌, false, true≢false}
 use Rattle.std.specs.Prelude.{is_some, not}
-use Rattle.std.proofs.lemmas.Slice.Eq.{bytes_eq-Decides}
 use Rattle.std.specs.Cmp.Lexicographic.{same_text}
 use Rattle.mime.specs.Inner.KeptBytes.{bytes_of}
 use Rattle.mime.specs.Inner.KeptText.{media_of}
 use Rattle.mime.specs.Inner.KeptPlaces.{positions_at}
 use Rattle.mime.proofs.ValueLemmas.KeptText.{reads-from_kept}
-use Rattle.mime.proofs.ValueLemmas.Parts.{same_from_text, kept-bare}
+use Rattle.mime.proofs.ValueLemmas.Parts.{same_from_text}
 use Rattle.mime.proofs.value.traits.have_same_text.Goals as goal
 
 -- what isn't some is none
@@ -18,11 +17,6 @@ none (Some at) is = absurd (true≢false is)
 pub returns-clause-same : goal.returns-clause-same
 returns-clause-same c = λ is. same_from_text _ _ c.args.first.now.media c.args.second.now.media c.as_str.ensures.reads c.as_str-2.ensures.reads
     (same_text _ _ (sym is ∙ c.eq.ensures))
-
-pub returns-clause-bare : goal.returns-clause-bare
-returns-clause-bare c = λ none same.
-    let kept = kept-bare _ _ c.args.first.now.media c.args.second.now.media c.as_str.ensures.reads c.as_str-2.ensures.reads none same in
-    c.eq.ensures ∙ (bytes_eq-Decides _ _).1 (c.as_str.ensures.text ∙ kept ∙ sym c.as_str-2.ensures.text)
 
 pub returns-in-Short-text-clause-same : goal.returns-in-Short-text-clause-same
 returns-in-Short-text-clause-same c = λ is.

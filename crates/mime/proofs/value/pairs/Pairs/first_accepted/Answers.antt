@@ -1,22 +1,11 @@
 -- The name of the first pair that is left is accepted, or the key finds what it does in the others.
 use Rattle.std.proofs.Common.{◌≡◌, ◌∙◌, ◌-◌, None, true, refl, sym, subst, arith, true≢false}
-use Rattle.std.proofs.lemmas.Bool.{eqb-true}
 use Rattle.mime.specs.Inner.Pairs.{PairCut, cut_of, pairs_within}
 use Rattle.mime.specs.Items.{items_of, IsFirstAccepted}
 use Rattle.mime.specs.Inner.KeptText.{AreLowPairs}
-use Rattle.mime.proofs.ValueLemmas.Parts.{first_value-found, rest-low}
-use Rattle.mime.proofs.ValueLemmas.Pairs.{cut_of-part, cut_of-name, found-next}
+use Rattle.mime.proofs.ValueLemmas.Parts.{first_value-found}
+use Rattle.mime.proofs.ValueLemmas.Pairs.{cut_of-part, cut_of-name, found-next, pairs_within-first}
 use Rattle.mime.proofs.value.pairs.Pairs.first_accepted.Goals as goal
-
-pub loop-left-init : goal.loop-left-init
-loop-left-init g c = record { decides = λ found is. rw (sym c.self.view_is) is; low = rw c.self.view_is c.requires }
-
-pub returns-in_default-clause-found : goal.returns-in_default-clause-found
-returns-in_default-clause-found g c =
-    let other = c.cut_name_for.ensures.other c.in_default.is in
-    let none : c.loop-left.left - 1 ≡ 0 = omega (arith, eqb-true c.loop-left.left 1 other.0) in
-    c.loop-left.invariant.decides None
-    (found-next (g.K.ParamKey.Accepts c.args.key.now) c.loop-left.left c.loop-left.list None c.loop-left-test.true other.1 (rw none refl))
 
 pub returns-then-first : goal.returns-then-first
 returns-then-first g c =
@@ -50,10 +39,5 @@ loop-left-preserved g c =
           (sym (cut_of-name list _ first.name)) accepted)) ∙ c.if-first.false))
           (subst (λ back. IsFirstAccepted (g.K.ParamKey.Accepts c.args.key.now) (items_of (pairs_within (c.loop-left.left - 1) back)) found) rest is));
       low = subst (λ back. AreLowPairs (pairs_within (c.loop-left.left - 1) back)) (sym rest)
-          (rest-low c.loop-left.left list c.loop-left-test.true c.loop-left.invariant.low);
+          (subst AreLowPairs (pairs_within-first c.loop-left.left list c.loop-left-test.true) c.loop-left.invariant.low).1;
     }
-
-pub returns-clause-found : goal.returns-clause-found
-returns-clause-found g c =
-    let none : c.loop-left.left ≡ 0 = c.loop-left-test.false in
-    c.loop-left.invariant.decides None (rw none refl)

@@ -2,7 +2,6 @@
 use Rattle.std.proofs.Common.{rules, ◌∙◌, ◌≡◌, ◌⊎◌, inl, inr, sym, ap₂, length, nat_cmp}
 use Rattle.std.specs.Cmp.Lexicographic.{slice_cmp}
 use Rattle.mime.specs.Comparison.{pair_cmp}
-use Rattle.std.specs.declared.cmp.Ordering.TheVariants.{Equal}
 use Rattle.mime.proofs.ValueLemmas.Traits.{equal-media, tells_answer, none-first}
 use Rattle.mime.proofs.value.traits.MimeOrd.cmp.Goals.{then-param_count-eq0-via-then-param_count-eq0, then-param_count-eq0-via-else-param_count-eq0+then-param_count-eq0-2}
 use Rattle.mime.proofs.value.traits.MimeOrd.cmp.Goals as goal
@@ -13,13 +12,6 @@ returns-in-Some-clause-order c = tells_answer c.args.self.now.media c.args.other
 pub returns-then-have_same_owned_text-clause-computed : goal.returns-then-have_same_owned_text-clause-computed
 returns-then-have_same_owned_text-clause-computed c =
     sym (equal-media c.args.self.now.media c.args.other.now.media (c.have_same_owned_text.ensures c.if-have_same_owned_text.true))
-
-pub returns-then-have_same_owned_text-clause-order : goal.returns-then-have_same_owned_text-clause-order
-returns-then-have_same_owned_text-clause-order c =
-    tells_answer c.args.self.now.media c.args.other.now.media Equal (returns-then-have_same_owned_text-clause-computed c)
-
-pub returns-then-is_ne-clause-computed : goal.returns-then-is_ne-clause-computed
-returns-then-is_ne-clause-computed c = search rules
 
 pub returns-then-is_ne-clause-order : goal.returns-then-is_ne-clause-order
 returns-then-is_ne-clause-order c =
@@ -42,9 +34,6 @@ returns-then-param_count-eq0-clause-computed c =
 pub returns-then-param_count-eq0-clause-order : goal.returns-then-param_count-eq0-clause-order
 returns-then-param_count-eq0-clause-order c =
     tells_answer c.args.self.now.media c.args.other.now.media c.cmp.result (returns-then-param_count-eq0-clause-computed c)
-
-pub returns-clause-computed : goal.returns-clause-computed
-returns-clause-computed c = search rules
 
 pub returns-clause-order : goal.returns-clause-order
 returns-clause-order c = tells_answer c.args.self.now.media c.args.other.now.media c.order_pairs.result (search rules)
