@@ -19,7 +19,7 @@ use std::alloc::Global;
 use std::fmt;
 use std::fmt::Write;
 
-/// The constant media types, each with its identifier. The last is an old spelling of another.
+/// The constant media types, each with its identifier. The last is an old spelling of one before it.
 pub(crate) static ATOMS: &[(&str, Atom)] = &[
     ("STAR_STAR", STAR_STAR),
     ("TEXT_STAR", TEXT_STAR),
@@ -104,7 +104,7 @@ static NAMES: &[(&str, Name<'static>)] = &[
     ("UTF_8", UTF_8),
 ];
 
-/// The value that a field stands for: that of a constant, or what the string is read as.
+/// Returns the value that a field stands for: that of a constant, or that of a string.
 pub(crate) fn value_of(alloc: Global, field: &str) -> Result<Mime, FromStrError> {
     for (identifier, atom) in ATOMS {
         if *identifier == field {
@@ -114,7 +114,7 @@ pub(crate) fn value_of(alloc: Global, field: &str) -> Result<Mime, FromStrError>
     Mime::from_str(alloc, field)
 }
 
-/// The constant name with an identifier.
+/// Returns the constant name with an identifier.
 pub(crate) fn constant_name(field: &str) -> Option<Name<'static>> {
     for (identifier, name) in NAMES {
         if *identifier == field {
@@ -124,7 +124,7 @@ pub(crate) fn constant_name(field: &str) -> Option<Name<'static>> {
     None
 }
 
-/// A name as tables have it: the identifier of the constant that is equal to it, or its text in quotes.
+/// A name as tables write it: the identifier of the constant that is equal to it, or its text in quotes.
 #[derive(Clone, Copy)]
 pub(crate) struct Shown<'a>(pub(crate) Name<'a>);
 
@@ -139,7 +139,7 @@ impl fmt::Debug for Shown<'_> {
     }
 }
 
-/// Compiles only for a type whose values threads may hand over and share.
+/// Compiles only for a type whose values threads may pass on and share.
 trait CrossesThreads: Send + Sync {}
 
 impl CrossesThreads for Mime {}
@@ -169,7 +169,7 @@ pub(crate) fn show_copies(out: &mut String) {
     }
 }
 
-/// Shows each byte, and whether it is in a token, in a quoted string by itself, and there after a backslash or by itself.
+/// Shows each byte, and whether it may occur in a token, in a quoted string without a backslash, and after a backslash.
 pub(crate) fn show_bytes(out: &mut String) {
     for byte in 0..=255u8 {
         let classes = (

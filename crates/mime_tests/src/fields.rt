@@ -2,7 +2,7 @@
 
 use std::alloc::Global;
 
-/// The character that a sign stands for.
+/// Returns the character that a sign stands for.
 fn character_of(sign: char) -> char {
     match (sign as u32).wrapping_sub(0x2400) {
         0x21 => '\u{7F}',
@@ -11,8 +11,8 @@ fn character_of(sign: char) -> char {
     }
 }
 
-/// The string that a field stands for: the signs from U+2400 on stand for the controls, U+2421 for the byte 127, and `⟨part×count⟩` for
-/// so many parts.
+/// Returns the string that a field stands for: the signs from U+2400 on stand for the controls, U+2421 for the byte 127, and
+/// `⟨part×count⟩` for `count` parts.
 fn string_of(alloc: Global, field: &str) -> String {
     let mut text = String::new(alloc);
     if field.is_ascii() {
@@ -30,7 +30,7 @@ fn string_of(alloc: Global, field: &str) -> String {
     text
 }
 
-/// The strings that fields between tabs stand for.
+/// Returns the strings that fields between tabs stand for.
 pub(crate) fn strings_of(alloc: Global, fields: &str) -> Vec<String> {
     let mut strings = Vec::new(alloc);
     for field in fields.split('\t') {
@@ -39,7 +39,7 @@ pub(crate) fn strings_of(alloc: Global, fields: &str) -> Vec<String> {
     strings
 }
 
-/// One of the strings of a row, or an empty one.
+/// Returns one of the strings of a row, or an empty one.
 pub(crate) fn string_at(strings: &[String], at: usize) -> &str {
     match strings.get(at) {
         Some(text) => text.as_str(),

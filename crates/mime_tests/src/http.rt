@@ -1,4 +1,4 @@
-//! What `mime_http` says of headers. An answer is written with a bar after it.
+//! The rows about `mime_http`. A bar is written after each answer.
 
 use crate::fields::string_at;
 use crate::values::read_or_not;
@@ -21,12 +21,12 @@ pub(crate) fn show_text(out: &mut String, answer: Option<&str>) {
     let _ = out.push('|');
 }
 
-/// Bytes as a text.
+/// Returns bytes as a text.
 pub(crate) fn shown(bytes: &[u8]) -> &str {
     str::from_utf8(bytes).unwrap_or("not text")
 }
 
-/// The lines that a field stands for: each but the last ends with a line feed, which the last may have, too. An empty field has none.
+/// Returns the lines that a field stands for. Each ends with a line feed, which the last may lack. An empty field has no line.
 pub(crate) fn lines_of(alloc: Global, field: &str) -> Result<Vec<&[u8]>, AllocError> {
     let mut lines = Vec::new(alloc);
     for line in field.lines() {
@@ -35,12 +35,12 @@ pub(crate) fn lines_of(alloc: Global, field: &str) -> Result<Vec<&[u8]>, AllocEr
     Ok(lines)
 }
 
-/// The header of a field's lines.
+/// Reads the header of a field's lines.
 fn header_of(alloc: Global, field: &str) -> Result<Accept, AllocError> {
     Accept::from_lines(alloc, &lines_of(alloc, field)?)
 }
 
-/// The bytes of a text in ISO 8859-1, which has one byte for each character.
+/// Returns a text in ISO 8859-1, which has one byte for each character.
 fn latin_1(alloc: Global, text: &str) -> Vec<u8> {
     let mut bytes = Vec::new(alloc);
     for character in text.chars() {
@@ -49,7 +49,7 @@ fn latin_1(alloc: Global, text: &str) -> Vec<u8> {
     bytes
 }
 
-/// The media types of the fields after the first.
+/// Returns the media types of the fields after the first.
 pub(crate) fn offers_of(alloc: Global, strings: &[String]) -> Result<Vec<Mime>, AllocError> {
     let mut offers = Vec::new(alloc);
     for at in 1..strings.len() {
@@ -101,7 +101,7 @@ fn show_bad(out: &mut String, bad: &[Vec<u8>]) {
     }
 }
 
-/// Shows the weight that a header gives each offer.
+/// Shows the weight of each offer for a header.
 pub(crate) fn show_weights(alloc: Global, out: &mut String, strings: &[String]) {
     let Ok(accept) = header_of(alloc, string_at(strings, 0)) else {
         return;
@@ -114,7 +114,7 @@ pub(crate) fn show_weights(alloc: Global, out: &mut String, strings: &[String]) 
     }
 }
 
-/// The position of the best offer.
+/// Returns the position of the best offer.
 fn best_of(alloc: Global, strings: &[String]) -> Result<Option<usize>, AllocError> {
     let accept = header_of(alloc, string_at(strings, 0))?;
     Ok(accept.best(&offers_of(alloc, strings)?))
@@ -134,7 +134,7 @@ fn show_position(out: &mut String, position: Option<usize>) {
     }
 }
 
-/// The positions of the offers that a header accepts, the best first.
+/// Returns the positions of the offers that a header accepts, the best first.
 fn order_of(alloc: Global, strings: &[String]) -> Result<Vec<usize>, AllocError> {
     let accept = header_of(alloc, string_at(strings, 0))?;
     accept.order(alloc, &offers_of(alloc, strings)?)
@@ -165,7 +165,7 @@ pub(crate) fn show_weight_of(alloc: Global, out: &mut String, range: &str) {
     }
 }
 
-/// Shows what a value means, with what another value means added to it, in this buffer.
+/// Shows what a value means, and then what a second value means, in this buffer.
 fn show_meant(out: &mut String, mut buffer: Vec<u8>, value: &str, other: &str) {
     let _ = unescape(value, &mut buffer);
     let _ = unescape(other, &mut buffer);

@@ -1,4 +1,4 @@
-//! Tries `mime`, `mime_http` and the recipes: prints what they say of each row of a table, which is standard input.
+//! Tests `mime`, `mime_http` and the recipes: prints their answers to each row of a table, which is standard input.
 #![tactic(auto)]
 
 mod constants;
@@ -16,10 +16,10 @@ use crate::rows::show_row;
 use std::io;
 use std::io::Read;
 
-/// How many bytes a row prints without a request for memory.
+/// The number of bytes that a row prints without allocating.
 const ROOM: usize = 65_536;
 
-/// Prints each row of standard input, with what is said of it.
+/// Prints each row of standard input, with its answers.
 fn main(rt: HostRuntime) -> io::Result<()> {
     let mut table = String::new(rt.alloc());
     rt.stdin().read_to_string(&mut table)?;
@@ -42,7 +42,7 @@ fn print_row(rt: &HostRuntime, out: &mut String, line: &str) -> io::Result<()> {
     rt.print(out.as_str())
 }
 
-/// Writes what is said of a row, between the lines `now` and `end`.
+/// Writes the answers to a row, between printing the lines `now` and `end`.
 fn show_line(rt: &HostRuntime, out: &mut String, line: &str) {
     let (word, fields) = line.split_once('\t').unwrap_or((line, ""));
     let strings = strings_of(rt.alloc(), fields);

@@ -1,4 +1,4 @@
-//! What the recipes answer. An answer is written with a bar after it.
+//! The rows about the recipes. A bar is written after each answer.
 
 use crate::constants::ATOMS;
 use crate::fields::string_at;
@@ -32,7 +32,7 @@ use mime_examples::static_file::type_for;
 use std::alloc::{AllocError, Global};
 use std::fmt::{Display, Write};
 
-/// Shows whether something is so, or why that isn't known.
+/// Shows whether something is true, or why that isn't known.
 pub(crate) fn show_whether<E: Display + Drop>(out: &mut String, answer: Result<bool, E>) {
     match answer {
         Ok(answer) => show(out, &answer),
@@ -48,7 +48,7 @@ pub(crate) fn show_status(out: &mut String, status: Option<u16>) {
     }
 }
 
-/// Shows the media type without its parameters, and whether that has any.
+/// Shows the media type without its parameters, and whether it has any.
 pub(crate) fn show_bare_of(alloc: Global, out: &mut String, field: &str) {
     let Some(mime) = read_or_not(alloc, out, field) else {
         return;
@@ -68,7 +68,7 @@ pub(crate) fn show_caret_line(alloc: Global, out: &mut String, text: &str) {
     }
 }
 
-/// Shows the offer that a server sends, or the status that it answers.
+/// Shows the offer that a server sends, or its status.
 pub(crate) fn show_chosen(alloc: Global, out: &mut String, strings: &[String]) {
     let Ok(lines) = lines_of(alloc, string_at(strings, 0)) else {
         return;
@@ -82,7 +82,7 @@ pub(crate) fn show_chosen(alloc: Global, out: &mut String, strings: &[String]) {
     }
 }
 
-/// Shows how often a media type came, of those that fields stand for, and then each of these with its count, in their order.
+/// Shows the count of the first field's media type, and then each media type with its count, in their order.
 pub(crate) fn show_counts(rt: &HostRuntime, out: &mut String, strings: &[String]) {
     let Ok(mut counts) = no_counts(rt) else {
         return;
@@ -141,7 +141,7 @@ pub(crate) fn show_is_plain(alloc: Global, out: &mut String, field: &str) {
     }
 }
 
-/// Shows whether what a text is read as has a parameter.
+/// Shows whether the media type of a text has a parameter.
 pub(crate) fn show_has_param(alloc: Global, out: &mut String, text: &str, name: &str) {
     match printed(alloc, text) {
         Ok(mime) => show(out, &has_param(&mime, name)),
@@ -166,7 +166,7 @@ pub(crate) fn show_received(alloc: Global, out: &mut String, value: &str, body: 
     }
 }
 
-/// Shows the media type of a file, and that it is read as it stands.
+/// Shows the media type of a file, and whether it is kept as it is.
 pub(crate) fn show_type_of_file(alloc: Global, out: &mut String, name: &str) {
     let type_ = type_of_file(name);
     show_text(out, Some(type_));
@@ -175,7 +175,7 @@ pub(crate) fn show_type_of_file(alloc: Global, out: &mut String, name: &str) {
     }
 }
 
-/// Shows the media type of a file that a server sends, or the status that it answers.
+/// Shows the media type of a file that a server sends, or its status.
 pub(crate) fn show_type_for(alloc: Global, out: &mut String, name: &str, lines: &str) {
     let Ok(lines) = lines_of(alloc, lines) else {
         return;

@@ -1,4 +1,4 @@
-//! Values and names against each other.
+//! Comparisons of values and of names.
 
 use crate::constants::constant_name;
 use crate::values::{show_debug, value_or_fault};
@@ -34,14 +34,14 @@ impl Hasher for Fed {
     }
 }
 
-/// What a value feeds a hasher, as a number.
+/// Returns what a value feeds a hasher, as a number.
 fn hash_input<T: Hash>(value: &T) -> u128 {
     let mut fed = Fed(1);
     value.hash(&mut fed);
     fed.0
 }
 
-/// How two values compare; `?` if order, equality and what they feed a hasher don't agree.
+/// Returns how two values compare, or `?` if order, equality and what they feed a hasher don't agree.
 fn relation<T: Ord + Hash>(one: &T, other: &T) -> char {
     let order = one.cmp(other);
     let is_equal = *one == *other;
@@ -66,7 +66,7 @@ pub(crate) fn show_compared(alloc: Global, out: &mut String, field: &str, text: 
     show_debug(out, &(relation(&one, &other), mime_eq_str(&one, text)));
 }
 
-/// A name that a field stands for: a constant, or a text, with `~` before it if it ignores case, and with `=` if not.
+/// Returns the name that a field stands for: a constant, or a text, after `~` if it ignores case, else after `=`.
 fn name_of(field: &str) -> Name<'_> {
     match constant_name(field) {
         Some(name) => name,
@@ -77,7 +77,8 @@ fn name_of(field: &str) -> Name<'_> {
     }
 }
 
-/// Shows a name; and then it and another quoted, how they compare, and whether the first is equal to the second's text.
+/// Shows a name, then it and a second one in quotes, how they compare, and whether the first is equal to the second's
+/// text.
 pub(crate) fn show_names(out: &mut String, one: &str, other: &str) {
     let one = name_of(one);
     let other = name_of(other);
@@ -103,21 +104,21 @@ pub(crate) fn show_pair(alloc: Global, out: &mut String, field: &str, text: &str
     );
 }
 
-/// Whether a value is found in a `HashSet` that has another.
+/// Returns `true` if a value is found in a `HashSet` of a second one.
 fn is_hashed(alloc: Global, one: &Mime, other: Mime) -> bool {
     let mut set = HashSet::new(alloc);
     let _ = set.insert(other);
     set.contains(one)
 }
 
-/// Whether a value is found in a `BTreeSet` that has another.
+/// Returns `true` if a value is found in a `BTreeSet` of a second one.
 fn is_ordered(alloc: Global, one: &Mime, other: Mime) -> bool {
     let mut set = BTreeSet::new(alloc);
     let _ = set.insert(other);
     set.contains(one)
 }
 
-/// Shows whether a value is found in sets that have another.
+/// Shows whether a value is found in sets of a second one.
 pub(crate) fn show_sets(alloc: Global, out: &mut String, field: &str, text: &str) {
     let Some(one) = value_or_fault(alloc, out, field) else {
         return;

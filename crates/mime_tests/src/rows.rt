@@ -1,10 +1,10 @@
-//! What the rows of a table are, and what is said of each. A row is a word and fields, divided by tabs.
+//! The rows of a table, and the answers to each. A row is a word and fields, separated by tabs.
 //!
-//! Of the library, with a `VALUE` for a string that is read, or the identifier of a constant:
+//! The rows about `mime`, with a `VALUE` for a string that is read, or the identifier of a constant:
 //!
-//! - `read VALUE`, `clone VALUE`, `items STRING`: reads the string, clones what was read, or takes the media types in it;
-//! - `again STRING`: takes those that are left after the first, twice, by a clone of the iterator and by itself;
-//! - `list STRING STRINGS`: takes the media types in the first string, and compares each with what the next of the others is read as;
+//! - `read VALUE`, `clone VALUE`, `items STRING`: reads the string, clones its media type, or yields the media types in it;
+//! - `again STRING`: yields those that are left after the first, by a clone of the iterator and then by itself;
+//! - `list STRING STRINGS`: compares each media type in the first string with that of the next of the others;
 //! - `parts VALUE`: the parts of a value, or why it is rejected;
 //! - `long VALUE KEPT`: the numbers of a value, and whether its string is `KEPT`;
 //! - `print VALUE`: a value in 12 places, and by Debug;
@@ -12,16 +12,16 @@
 //! - `compare VALUE VALUE`, `pair VALUE VALUE`: two values, how they compare, or whether they are equal by each trait; and the first
 //!   against the second's string;
 //! - `sets VALUE VALUE`: whether the first is found in sets that have the second;
-//! - `against VALUE STRING`: a value against a string;
+//! - `against VALUE STRING`: whether a value equals a string;
 //! - `names NAME NAME`: two names, each a constant, or a string with `~` before it if it ignores case, or else with `=`;
 //! - `bytes`, `copies`: the classes of bytes, and the copies of the constants;
 //! - `short_verdicts`: all short strings, by a rule that needs no table.
 //!
-//! Of `mime_http` and of the recipes, a function's name and what it is given: an `Accept` header is a field, whose lines end with line
-//! feeds, and offers are the fields after it. Of these rows each answer has a bar after it.
+//! The rows about `mime_http` and the recipes are a function's name and its arguments: an `Accept` header is a field, whose lines end with
+//! line feeds, and offers are the fields after it. A bar follows each answer of these rows.
 //!
-//! What a row does is done between the lines `now` and `end`, without other requests for memory than its own: there
-//! tools/refused_requests refuses and counts them. What it says is printed after them; what there is no memory for is left out.
+//! Between the lines `now` and `end` only the calls of a row allocate: there tools/refused_requests refuses and counts requests for memory.
+//! The answers are printed after these lines. An answer for which memory runs out is left out.
 
 use crate::constants::{show_bytes, show_copies};
 use crate::fields::string_at;
@@ -50,7 +50,7 @@ use mime_examples::utf8::says_utf8;
 use mime_http::{FieldError, content_type, is_boundary};
 use std::alloc::Global;
 
-/// Writes what is said of a row.
+/// Writes the answers to a row.
 pub(crate) fn show_row(rt: &HostRuntime, out: &mut String, word: &str, strings: &[String]) {
     let is_known = show_of_library(rt.alloc(), out, word, strings)
         || show_of_headers(rt.alloc(), out, word, strings)
@@ -63,7 +63,7 @@ pub(crate) fn show_row(rt: &HostRuntime, out: &mut String, word: &str, strings: 
     }
 }
 
-/// Writes what the library says of a row, if the word is of one.
+/// Writes the answers of `mime` to a row, if its word is one of these.
 fn show_of_library(alloc: Global, out: &mut String, word: &str, strings: &[String]) -> bool {
     let one = string_at(strings, 0);
     let two = string_at(strings, 1);
@@ -91,7 +91,7 @@ fn show_of_library(alloc: Global, out: &mut String, word: &str, strings: &[Strin
     true
 }
 
-/// Writes what `mime_http` says of a row, if the word is of one.
+/// Writes the answers of `mime_http` to a row, if its word is one of these.
 fn show_of_headers(alloc: Global, out: &mut String, word: &str, strings: &[String]) -> bool {
     let one = string_at(strings, 0);
     let two = string_at(strings, 1);
@@ -118,7 +118,7 @@ fn show_of_headers(alloc: Global, out: &mut String, word: &str, strings: &[Strin
     true
 }
 
-/// Writes what the recipes say of a row, if the word is of one.
+/// Writes the answers of the recipes to a row, if its word is one of these.
 fn show_of_recipes(rt: &HostRuntime, out: &mut String, word: &str, strings: &[String]) -> bool {
     let alloc = rt.alloc();
     let one = string_at(strings, 0);

@@ -7,8 +7,8 @@ use std::fmt::Write;
 /// The characters of the short strings.
 static ALPHABET: [char; 8] = ['a', '/', ';', '=', '"', '\\', ' ', ','];
 
-/// How many characters a short string has at most, and how many short strings there are: one, and for each length 8 times as many as
-/// for the one before.
+/// The most characters of a short string, and the number of short strings: one, and for each length 8 times as many as for the one
+/// before.
 const MOST: usize = 7;
 
 const COUNT: usize = 2_396_745;
@@ -27,13 +27,13 @@ fn spell(text: &mut String, number: usize) {
     }
 }
 
-/// The fault of a string, or `None` if it is accepted.
+/// Returns the fault of a string, or `None` if it is accepted.
 fn fault_of(alloc: Global, text: &str) -> Option<ParseError> {
     let error = Mime::from_str(alloc, text).err()?;
     Some(*error.fault())
 }
 
-/// Whether a string is a media type with a completion after it.
+/// Returns `true` if a string followed by a completion is a media type.
 fn is_completed_by(alloc: Global, text: &str, completion: &str) -> bool {
     let mut whole = String::new(alloc);
     let _ = whole.push_str(text);
@@ -41,8 +41,7 @@ fn is_completed_by(alloc: Global, text: &str, completion: &str) -> bool {
     fault_of(alloc, whole.as_str()).is_none()
 }
 
-/// What completes a string, what the string then ends with, and the fault that says so. No short string ends with `?`: none has the last
-/// fault.
+/// The completion of a string, the end of such a string, and its fault. No short string ends with `?`, so none has the last fault.
 static COMPLETIONS: &[(&str, &str, ParseError)] = &[
     ("x/x", "", ParseError::MissingSlash),
     ("x", "/", ParseError::MissingSubtype),
@@ -52,7 +51,7 @@ static COMPLETIONS: &[(&str, &str, ParseError)] = &[
     ("", "?", ParseError::NoMemory),
 ];
 
-/// Writes a string if the verdict on it doesn't agree with those on the string completed.
+/// Writes a string if the verdict on it doesn't agree with those on the completed string.
 fn show_difference(alloc: Global, out: &mut String, text: &str) {
     let fault = fault_of(alloc, text);
     for (completion, end, missing) in COMPLETIONS {
@@ -63,7 +62,7 @@ fn show_difference(alloc: Global, out: &mut String, text: &str) {
     }
 }
 
-/// Shows how many short strings there are, after those whose verdicts don't agree.
+/// Shows the short strings whose verdicts don't agree, and the number of all.
 pub(crate) fn show_short_verdicts(alloc: Global, out: &mut String) {
     let Ok(mut text) = String::with_capacity(alloc, MOST) else {
         return;

@@ -1,4 +1,4 @@
-//! What one value tells.
+//! The rows about one value.
 
 ghost use Rattle.std.specs.Prelude.{◌≡◌, codes};
 
@@ -7,7 +7,7 @@ use mime::{FromStrError, Mime, Name, ParamKey, TextKey, name_eq_str};
 use std::alloc::Global;
 use std::fmt::{Debug, Write};
 
-/// Writes what is said of a row, by Debug.
+/// Writes an answer by Debug.
 pub(crate) fn show_debug<T: Debug>(out: &mut String, said: &T) {
     let _ = writeln!(out, "{said:?}");
 }
@@ -18,7 +18,7 @@ pub(crate) fn show_fault(out: &mut String, error: &FromStrError) {
     let _ = writeln!(out, "bad {error:99}");
 }
 
-/// The value that a field stands for; if there is none, it writes why.
+/// Returns the value that a field stands for. If there is none, writes why.
 pub(crate) fn value_or_fault(alloc: Global, out: &mut String, field: &str) -> Option<Mime> {
     match value_of(alloc, field) {
         Ok(mime) => Some(mime),
@@ -29,7 +29,7 @@ pub(crate) fn value_or_fault(alloc: Global, out: &mut String, field: &str) -> Op
     }
 }
 
-/// The media type that a string is read as; if there is none, it writes so.
+/// Returns the media type that a string is read as. If there is none, writes so.
 pub(crate) fn read_or_not(alloc: Global, out: &mut String, text: &str) -> Option<Mime> {
     match Mime::from_str(alloc, text) {
         Ok(mime) => Some(mime),
@@ -61,7 +61,7 @@ pub(crate) fn show_copy(out: &mut String, original: &Mime) {
     };
 }
 
-/// Shows the clone of a value; and the original, since a clone that is refused leaves it as it was.
+/// Shows the clone of a value, and the original, which a failed clone leaves unchanged.
 pub(crate) fn show_clone(alloc: Global, out: &mut String, field: &str) {
     let Ok(original) = value_of(alloc, field) else {
         let _ = out.push_str("not a media type\n");
@@ -71,8 +71,8 @@ pub(crate) fn show_clone(alloc: Global, out: &mut String, field: &str) {
     let _ = writeln!(out, "original {original}");
 }
 
-/// Shows the parts of a media type: its string; type, subtype, suffix and essence; and each parameter; with the size hints before these
-/// and after each.
+/// Shows the parts of a media type: its string, type, subtype, suffix, essence and parameters, with the size hints before the
+/// parameters and after each.
 pub(crate) fn show_parts(alloc: Global, out: &mut String, field: &str) {
     let Some(mime) = value_or_fault(alloc, out, field) else {
         return;
@@ -88,7 +88,7 @@ pub(crate) fn show_parts(alloc: Global, out: &mut String, field: &str) {
     }
 }
 
-/// Shows the size hint and the number of the parameters, and whether the value's string is as it must be.
+/// Shows the size hint and the number of the parameters, and whether the value's string is `kept`.
 pub(crate) fn show_long(alloc: Global, out: &mut String, field: &str, kept: &str) {
     let Some(mime) = value_or_fault(alloc, out, field) else {
         return;
@@ -106,7 +106,7 @@ pub(crate) fn show_printed(alloc: Global, out: &mut String, field: &str) {
     let _ = writeln!(out, "{mime:>12}|{mime:?}|{:?}", mime.params());
 }
 
-/// The key that accepts the one name `foo`.
+/// The key that accepts only the name `foo`.
 #[derive(Clone, Copy)]
 struct Foo;
 
@@ -118,7 +118,8 @@ impl ParamKey for Foo {
     }
 }
 
-/// Shows the value that a key finds, whether it is equal to another string, what it finds itself as a key, and what the key `Foo` finds.
+/// Shows the value that a key finds, whether it is equal to a second string, what it finds as a key itself, and what the key `Foo`
+/// finds.
 pub(crate) fn show_found(alloc: Global, out: &mut String, field: &str, key: &str, other: &str) {
     let Some(mime) = value_or_fault(alloc, out, field) else {
         return;
