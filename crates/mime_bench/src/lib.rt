@@ -1,6 +1,6 @@
 //! Calls over byte slices for the operations that bench/ measures.
 //!
-//! They repeat an operation, so that the difference of two calls is the operation alone. No clause says what they return:
+//! They repeat an operation, so that the difference of two calls is only the operation. No clause says what they return:
 //! the driver compares that with what the Rust crate returns.
 #![tactic(auto)]
 
@@ -14,7 +14,7 @@ use std::fmt::Write;
 use std::hash::{FoldHasher, Hash, Hasher};
 use std::str;
 
-/// The sum of what an operation returns for each of these things, so many rounds.
+/// The sum of what an operation returns for each of these values, over all rounds.
 macro_rules! sum {
     ($rounds:ident, $it:pat in $all:expr => $turn:expr) => {{
         let mut sum = 0usize;
@@ -27,8 +27,8 @@ macro_rules! sum {
     }};
 }
 
-/// Makes an operation on each line of a string, or on its media type, with the line of the other string beside it, so many
-/// rounds: the sum of what it returns. The operation is a position in the list of bench/driver.rs.
+/// Repeats an operation on each line of a string, or on its media type, with the line of the other string beside it, and
+/// returns the sum of its results. The operation is a position in the list of bench/driver.rs.
 #[unsafe(no_mangle)]
 pub extern "C" fn mime_bench(
     alloc: Global,
@@ -70,7 +70,7 @@ pub extern "C" fn mime_bench(
     }
 }
 
-/// The lines of a string. If memory runs out, some are left out, which the driver sees in the sums.
+/// Returns the lines of a string. If memory runs out, some are left out, which the driver sees in the sums.
 fn lines<'a>(alloc: Global, text: &'a str) -> Vec<&'a str> {
     let mut lines = Vec::new(alloc);
     for line in text.split('\n') {
@@ -79,7 +79,7 @@ fn lines<'a>(alloc: Global, text: &'a str) -> Vec<&'a str> {
     lines
 }
 
-/// The media types that strings are. Those that are rejected are left out.
+/// Returns the media types of strings. Those that are rejected are left out.
 fn values_of(alloc: Global, texts: &[&str]) -> Vec<Mime> {
     let mut values = Vec::new(alloc);
     for text in texts {
@@ -90,7 +90,7 @@ fn values_of(alloc: Global, texts: &[&str]) -> Vec<Mime> {
     values
 }
 
-/// Reads and drops: the length of the kept text, or 0 if the string is rejected.
+/// Reads and drops media types. The result is the length of the kept text, or 0 if the string is rejected.
 #[inline(never)]
 fn read(alloc: Global, texts: &[&str], rounds: usize) -> usize {
     sum!(rounds, text in texts => match Mime::from_str(alloc, text) {
@@ -127,7 +127,7 @@ fn look_up_missing(values: &[Mime], rounds: usize) -> usize {
     sum!(rounds, mime in values => length_found(mime, TextKey("level")))
 }
 
-/// The length of a parameter's value, or 0 if there is none of this name.
+/// Returns the length of a parameter's value, or 0 if there is none of this name.
 #[inline(always)]
 fn length_found<K: ParamKey + Drop>(mime: &Mime, key: K) -> usize {
     match mime.get_param(key) {
@@ -167,7 +167,7 @@ fn essence(values: &[Mime], rounds: usize) -> usize {
     sum!(rounds, mime in values => which_essence(mime))
 }
 
-/// Which of two strings the essence is: 1 or 2, or 0 if it is neither.
+/// Returns which of two strings the essence is: 1 or 2, or 0 if it is neither.
 #[inline(always)]
 fn which_essence(mime: &Mime) -> usize {
     let essence = mime.essence_str();
@@ -195,7 +195,8 @@ fn cmp(values: &[Mime], others: &[Mime], rounds: usize) -> usize {
     sum!(rounds, (mime, other) in values.iter().zip(others) => mime.cmp(other).is_lt() as usize)
 }
 
-/// Hashes by the hasher that a map takes unless told otherwise: how often the hash isn't 1, since the two sides' differ.
+/// Hashes by the default hasher of a map. The result is how often the hash isn't 1, since the hashes of the two sides
+/// differ.
 #[inline(never)]
 fn hash(values: &[Mime], rounds: usize) -> usize {
     sum!(rounds, mime in values => {
@@ -224,7 +225,7 @@ fn print(alloc: Global, values: &[Mime], rounds: usize) -> usize {
     })
 }
 
-/// Goes over the media types of lists: the lengths of their kept texts.
+/// Iterates over the media types of lists. The result is the lengths of their kept texts.
 #[inline(never)]
 fn items(alloc: Global, texts: &[&str], rounds: usize) -> usize {
     sum!(rounds, text in texts => {
@@ -247,7 +248,7 @@ fn field(alloc: Global, texts: &[&str], rounds: usize) -> usize {
     })
 }
 
-/// Reads header values, and asks what a server does: which essence it is, the charset, and the boundary.
+/// Reads header values, and looks up what a server does: the essence, the charset and the boundary.
 #[inline(never)]
 fn serve(alloc: Global, texts: &[&str], rounds: usize) -> usize {
     sum!(rounds, text in texts => match content_type(alloc, text.as_bytes()) {
@@ -263,7 +264,7 @@ fn meant_boundary(alloc: Global, values: &[Mime], rounds: usize) -> usize {
     sum!(rounds, mime in values => boundary_len(alloc, mime))
 }
 
-/// The length of the boundary of a multipart body, or 0 if there is none.
+/// Returns the length of the boundary of a multipart body, or 0 if there is none.
 #[inline(always)]
 fn boundary_len(alloc: Global, mime: &Mime) -> usize {
     match boundary(alloc, mime) {
@@ -272,7 +273,7 @@ fn boundary_len(alloc: Global, mime: &Mime) -> usize {
     }
 }
 
-/// Adds a parameter with each of these values to the first media type: the length of what is kept.
+/// Adds a parameter with each of these values to the first media type. The result is the length of the kept text.
 #[inline(never)]
 fn write_parameter(alloc: Global, values: &[&str], mimes: &[Mime], rounds: usize) -> usize {
     let Some(mime) = mimes.first() else {
@@ -281,7 +282,7 @@ fn write_parameter(alloc: Global, values: &[&str], mimes: &[Mime], rounds: usize
     sum!(rounds, value in values => written(with_parameter(alloc, mime, "p", value)))
 }
 
-/// The length of what is kept, or 0 if nothing was written.
+/// Returns the length of the kept text, or 0 if nothing was written.
 #[inline(always)]
 fn written(made: Result<Option<Mime>, AllocError>) -> usize {
     match made {
@@ -290,7 +291,7 @@ fn written(made: Result<Option<Mime>, AllocError>) -> usize {
     }
 }
 
-/// Reads an `Accept` header and chooses the best of the offers: its position, counted from 1.
+/// Reads an `Accept` header and chooses the best of the offers. The result is its position, counted from 1.
 #[inline(never)]
 fn negotiate(alloc: Global, texts: &[&str], offers: &[Mime], rounds: usize) -> usize {
     sum!(rounds, text in texts => match Accept::from_lines(alloc, &[text.as_bytes()]) {
@@ -312,7 +313,7 @@ fn cover(values: &[Mime], offers: &[Mime], rounds: usize) -> usize {
     sum!(rounds, (range, offer) in values.iter().zip(offers) => covers(range, offer) as usize)
 }
 
-/// Makes an operation that is measured on one string alone.
+/// Repeats an operation that is measured on only one string.
 #[inline(never)]
 fn one(
     alloc: Global,

@@ -104,7 +104,7 @@ static VALUES: [Shape; 17] = [
     },
 ];
 
-/// Lists, as those of an `Accept` header.
+/// Values of an `Accept` header.
 static LISTS: [Shape; 12] = [
     Shape {
         start: "a/#,",
@@ -175,7 +175,7 @@ static OFFERS: [&str; 4] = [
     "a/b",
 ];
 
-/// Three strings of each shape, of 2 to 64 KB.
+/// Returns three strings of each shape, of 2 to 64 KB.
 fn texts_of(alloc: Global, shapes: &[Shape], random: &mut Random) -> Result<Vec<Text>, AllocError> {
     let mut texts = Vec::new(alloc);
     for (at, shape) in shapes.iter().enumerate() {
@@ -189,7 +189,7 @@ fn texts_of(alloc: Global, shapes: &[Shape], random: &mut Random) -> Result<Vec<
     Ok(texts)
 }
 
-/// What looks at all of a value.
+/// Adds the results of calls that read all of a value.
 fn look_up(alloc: Global, mime: &Mime, digest: &mut Digest) -> Result<(), AllocError> {
     digest.media_type(mime);
     digest.found(mime.get_param(CHARSET));
@@ -220,7 +220,7 @@ fn read_value(alloc: Global, value: &[u8], digest: &mut Digest) -> Result<(), Al
     }
 }
 
-/// What a header accepts, with its best offer.
+/// Adds the ranges of a header, and its best offer.
 fn read_header(
     alloc: Global,
     line: &[u8],

@@ -1,4 +1,4 @@
-//! A digest of results: a number that all of them decide.
+//! A digest of results: a number that depends on all of them.
 
 use mime::{Mime, Name, ParseError};
 use mime_http::FieldError;
@@ -37,13 +37,13 @@ impl Digest {
         self.number(flag as usize);
     }
 
-    /// Adds a media type by its essence: what is printed of an untidy value isn't what it was at the start.
+    /// Adds a media type by its essence, since untidy values were printed differently at the start.
     #[inline]
     pub(crate) fn media_type(&mut self, mime: &Mime) {
         self.text(mime.essence_str());
     }
 
-    /// Adds what a look-up found.
+    /// Adds the result of a look-up.
     #[inline]
     pub(crate) fn found(&mut self, found: Option<Name<'_>>) {
         match found {
@@ -55,7 +55,7 @@ impl Digest {
         }
     }
 
-    /// Adds why a string was rejected.
+    /// Adds the fault of a string.
     pub(crate) fn fault(&mut self, fault: &ParseError) {
         match fault {
             ParseError::MissingSlash => self.number(1),
@@ -71,7 +71,7 @@ impl Digest {
         }
     }
 
-    /// Adds why a header's value was rejected.
+    /// Adds the error of a header's value.
     pub(crate) fn field_error(&mut self, error: &FieldError) {
         match error {
             FieldError::NotUtf8 { pos } => self.number(*pos),

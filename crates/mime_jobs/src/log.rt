@@ -8,14 +8,13 @@ use std::alloc::{AllocError, Global};
 use std::collections::{BTreeMap, HashMap};
 use std::fmt::Write;
 
-/// How many values a log has.
+/// The number of values of a log.
 const VALUES: usize = 8192;
 
-/// How many lines.
+/// The number of its lines.
 const LINES: usize = 16_384;
 
-/// The writings of a value. They differ elsewhere than in the mark and in the case of the first four letters, which tell its occurrences
-/// apart.
+/// The writings of a value. They don't differ in the mark and in the case of the first four letters, which tell its occurrences apart.
 static WRITINGS: [[&str; 3]; 9] = [
     [
         "text/#; charset=utf-8",
@@ -52,7 +51,7 @@ static WRITINGS: [[&str; 3]; 9] = [
     ],
 ];
 
-/// A value's strings, and how often it came in this log.
+/// A value's strings, and the number of its occurrences in this log.
 #[derive(Drop)]
 struct Value {
     writings: [Text; 3],
@@ -79,7 +78,7 @@ impl Value {
         self.came = 0;
     }
 
-    /// The next writing, which isn't the same twice in one log.
+    /// Returns the next writing, which isn't the same twice in one log.
     fn next(&mut self) -> &str {
         let came = self.came;
         self.came = came.wrapping_add(1);
@@ -91,7 +90,7 @@ impl Value {
     }
 }
 
-/// The media types of a log, and how often each came.
+/// The media types of a log, with their counts.
 #[derive(Drop)]
 struct Counts {
     hashed: HashMap<Mime, u64>,
@@ -147,7 +146,7 @@ fn add_list(alloc: Global, list: &str, digest: &mut Digest) {
     digest.number(usize::try_from(items.steps()).unwrap_or(0));
 }
 
-/// Adds what was counted, sorted and printed.
+/// Adds the counts, sorted and printed.
 fn add_counts(alloc: Global, counts: &Counts, digest: &mut Digest) -> Result<(), AllocError> {
     let mut sorted = Vec::with_capacity(alloc, counts.hashed.len())?;
     for (mime, count) in counts.hashed.iter() {
@@ -173,13 +172,13 @@ fn push_entry(list: &mut String, text: &str) -> Result<(), AllocError> {
     list.push_str(text)
 }
 
-/// The position of a value, taken with skewed frequency: the first are more frequent.
+/// Returns the position of a value at random. The first positions are more frequent.
 fn skewed(random: &mut Random) -> usize {
     let one = random.below(VALUES);
     one * one / VALUES
 }
 
-/// Each fourth line is an entry of a list of three.
+/// Counts the lines of one log, of which each fourth is an entry of a list of three.
 fn one_log(
     alloc: Global,
     values: &mut [Value],

@@ -1,4 +1,4 @@
-//! Does what a user of `mime` and `mime_http` waits for, over many strings, each of them another, and prints a digest of all results.
+//! Runs jobs that users of `mime` and `mime_http` have, over many different strings, and prints a digest of all results.
 //!
 //! `mime_jobs JOB SEED ROUNDS` does one of `requests`, `negotiation`, `log`, `writing` and `awkward`; `all` does each once. Each seed gives
 //! other strings of the same kinds and sizes. A round is a pass over the job's strings, in which each of them is changed by a mark.
@@ -19,7 +19,7 @@ use std::alloc::{AllocError, Global};
 use std::env::Args;
 use std::{env, io};
 
-/// What the arguments ask for.
+/// The job that the arguments select.
 #[derive(Drop)]
 struct Asked {
     job: String,
@@ -27,7 +27,7 @@ struct Asked {
     rounds: u64,
 }
 
-/// A number that an argument is, or 0.
+/// Returns the number in an argument, or 0.
 fn number_in(word: Option<String>) -> u64 {
     match word {
         Some(word) => word.as_str().parse::<u64>().unwrap_or(0),
@@ -35,7 +35,7 @@ fn number_in(word: Option<String>) -> u64 {
     }
 }
 
-/// What the arguments after the program's name ask for, if there is one.
+/// Returns the job that the arguments select, if there is one.
 fn asked_job(mut arguments: Args) -> Option<Asked> {
     let _program = arguments.next();
     let job = arguments.next()?;
@@ -63,7 +63,7 @@ fn done(
     }
 }
 
-/// The digest of a job's results, or of those of all.
+/// Returns the digest of a job's results, or of those of all jobs.
 fn digest_of(alloc: Global, asked: &Asked) -> Result<u64, AllocError> {
     let mut digest = Digest::new();
     let (seed, rounds) = (asked.seed, asked.rounds);

@@ -1,4 +1,4 @@
-//! A server chooses what it sends by the `Accept` header of each request.
+//! The job of a server that chooses what it sends by the `Accept` header of each request.
 
 use crate::digest::Digest;
 use crate::random::Random;
@@ -7,10 +7,10 @@ use mime::Mime;
 use mime_http::Accept;
 use std::alloc::{AllocError, Global};
 
-/// How many headers a round has.
+/// The number of headers in a round.
 const COUNT: usize = 2048;
 
-/// What clients send: browsers, API clients, and some entries that are bad.
+/// Headers of browsers and API clients, some with bad entries.
 static PATTERNS: [&str; 24] = [
     "*/*, image/#",
     "*/*;v=#",
@@ -41,7 +41,7 @@ static PATTERNS: [&str; 24] = [
 /// The second line of a header that has two.
 static SECOND: [&str; 2] = ["*/*;q=0.1", "text/plain;q=0.5, */*;q=0.1"];
 
-/// What servers offer.
+/// The offers of servers.
 static OFFERS: [&[&str]; 6] = [
     &["text/html", "application/json"],
     &["application/json", "application/xml", "text/html"],
@@ -76,7 +76,7 @@ static OFFERS: [&[&str]; 6] = [
     ],
 ];
 
-/// The media types that a server offers.
+/// Returns the media types that a server offers.
 fn offers_of(alloc: Global, texts: &[&str]) -> Result<Vec<Mime>, AllocError> {
     let mut offers = Vec::new(alloc);
     for text in texts {
@@ -95,7 +95,7 @@ fn all_offers(alloc: Global) -> Result<Vec<Vec<Mime>>, AllocError> {
     Ok(all)
 }
 
-/// What a header accepts; each tenth has a second line.
+/// Reads a header, of which each tenth has a second line.
 fn accept_of(alloc: Global, text: &Text, at: usize) -> Result<Accept, AllocError> {
     let first = text.bytes();
     if at % 10 == 0 {
@@ -106,7 +106,7 @@ fn accept_of(alloc: Global, text: &Text, at: usize) -> Result<Accept, AllocError
     }
 }
 
-/// Adds what was read.
+/// Adds the ranges and the bad entries of a header.
 fn add_read(accept: &Accept, digest: &mut Digest) {
     for range in accept.ranges() {
         digest.media_type(range);
@@ -116,7 +116,7 @@ fn add_read(accept: &Accept, digest: &mut Digest) {
     }
 }
 
-/// What a server asks of one header: mostly which offer is the best.
+/// Adds what a server asks of one header: mostly the best offer.
 fn choose(
     alloc: Global,
     accept: &Accept,

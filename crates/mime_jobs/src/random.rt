@@ -1,4 +1,4 @@
-//! Numbers that a seed decides.
+//! Random numbers that depend on a seed.
 
 ghost use Rattle.std.specs.Prelude.{◌<◌, length};
 
@@ -21,7 +21,7 @@ impl Random {
         mixed ^ (mixed >> 31)
     }
 
-    /// A number below another.
+    /// Returns a number below `limit`.
     pub(crate) fn below(&mut self, limit: usize) -> usize
         requires { 0 < limit }
         ensures { result < limit }
@@ -29,7 +29,7 @@ impl Random {
         (self.next() % limit as u64) as usize
     }
 
-    /// One of some strings.
+    /// Returns one of some strings.
     pub(crate) fn one_of<'a>(&mut self, strings: &[&'a str]) -> &'a str
         requires { 0 < length strings.now }
     {

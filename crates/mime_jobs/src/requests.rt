@@ -1,4 +1,4 @@
-//! A server looks at the `Content-Type` of each request.
+//! The job of a server that reads the `Content-Type` of each request.
 
 use crate::digest::Digest;
 use crate::random::Random;
@@ -7,10 +7,10 @@ use mime::{BOUNDARY, CHARSET, Mime, TEXT_HTML_UTF_8, mime_eq_str};
 use mime_http::{boundary, content_type};
 use std::alloc::{AllocError, Global};
 
-/// How many strings a round has.
+/// The number of strings in a round.
 const COUNT: usize = 4096;
 
-/// What clients send: half without parameters, a tenth untidy, a few rejected.
+/// Values that clients send: half without parameters, a tenth untidy, a few rejected.
 static PATTERNS: [&str; 40] = [
     "application/#",
     "application/#+json",
@@ -54,7 +54,7 @@ static PATTERNS: [&str; 40] = [
     "application #",
 ];
 
-/// What a server asks of one value.
+/// Adds what a server asks of one value.
 fn look_at(
     alloc: Global,
     value: &[u8],

@@ -1,4 +1,4 @@
-//! Strings with a mark, which makes each of them another at each round.
+//! Strings with a mark, which differs in each round.
 
 ghost use Rattle.std.specs.Prelude.{◌<◌};
 
@@ -8,19 +8,19 @@ use std::alloc::{AllocError, Global};
 /// The number of letters in a mark.
 const MARK: usize = 7;
 
-/// How many of them are the string's own; the others count rounds.
+/// The number of its letters that are the string's own. The others count rounds.
 const OWN: usize = 3;
 
-/// What a pattern's `@` may become.
+/// The bytes that may replace a pattern's `@`.
 const DIGITS: [u8; 16] = *b"0123456789abcdef";
 
 /// A string with a mark: seven letters, of which the first three are those of the string's number.
 #[derive(Drop)]
 pub(crate) struct Text {
     bytes: Vec<u8>,
-    /// Where the mark begins.
+    /// The position of the mark.
     mark: usize,
-    /// Which letters are capitals.
+    /// The letters that are capitals, a bit for each.
     capitals: u32,
 }
 
@@ -46,7 +46,7 @@ fn count_up(letters: &mut [u8]) {
 }
 
 impl Text {
-    /// A pattern with a mark in place of `#`, and digits in place of each `@`.
+    /// Returns a pattern with a mark in place of `#`, and digits in place of each `@`.
     pub(crate) fn of(
         alloc: Global,
         pattern: &str,
@@ -72,7 +72,7 @@ impl Text {
         })
     }
 
-    /// A pattern, a string over and over up to so many bytes, and another string.
+    /// Returns a pattern, a string that is repeated up to `size` bytes, and the string `end`.
     pub(crate) fn long(
         alloc: Global,
         pattern: &str,
@@ -102,7 +102,8 @@ impl Text {
         }
     }
 
-    /// Makes capitals of those of the first four letters and of the mark whose bits are set, and lowercases the others.
+    /// Makes capitals of those first four letters and letters of the mark whose bits are set, and lowercases the
+    /// others.
     pub(crate) fn capitalize(&mut self, bits: u32) {
         let mut changed = bits ^ self.capitals;
         self.capitals = bits;
@@ -129,7 +130,7 @@ impl Text {
         &self.bytes
     }
 
-    /// The string, or an empty one if it isn't UTF-8.
+    /// Returns the string, or an empty one if it isn't UTF-8.
     #[inline]
     pub(crate) fn text(&self) -> &str {
         match str::from_utf8(&self.bytes) {
@@ -139,7 +140,7 @@ impl Text {
     }
 }
 
-/// So many strings, each of a pattern taken at random.
+/// Returns `count` strings, each of a random pattern.
 pub(crate) fn texts_of(
     alloc: Global,
     random: &mut Random,

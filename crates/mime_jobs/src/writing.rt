@@ -1,4 +1,4 @@
-//! Headers are written, and what they hold is read again.
+//! The job of a server that writes headers, whose parameters are then read.
 
 use crate::digest::Digest;
 use crate::random::Random;
@@ -8,10 +8,10 @@ use mime_http::{boundary, unescape, with_boundary, with_charset, with_parameter}
 use std::alloc::{AllocError, Global};
 use std::fmt::Write;
 
-/// How many strings a round has, of each kind.
+/// The number of strings of each kind in a round.
 const COUNT: usize = 1024;
 
-/// What parameters are written into.
+/// The media types into which parameters are written.
 static BASES: [&str; 8] = [
     "text/html",
     "text/plain; charset=us-ascii",
@@ -44,14 +44,14 @@ static BOUNDARIES: [&str; 4] = [
     "=_#: with (marks), as ' / ?",
 ];
 
-/// What is written into at each turn.
+/// The buffers of each turn.
 #[derive(Drop)]
 struct Buffers {
     printed: String,
     meant: Vec<u8>,
 }
 
-/// Adds what is printed.
+/// Adds a media type as it is printed.
 fn add_printed(
     made: &Option<Mime>,
     buffers: &mut Buffers,
