@@ -23,7 +23,7 @@ pub use Rattle.mime.proofs.ValueLemmas.Reading.{rejected-from_fault, Explains-fr
 pub use Rattle.mime.proofs.LawsLemmas.Written.{essence_is_read, content-from_token, kept_is_safe, walked-safe}
 -- What is printed of a value that was read is read as the value.
 pub use Rattle.mime.proofs.ValueLemmas.KeptText.{kept_is_read, text_of-essence, length-essence_of, value_of_low, value_of-lowering, keeps-tree, kept-in_part}
--- A comma ends whatever precedes it, and leaves what comes after it as it is.
+-- A comma ends whatever precedes it, and leaves what follows it as it is.
 pub use Rattle.mime.proofs.CutLemmas.Containment.{cut_has_items}
 -- The order of values, with the laws of `Before` and `Same`, and two iterators that std's `eq` compares.
 pub use Rattle.mime.proofs.ValueLemmas.Traits.{eq_by_cmp-tells, eq_by_cmp-same}

@@ -130,13 +130,13 @@ found-some old now piece left positions steps (looking, sound) some passes count
 
 -- ---- a whole call
 
--- at the end of a run the steps are those that the text takes
+-- at the end of a run the steps are those of the text's cut
 sound-exact : (i : Iteration) → IsSound i → i.left ≡ [] → i.out_of_memory ≡ false → TakesSteps i.text i.steps
 sound-exact i sound ended fed =
     let none : TakesSteps i.left 0 = subst (λ t. TakesSteps t 0) (sym ended) (takes-viable [] empty_is_viable) in
     subst (TakesSteps i.text) (omega arith) (sound.exact fed 0 none)
 
--- a call gives none
+-- a call returns `None`
 pub next-none : (old new : Iteration) → IsFound old None new → IsNext old None new
 next-none old new found = record {
   item = (found.gives.0, found.gives.1, found.out_of_memory);
@@ -147,7 +147,7 @@ next-none old new found = record {
   stays = λ ended. (refl, (found.still ended).1);
 }
 
--- a call gives what was made of the piece that was found
+-- a call returns the item of the piece that was found
 next-some : (old now new : Iteration) (piece : Bor (List ℕ) × Option Positions) (given : Result OwnedMedia Bad) → IsFound old (Some piece) now
     → IsSound new → new.text ≡ now.text → new.steps ≡ now.steps → GivesItem old (Some given) new → IsNext old (Some given) new
 next-some old now new piece given found sound text steps item = record {
@@ -159,13 +159,13 @@ next-some old now new piece given found sound text steps item = record {
   stays = λ ended. absurd (none-some piece (sym (found.still ended).0));
 }
 
--- a call gives a bad piece
+-- a call returns a bad piece
 pub next-bad : (old new : Iteration) (piece : Bor (List ℕ)) → IsFound old (Some (piece, None)) new
     → IsNext old (Some (Err (Piece piece))) new
 next-bad old new piece found =
     next-some old new new (piece, None) (Err (Piece piece)) found found.sound refl refl (found.gives.0, found.out_of_memory)
 
--- a call gives a media type
+-- a call returns a media type
 pub next-good : (old new : Iteration) (piece : Bor (List ℕ)) (positions : Positions) (mime : OwnedMedia)
     → IsFound old (Some (piece, Some positions)) new → Reads piece.now mime.media
     → (piece.now ≡ codes "*/*" → mime.fixed ≡ true) → IsNext old (Some (Ok mime)) new
@@ -173,7 +173,7 @@ next-good old new piece positions mime found reads star =
     next-some old new new (piece, Some positions) (Ok mime) found found.sound refl refl
     (piece.now, found.gives.0.1 mime.media reads, star, found.out_of_memory)
 
--- a call gives out of memory, which ends the run
+-- a call returns `NoMemory`, which ends the run
 pub next-out_of_memory : (old now new : Iteration) (piece : Bor (List ℕ)) (positions : Positions) → IsFound old (Some (piece, Some positions)) now
     → 40 < length piece.now → new ≡ record now { left = []; out_of_memory = true } → IsNext old (Some (Err NoMemory)) new
 next-out_of_memory old now new piece positions found long is =
@@ -199,7 +199,7 @@ given_ended : (first : Iteration) (given : List (Result OwnedMedia Bad)) → fir
 given_ended first [] ended drains = refl
 given_ended first (item ∷ given) ended (end, (last, (next, step, others), none)) = absurd (none-some item (sym (step.stays ended).0))
 
--- the cut that a run gives
+-- the cut whose items a run yields
 run_items : (first : Iteration) (given : List (Result OwnedMedia Bad)) → Drains IsNext first given
     → (items : List CutItem) × (rest : List ℕ) × Cut first.left items rest × AreGiven given items
 run_items first [] (end, (last, same, none)) =
@@ -216,13 +216,13 @@ run_items first (Err NoMemory ∷ given) (end, (last, (next, step, others), none
     let ended = given_ended next given step.item.1 (end, (last, others, none)) in
     (_, needs.rest, needs.cut, subst (λ g. AreGiven (Err NoMemory ∷ g) (good needs.piece needs.value ∷ needs.items)) (sym ended) are)
 
--- a whole run gives the items of the cut
+-- a whole run yields the items of the cut
 pub run_gives_cut : RunGivesCut
 run_gives_cut first given drains items rest cut =
     let (own, end, found, are) = run_items first given drains in
     subst (AreGiven given) (cut_unique first.left items rest cut own end found).0 are
 
--- a run over a text with a comma gives the items before it, the rest, and the items after it
+-- a run over a text with a comma yields the items before it, the rest, and the items after it
 pub comma_contains_on_runs : CommaContainsOnRuns
 comma_contains_on_runs before after items others rest end cut closed follows first given is drains =
     run_gives_cut first given drains (items ++ (items_of_rest rest ++ others)) end

@@ -30,13 +30,13 @@ pub list_all-lowered : (class : ℕ → Bool) → ((b : ℕ) → class (to_ascii
     → list_all class (lowered bytes) ≡ list_all class bytes
 list_all-lowered class either bytes = list_all-map class to_ascii_lowercase bytes ∙ ap (λ c. list_all c bytes) (λ i b. either b i)
 
--- the same bytes in another case are of the same classes
+-- bytes that differ only in case are of the same classes
 pub list_all-case : (class : ℕ → Bool) → ((b : ℕ) → class (to_ascii_lowercase b) ≡ class b) → (bytes other : List ℕ)
     → lowered other ≡ lowered bytes → list_all class bytes ≡ true → list_all class other ≡ true
 list_all-case class either bytes other is all =
     sym (list_all-lowered class either other) ∙ ap (list_all class) is ∙ list_all-lowered class either bytes ∙ all
 
--- a token in another case is a token
+-- a token with letters of the other case is a token
 pub IsToken-case : (bytes other : List ℕ) → lowered other ≡ lowered bytes → IsToken bytes → IsToken other
 unfolding is_token_byte
 IsToken-case [] other is token = absurd token

@@ -1,4 +1,4 @@
--- How media types compare: which are equal, and which comes before which.
+-- How media types compare: which are equal, and which is before which.
 use Rattle.std.specs.Prelude.{◌≡◌, ℕ, ◌<◌, ◌⊎◌, List, [], ◌∷◌, IsTrue, not, ◌==◌, ⊤}
 use Rattle.std.specs.List.{list_all}
 use Rattle.std.specs.declared.cmp.Ordering.{Ordering}
@@ -11,28 +11,28 @@ use Rattle.mime.specs.Values.{MediaType, Reads}
 abbrev pub Same : MediaType → MediaType → Type 0
 Same first second = (first.essence ≡ second.essence) × (first.pairs ≡ second.pairs)
 
--- a list comes before another: after items that are the same it ends first, or has the lesser item
+-- a list is before another: after items that are the same it ends first, or has the lesser item
 abbrev pub IsListBefore : {X : Type 0} → (X → X → Type 0) → List X → List X → Type 0
 IsListBefore IsLess [] [] = ⊥
 IsListBefore IsLess [] (y ∷ ys) = ⊤
 IsListBefore IsLess (x ∷ xs) [] = ⊥
 IsListBefore IsLess (x ∷ xs) (y ∷ ys) = IsLess x y ⊎ ((x ≡ y) × IsListBefore IsLess xs ys)
 
--- a text comes before another: by its bytes
+-- a text is before another: by its bytes
 abbrev pub IsTextBefore : List ℕ → List ℕ → Type 0
 IsTextBefore first second = IsListBefore (λ x y. x < y) first second
 
--- a pair comes before another: by its name, and among pairs of one name by its value
+-- a pair is before another: by its name, and among pairs of one name by its value
 abbrev pub IsPairBefore : List ℕ × List ℕ → List ℕ × List ℕ → Type 0
 IsPairBefore (name, value) (other, content) = IsTextBefore name other ⊎ ((name ≡ other) × IsTextBefore value content)
 
--- a value comes before another: by its essence, and among values of one essence by its list of pairs
+-- a value is before another: by its essence, and among values of one essence by its list of pairs
 abbrev pub Before : MediaType → MediaType → Type 0
 Before first second =
     IsTextBefore first.essence second.essence
     ⊎ ((first.essence ≡ second.essence) × IsListBefore IsPairBefore first.pairs second.pairs)
 
--- an answer says how two values compare: the first comes before, they are equal, or it comes after
+-- an answer says how two values compare: the first is before the second, they are equal, or the second is before the first
 abbrev pub IsOrderOf : MediaType → MediaType → Ordering → Type 0
 IsOrderOf first second answer = MatchOrdering answer (Before first second) (Same first second) (Before second first)
 

@@ -44,7 +44,7 @@ CutWritesText =
     → (pieces : List (List ℕ × List ℕ)) × (end : List ℕ) × Pieces text pieces end
     × (text_of_pieces pieces end ≡ text) × (IsAccepted end ⊎ (end ≡ rest))
 
--- A text takes exactly one number of steps.
+-- A text is cut in exactly one number of steps.
 abbrev pub OneCount : Type 0
 OneCount = (text : List ℕ) → (steps : ℕ) × TakesSteps text steps × ((other : ℕ) → TakesSteps text other → other ≡ steps)
 
@@ -53,7 +53,7 @@ abbrev pub items_of_rest : List ℕ → List CutItem
 items_of_rest [] = []
 items_of_rest (b ∷ rest) = bad (b ∷ rest) ∷ []
 
--- A comma ends what precedes it, unless that is an open quoted string, and what follows it is cut as if it were alone.
+-- A comma ends what precedes it, unless that is an open quoted string. What follows the comma is cut like a text of its own.
 abbrev pub CommaContains : Type 0
 CommaContains =
     (before after : List ℕ) (items others : List CutItem) (rest end : List ℕ) → Cut before items rest → ¬ (IsUnclosed rest)
@@ -85,7 +85,7 @@ is_separator b = is_space b || b == comma_byte
 pub data IsHttpList : List ℕ → List CutItem → Type 0 where
   -- the empty text has no element
   no_element : IsHttpList [] []
-  -- a space, a tab or a comma may come before a list
+  -- a space, a tab or a comma may precede a list
   separated : (b : ℕ) (list : List ℕ) (elements : List CutItem) → IsTrue (is_separator b) → IsHttpList list elements
       → IsHttpList (b ∷ list) elements
   -- an accepted text is a list of one element

@@ -38,7 +38,7 @@ with_parameter value name content =
     record value { pairs = (name, content) ∷ []; kept = text_with_parameter value.essence name content }
 
 -- The essence of a value that was read, with a token and quoted content after it as a parameter, is read as the value with that
--- parameter alone, lowercased as reading lowercases.
+-- parameter and no other, lowercased as reading lowercases.
 abbrev pub ParameterIsRead : Type 0
 ParameterIsRead =
     (text : List ℕ) (value : MediaType) (name content : List ℕ) → Reads text value → IsToken name → IsContent content

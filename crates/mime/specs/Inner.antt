@@ -1,5 +1,5 @@
--- The private pages: what the code and its proofs say on the way. Of their names a public contract has one, `HashInput.media_input`:
--- which bytes a hasher is fed isn't promised, and the laws of the hash say what is. Who makes a `KnownText` proves `Known.IsKnown` of it.
+-- The private files, which only the code and its proofs use. A public contract uses one of their names, `HashInput.media_input`:
+-- which bytes a hasher is fed isn't promised, only the laws of the hash are. Code that makes a `KnownText` proves `Known.IsKnown` of it.
 pub mod ByteClasses
 pub mod Remaining
 pub mod Quoted

@@ -1,4 +1,4 @@
--- The laws: what follows from the definitions alone.
+-- The laws: what follows from only the definitions.
 use Rattle.std.specs.Prelude.{◌≡◌, ◌≢◌, ℕ, ◌+◌, ◌<◌, ◌≤◌, ◌⊎◌, Bool, List, [], ◌∷◌, ◌++◌, length, take, slice_get, Option, Some, None, MatchOption, ◌↔◌}
 use Rattle.std.specs.Str.{IsUtf8, IsCharBoundary}
 use Rattle.mime.specs.Bytes.{slash_byte, plus_byte}
@@ -123,18 +123,18 @@ SameEssence =
     (one other : List ℕ) (first second : MediaType) → Reads one first → Reads other second
     → (first.essence ≡ second.essence) ↔ HaveSameParts first second
 
--- exactly one of the three: the first comes before the second, they are equal, the second comes before the first
+-- exactly one of the three: the first is before the second, they are equal, the second is before the first
 abbrev pub OneOf : MediaType → MediaType → Type 0
 OneOf first second =
     (Before first second × ¬ (Same first second) × ¬ (Before second first))
     ⊎ ((Same first second × ¬ (Before first second) × ¬ (Before second first))
     ⊎ (Before second first × ¬ (Same first second) × ¬ (Before first second)))
 
--- Of two values exactly one is so: the first comes before the second, they are equal, the second comes before the first.
+-- Two values are equal, or exactly one of them is before the other.
 abbrev pub OneOrder : Type 0
 OneOrder = (first second : MediaType) → OneOf first second
 
--- A value that comes before another comes before all values that come after that one.
+-- If a value is before a second one, and that is before a third, the first is before the third.
 abbrev pub BeforeIsTransitive : Type 0
 BeforeIsTransitive = (first second third : MediaType) → Before first second → Before second third → Before first third
 

@@ -51,7 +51,7 @@ pub record IsNext (old : Iteration) (result : Option (Result OwnedMedia Bad)) (n
   -- the steps are no fewer than before, even if memory ran out, and at most the bytes of the text
   pub more : old.steps ≤ new.steps
   pub few : new.steps ≤ length new.text
-  -- at the end, unless memory ran out, they are exactly those that the text takes
+  -- at the end, unless memory ran out, they are exactly those of the text's cut
   pub exact : HasEnded new → new.out_of_memory ≡ false → TakesSteps new.text new.steps
   -- an iterator that has ended returns none, and stays as it is
   pub stays : HasEnded old → (result ≡ None) × (new ≡ old)

@@ -1,4 +1,4 @@
--- What the trusted pages say of some texts: each definition is held from two sides.
+-- What the trusted files say of some texts: each definition has an example and a counterexample.
 use Rattle.std.proofs.Common.{◌≡◌, ◌≢◌, ℕ, true, List, [], ◌∷◌, ◌++◌, map, length, refl, sym, ap, ◌∙◌, arith, codes, Some, None, length-append, subst}
 use Rattle.std.specs.Str.{IsUtf8, IsValidUpTo}
 use Rattle.std.proofs.lemmas.Str.{IsUtf8-nil}
@@ -125,7 +125,7 @@ empty_needs_none needs =
     let none = (cut_unique [] [] [] empty-cut (needs.before ++ good needs.piece needs.media ∷ needs.after) needs.rest needs.cut).0 in
     absurd (omega (arith, ap length none, length-append needs.before (good needs.piece needs.media ∷ needs.after)))
 
--- no text, alone, as the first or as the second
+-- no text by itself, as the first or as the second
 module _ (isnt : ¬ (IsUtf8 (255 ∷ []))) where
   none_valid : IsValidUpTo (255 ∷ []) 0
   none_valid = record {

@@ -1,4 +1,4 @@
--- What the page HeaderAnswers says of some texts.
+-- What the file HeaderAnswers says of some texts.
 use Rattle.std.proofs.Common.{◌≡◌, ℕ, true, false, List, [], ◌∷◌, ◌++◌, map, refl, arith, codes, None}
 use Rattle.mime.specs.Values.{MediaType}
 use Rattle.mime.specs.declared.scan.fault.ParseError.TheVariants.{MissingSlash, InvalidToken}

@@ -31,7 +31,7 @@ pub come_back : (texts : List (List ℕ)) → AllByRecursion HasNoZero texts →
 come_back [] none = refl
 come_back (text ∷ texts) none = texts_in-string text (strings texts) none.0 ∙ ap (λ others. text ∷ others) (come_back texts none.1)
 
--- a header's byte is another,
+-- a header's byte isn't 0,
 quoted_byte-other : (b : ℕ) → is_quoted_byte b ≡ true → is_other 0 b ≡ true
 unfolding is_quoted_byte
 quoted_byte-other b is = grind (arith, nat_tests)

@@ -62,7 +62,7 @@ valid_up_to text isnt =
       },
     )
 
--- want of memory isn't a fault,
+-- `NoMemory` isn't a fault,
 is_fault : (text : List ℕ) (fault : ParseError) → Explains text fault → number_of fault ≢ MIME_NO_MEMORY → IsFault text fault
 is_fault text NoMemory why some = absurd (some refl)
 is_fault text fault why some = why

@@ -31,7 +31,7 @@ the_first x y xs is = (0, omega arith, is)
 a_later : {X : Type 0} (x y : X) (xs : List X) → Contains xs y → Contains (x ∷ xs) y
 a_later x y xs (k, within, is) = (suc k, omega (arith, within), is)
 
--- ---- lists in order, of which the first comes before the others, and these are in order
+-- ---- lists in order, of which the first is before the others, and these are in order
 
 before_rest : {X : Type 0} (R : X → X → Type 0) (x : X) (xs : List X) → AllPairs R (x ∷ xs) → All (R x) xs
 before_rest R x xs pairs = λ k d within. pairs 0 (suc k) d (omega arith) (omega (arith, within))
@@ -49,7 +49,7 @@ module _ {X : Type 0} (R : X → X → Type 0) (strict : (x y : X) → R x y →
       (one_of x y xs ((same y).1 (the_first y y ys refl))))
       (one_of y x ys ((same x).0 (the_first x x xs refl)))
 
-  -- what stands behind the first of one stands behind the same first of the other
+  -- what follows the first of one follows the same first of the other
   still_there : (x y z : X) (xs ys : List X) → x ≡ y → AllPairs R (x ∷ xs) → ((w : X) → Contains (x ∷ xs) w → Contains (y ∷ ys) w)
       → Contains xs z → Contains ys z
   still_there x y z xs ys first one same is = ⊎_elim
@@ -102,7 +102,7 @@ module _ {X : Type 0} (R : X → X → Type 0) (goes_on : (x y z : X) → R x y 
 
 -- ---- offers
 
--- an offer comes before another: it ranks higher, or as high and is offered first
+-- an offer is before another: it ranks higher, or as high and is offered first
 abbrev Higher : Rank → ℕ → Rank → ℕ → Type 0
 Higher x i y j = (is_gt (rank_cmp x y) ≡ true) ⊎ ((x ≡ y) × (i < j))
 

@@ -19,7 +19,7 @@ use Rattle.mime_c.proofs.OneOutcome.{reads_to_one, lists_to_one, compares_as_one
 
 -- ---- out of memory
 
--- if a text fails for want of memory, it is a media type of more than 40 bytes, and nothing is found;
+-- if memory runs out for a text, it is a media type of more than 40 bytes, and nothing is found;
 fails_for_memory : {text : List ℕ} {n : ℕ} {found : MimeFound} → n ≡ MIME_NO_MEMORY → Fails text n found
     → (found ≡ nothing) × IsUtf8 text × Explains text NoMemory
 fails_for_memory is (is_rejected NoMemory utf8 why) = (refl, utf8, why)
@@ -92,7 +92,7 @@ module _ (isnt : ¬ (IsUtf8 (255 ∷ []))) where
 
 -- ---- success
 
--- a failure has another answer
+-- a failure has a different answer
 no_failure_is_ok : {text : List ℕ} {n : ℕ} {found : MimeFound} → n ≡ MIME_OK → ¬ (Fails text n found)
 no_failure_is_ok is (is_rejected NoMemory utf8 why) = omega (arith, is)
 no_failure_is_ok is (is_rejected fault utf8 why) = omega (arith, is)
@@ -115,7 +115,7 @@ lists_without_zero is (answers.ListsTo.has_no_room short) = absurd (omega (arith
 
 -- ---- existence
 
--- each call has an outcome other than want of memory
+-- each call has an outcome in which memory doesn't run out
 abbrev HasOutcome : {Held : Type 0} → (ℕ → Held → Type 0) → Type 0
 HasOutcome {Held} IsOutcome = (answer : ℕ) × (held : Held) × (answer ≢ MIME_NO_MEMORY) × IsOutcome answer held
 

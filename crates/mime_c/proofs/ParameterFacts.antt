@@ -1,4 +1,4 @@
--- What the page ParameterAnswers says of some texts.
+-- What the file ParameterAnswers says of some texts.
 use Rattle.std.proofs.Common.{◌≡◌, ℕ, List, [], ◌∷◌, ◌++◌, refl, sym, ap, ◌∙◌, arith, codes, None}
 use Rattle.std.proofs.lemmas.Bool.{true≢false}
 use Rattle.mime.specs.Bytes.{is_token_byte, is_quoted_byte}

@@ -41,7 +41,7 @@ use Rattle.mime_c.proofs.ParameterRoom.{set_comes_back, boundary_comes_back}
 
 -- ---- a value is a media type, or has one fault
 
--- want of memory isn't a fault
+-- `NoMemory` isn't a fault
 fault_is_one : (value : List ℕ) (fault : ParseError) → IsHttpFault value fault → number_of fault ≢ MIME_NO_MEMORY
 fault_is_one value NoMemory is = absurd is.0
 fault_is_one value fault is = λ same. omega (arith, same)

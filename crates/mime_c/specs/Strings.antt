@@ -9,7 +9,7 @@ use Rattle.mime_c.specs.declared.TheConstants.{MIME_GOOD, MIME_BAD}
 abbrev pub string_of : List ℕ → List ℕ
 string_of text = text ++ 0 ∷ []
 
--- texts as strings, one after another
+-- texts as strings in a row
 abbrev pub strings : List (List ℕ) → List ℕ
 strings texts = flat_map string_of texts
 

@@ -27,7 +27,7 @@ plain_x = with_pair (codes "p") (codes "x") (codes "a/b;p=x")
 abbrev pub plain_y : MediaType
 plain_y = with_pair (codes "p") (codes "y") (codes "a/b;p=y")
 
--- a value with another essence
+-- a value with a different essence
 abbrev pub other_value : MediaType
 other_value = record plain_value { essence = codes "a/c" }
 
@@ -47,7 +47,7 @@ equal_values = (
 
 -- ---- order
 
--- a list that begins another comes before it, and else the first items that differ decide; none comes before itself
+-- a list that is a prefix of another is before it; otherwise the first items that differ decide; no list is before itself
 lists_before :
     IsListBefore (λ (x y : ℕ). x < y) [] (1 ∷ [])
     × IsListBefore (λ (x y : ℕ). x < y) (1 ∷ 2 ∷ []) (1 ∷ 3 ∷ [])
@@ -55,7 +55,7 @@ lists_before :
     × ¬ (IsListBefore (λ (x y : ℕ). x < y) (1 ∷ []) [])
 lists_before = (tt, inr (refl, inl (omega arith)), (λ is. is), λ is. is)
 
--- a text that begins another comes before it, and else the first byte in which they differ decides
+-- a text that is a prefix of another is before it; otherwise the first byte in which they differ decides
 texts_before : IsTextBefore (codes "a") (codes "ab") × IsTextBefore (codes "ab") (codes "b")
 texts_before = (inr (refl, tt), inl (omega arith))
 
@@ -82,7 +82,7 @@ lesser_name_first (inl (inl less)) = absurd (omega (arith, less))
 lesser_name_first (inl (inr rest)) = rest.1
 lesser_name_first (inr rest) = differ (codes "q") (codes "p") refl rest.0
 
--- values are ordered by their essences first, and one without parameters comes first
+-- values are ordered by their essences first, and one without parameters is before those with some
 values_before : Before plain_y other_value × Before plain_value plain_x × Before plain_x plain_y
 values_before = (
   inl (inr (refl, inr (refl, inl (omega arith)))),
@@ -136,7 +136,7 @@ texts_of_values = (
 semicolon_counts : ¬ (TextIs plain_value (codes "a/b;"))
 semicolon_counts is = false≢true (is.bare refl)
 
--- a text with another parameter isn't the value
+-- a text with a different parameter isn't the value
 parameter_counts : ¬ (TextIs plain_y (codes "A/B;P=\"x\""))
 parameter_counts is =
     differ (codes "y") (codes "x") refl
@@ -148,11 +148,11 @@ parameter_counts is =
 differ_at_end : FirstDifference (codes "a/b") (codes "A/c") 2
 differ_at_end = record { within = omega arith; within_other = omega arith; equal_before = refl; differ = λ is. absurd (omega (arith, is)) }
 
--- a difference of case alone is none
+-- a difference only in case is none
 case_is_none : ¬ (FirstDifference (codes "a/b") (codes "A/c") 0)
 case_is_none is = is.differ refl
 
--- the end of a text is no difference, and neither is what comes after one
+-- the end of a text is no difference, nor is anything after a difference
 end_is_none : ¬ (FirstDifference (codes "a") (codes "ab") 1)
 end_is_none is = absurd (omega (arith, is.within))
 

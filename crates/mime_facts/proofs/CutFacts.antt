@@ -33,7 +33,7 @@ characters = ((refl, refl), (λ is. is), (λ is. true≢false is.1), λ is. fals
 
 -- ---- a list
 
--- `e,A/B` is `e`, the comma, and what comes after it
+-- `e,A/B` is `e`, the comma, and what follows it
 pub split_at_comma : IsSplit (codes "e,A/B") (codes "e") (codes ",") (codes "A/B")
 unfolding is_token_byte
 split_at_comma =
@@ -120,7 +120,7 @@ written_pieces :
     × (steps_of ((codes "e", codes ",") ∷ []) (codes "A/B") ≡ 5)
 written_pieces = (refl, refl)
 
--- `e,A/B` takes five steps, and no other number of them
+-- `e,A/B` is cut in five steps, and in no other number of them
 pub steps_of_list : TakesSteps (codes "e,A/B") 5
 steps_of_list = record { pieces = (codes "e", codes ",") ∷ []; end = codes "A/B"; cut = pieces_of_list; counted = refl }
 

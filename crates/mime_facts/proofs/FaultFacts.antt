@@ -93,12 +93,12 @@ dead = (
   λ is. absurd (omega (arith, prefix_unique _ 2 1 is.prefix space_in_type.prefix)),
 )
 
--- each rejected text has its fault alone, and none of them is `NoMemory`
+-- each rejected text has only its fault, and none of them is `NoMemory`
 faults : IsFault (codes "invalid") MissingSlash × ¬ (IsFault (codes "a b") MissingSlash) × ¬ (IsFault (codes "A/B") NoMemory)
 faults =
     (no_slash, (λ is. not_viable-at_dead (codes "a b") 1 32 space_in_type (viable-from_lacks (codes "a b") MissingSlash is)), λ is. is.0)
 
--- memory may run out for an accepted text alone, and not for one of 40 bytes
+-- memory may run out only for an accepted text, and not for one of 40 bytes
 memory : Explains text_of_41 NoMemory × ¬ (Explains text_of_40 NoMemory) × ¬ (Explains (text_of_41 ++ codes "/") NoMemory)
 unfolding is_token_byte
 memory = (

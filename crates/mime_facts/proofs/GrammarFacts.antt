@@ -61,7 +61,7 @@ texts = (refl, refl, refl, refl, refl, refl)
 
 -- ---- well-formed trees
 
--- a token has one byte or more, and token bytes alone
+-- a token has one byte or more, and only token bytes
 tokens : AreTokenBytes [] × IsToken (codes "x-a") × ¬ (AreTokenBytes (codes "a b")) × ¬ (IsToken (codes "a b")) × ¬ (IsToken [])
 unfolding is_token_byte
 tokens = (refl, refl, (λ is. false≢true is), (λ is. false≢true is), λ is. is)
@@ -76,7 +76,7 @@ contents = (
   λ is. true≢false (content-closed _ is),
 )
 
--- a plain value isn't empty, and a quoted one may be; after its quotes only spaces may come
+-- a plain value isn't empty, and a quoted one may be; only spaces may follow its quotes
 parameters :
     IsParameter (plain (codes "p") (codes "x"))
     × IsParameter (quoted (codes "p") [] (codes " "))

@@ -28,7 +28,7 @@ reads_longer = reads (codes "a") (codes "bx") no_list (refl, refl, tt)
 abbrev pair_fed : MediaType → List ℕ → List ℕ
 pair_fed value text = concat (media_input value ++ fed.str text)
 
--- a value with a text feeds what no other value feeds with another text, however the two are written together
+-- a value and a text feed what no other value and text feed, even if both write the same bytes in a row
 fed_with_text :
     (pair_fed longer_value (codes "c") ≢ pair_fed plain_value (codes "xc"))
     × (pair_fed plain_x (codes "") ≢ pair_fed plain_value (codes "px"))

@@ -68,7 +68,7 @@ answer_found Accepts law decided = law decided (exact_item ∷ [])
 
 -- ---- a safe value
 
--- a tab, a space, punctuation and bytes past ASCII may stand in a header; line ends, other controls and 127 may not
+-- a tab, a space, punctuation and bytes past ASCII may occur in a header; line ends, other controls and 127 may not
 header_bytes :
     AreHeaderBytes (9 ∷ 32 ∷ 34 ∷ 44 ∷ 59 ∷ 92 ∷ 126 ∷ 128 ∷ 255 ∷ [])
     × (list_any is_quoted_byte (0 ∷ 8 ∷ 10 ∷ 13 ∷ 31 ∷ 127 ∷ 256 ∷ []) ≡ false)

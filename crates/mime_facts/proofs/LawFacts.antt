@@ -1,4 +1,4 @@
--- What each law says of a text: from the law alone, so that one that says less doesn't check.
+-- What each law says of a text, proved from only the law, so that a law that says less doesn't check.
 use Rattle.std.proofs.Common.{◌≡◌, ◌≢◌, ℕ, zero, suc, ◌≤◌, Bool, true, false, ◌⊎◌, inl, inr, IsTrue, List, [], ◌∷◌, ◌++◌, length, Option, Some, None, Result, refl, sym, ap, ◌∙◌, subst, arith, codes}
 use Rattle.std.proofs.lemmas.Bool.{false≢true}
 use Rattle.std.proofs.lemmas.Option.{none-some, same_Some}
@@ -41,7 +41,7 @@ value_of_text law value reads = law (codes "A/B") value plain_value reads reads_
 second_plus : PlusIsLast → (3 ≤ 5) × (slice_get (codes "a/b+c+d") 5 ≡ Some plus_byte) × HasNoPlusFrom (codes "a/b+c+d") 6
 second_plus law = law (codes "a/b+c+d") _ plus_twice
 
--- if a value has no plus, none comes after the subtype's first byte
+-- if a value has no plus, there is none after the subtype's first byte
 none_without_plus : PlusIsLast → HasNoPlusFrom (codes "a/b") 3
 none_without_plus law = law (codes "A/B") plain_value reads_capitals
 

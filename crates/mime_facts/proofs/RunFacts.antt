@@ -130,7 +130,7 @@ steps_dont_fall next = absurd (omega (arith, next.more))
 steps_are_few : ¬ (IsNext (record (begun (codes "a/")) { out_of_memory = true }) None (record (ended_run (codes "a/") 3) { out_of_memory = true }))
 steps_are_few next = absurd (omega (arith, next.few))
 
--- at the end the steps are those that the text takes
+-- at the end the steps are those of the text's cut
 steps_are_exact : ¬ (IsNext (begun (codes "e")) None (ended_run (codes "e") 0))
 steps_are_exact next =
     absurd (omega (arith, takes_unique (codes "e") 0 1 (next.exact refl refl) (takes-viable (codes "e") e_is_viable)))
@@ -153,14 +153,14 @@ ended_stays next = absurd (omega (arith, ap (λ (i : Iteration). i.steps) (next.
 gives_piece : (piece : Bor (List ℕ)) → piece.now ≡ codes "e" → AreGiven (Err (Piece piece) ∷ []) (bad (codes "e") ∷ [])
 gives_piece piece is = subst (λ text. AreGiven (Err (Piece piece) ∷ []) (bad text ∷ [])) is (a_piece piece [] [] none_left)
 
--- a run that gives nothing has no items
+-- a run that yields nothing has no items
 gives_all : (given : List (Result OwnedMedia Bad)) (items : List CutItem) → AreGiven given items → given ≡ [] → items ≡ []
 gives_all given items none_left is = refl
 gives_all given items (a_value mime piece more others are) is = absurd cc
 gives_all given items (a_piece piece more others are) is = absurd cc
 gives_all given items (no_memory piece value others long) is = absurd cc
 
--- a run always gives a media type of 40 bytes
+-- a run always yields a media type of 40 bytes
 gives_short : (given : List (Result OwnedMedia Bad)) (items : List CutItem) → AreGiven given items → given ≡ Err NoMemory ∷ []
     → (value : MediaType) → items ≡ good text_of_40 value ∷ [] → ⊥
 gives_short given items none_left is value short = absurd cc

@@ -112,7 +112,7 @@ quoted_bytes =
     reads (codes "a") (codes "b") (listed (final [] (quoted (codes "p") (195 ∷ 169 ∷ codes ";,") [])))
     (refl, refl, (refl, (refl, IsContent-taken (195 ∷ 169 ∷ codes ";,") refl refl, refl)))
 
--- spaces may follow a quoted value, and a name may come twice
+-- spaces may follow a quoted value, and a name may occur twice
 spaces_after_quotes : Reads (codes "A/B; P=\"x\" ;p=2")
     (media (codes "a/b") 1 None ((codes "p", codes "x") ∷ (codes "p", codes "2") ∷ []) (codes "a/b; p=\"x\" ;p=2"))
 unfolding is_token_byte is_quoted_byte
@@ -149,7 +149,7 @@ value_fault-from_walk text top sub closed n name walked = lacks-from_walk text _
 empty_text : IsFault [] MissingSlash
 empty_text = slash_fault-from_walk [] [] refl
 
--- a type alone
+-- only a type
 pub no_slash : IsFault (codes "invalid") MissingSlash
 unfolding is_token_byte
 no_slash = slash_fault-from_walk (codes "invalid") (codes "invalid") refl
@@ -159,7 +159,7 @@ pub no_subtype : IsFault (codes "text/") MissingSubtype
 unfolding is_token_byte
 no_subtype = subtype_fault-from_walk (codes "text/") (codes "text") refl
 
--- a parameter's name alone
+-- only a parameter's name
 pub no_equals : IsFault (codes "a/b;p") MissingEqual
 unfolding is_token_byte
 no_equals = equal_fault-from_walk (codes "a/b;p") (codes "a") (codes "b") [] [] (codes "p") refl

@@ -25,7 +25,7 @@ differ first second is same = true≢false (sym ((bytes_eq-Decides first second)
 
 -- ---- lowercasing
 
--- capitals alone are lowercased, of ASCII alone
+-- only the capitals of ASCII are lowercased
 capitals_lowered : lowered (64 ∷ 65 ∷ 90 ∷ 91 ∷ 97 ∷ 195 ∷ 137 ∷ []) ≡ 64 ∷ 97 ∷ 122 ∷ 91 ∷ 97 ∷ 195 ∷ 137 ∷ []
 capitals_lowered = refl
 
@@ -141,7 +141,7 @@ exact_item = record { name = codes "p"; name_ignores_case = true; value = codes 
 abbrev pub charset_item : Item
 charset_item = record { name = codes "charset"; name_ignores_case = true; value = codes "x"; value_ignores_case = true }
 
--- each name ignores case, and the value of `charset` alone does
+-- each name ignores case, and of the values only that of `charset` does
 item_of_pair : (item_of (codes "p", codes "X") ≡ exact_item) × (item_of (codes "charset", codes "x") ≡ charset_item)
 item_of_pair = (refl, refl)
 
@@ -165,7 +165,7 @@ low_texts = (
 abbrev IsName : List ℕ → List ℕ → Bool → Type 0
 IsName key name ignores_case = name ≡ key
 
--- the answer of such a key: that of the first item of its name, whatever comes before it, and none if there is no such item
+-- the answer of such a key: that of the first item of its name, whatever precedes it, and none if there is no such item
 first_answers :
     IsFirstAccepted (IsName (codes "charset")) (exact_item ∷ charset_item ∷ []) (Some (codes "x", true))
     × ¬ (IsFirstAccepted (IsName (codes "charset")) (exact_item ∷ charset_item ∷ []) (Some (codes "X", false)))
@@ -184,7 +184,7 @@ first_answers =
 
 -- ---- names, constants and errors
 
--- a name that ignores ASCII case is a text in any case, whichever of them has capitals; another is its bytes alone
+-- a name that ignores ASCII case is a text in any case, whichever of them has capitals; any other name is only its bytes
 names :
     NameIs (codes "text") true (codes "Text")
     × NameIs (codes "Text") true (codes "text")

@@ -1,4 +1,4 @@
--- Lines, rows and errors for which each definition is true, and others for which it is false, so that a page that says less or more doesn't
+-- Lines, rows and errors for which each definition is true, and others for which it is false, so that a definition that says less or more doesn't
 -- check.
 use Rattle.std.proofs.Common.{◌≡◌, ◌*◌, [], ◌∷◌, map, refl, codes}
 use Rattle.mime_io.specs.declared.error.RunError.TheVariants.{Read, Write, TooLong, NoMemory}
@@ -10,7 +10,7 @@ use Rattle.mime_io.specs.Stops.{limit, stop_text}
 no_lines : lines_of [] ≡ []
 no_lines = refl
 
--- byte 10 alone ends one empty line
+-- a single byte 10 ends one empty line
 one_empty_line : lines_of (10 ∷ []) ≡ [] ∷ []
 one_empty_line = refl
 

@@ -1,4 +1,4 @@
--- How lines are cut off one by one.
+-- How lines are cut off.
 use Rattle.std.proofs.Common.{suc, min, ◌-◌, ◌≡◌, ℕ, ◌+◌, ◌<◌, Bool, true, false, cond, not, List, [], ◌∷◌, length, take, drop, refl, ap, ◌∙◌, arith, nat_eq}
 use Rattle.std.specs.List.{position_or_len, onto_first}
 use Rattle.std.proofs.lemmas.List.Sums.{prefix_len-le-length}

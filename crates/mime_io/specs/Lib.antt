@@ -1,4 +1,4 @@
--- the trusted pages
+-- the trusted files
 pub mod Lines
 pub mod Stops
 -- private

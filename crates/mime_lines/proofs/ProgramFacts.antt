@@ -1,4 +1,4 @@
--- Rows, reports and arguments for which each definition is true, and others for which it is false, so that a page that says
+-- Rows, reports and arguments for which each definition is true, and others for which it is false, so that a definition that says
 -- less or more doesn't check.
 use Rattle.std.proofs.Common.{◌≡◌, ℕ, List, [], ◌∷◌, length, refl, sym, ap, ◌∙◌, subst, arith, codes}
 use Rattle.std.proofs.Math.Seq.{take-length}
@@ -50,7 +50,7 @@ rows_of_items = refl
 list_names_a_mode : mode_named (codes "list") ≡ Some Mode.List
 list_names_a_mode = refl
 
--- a mode is named in lowercase alone
+-- a mode is named only in lowercase
 capitals_name_no_mode : mode_named (codes "LIST") ≡ None
 capitals_name_no_mode = refl
 

@@ -1,4 +1,4 @@
--- The rows of a report, as the code adds them one by one.
+-- The rows of a report, as the code adds them.
 use Rattle.std.proofs.Common.{◌≡◌, ℕ, List, [], ◌∷◌, ◌++◌, refl, ap, sym, subst, ◌∙◌, append_assoc, append-nil, ◌≢◌, codes, Result, Ok, Err, OnOk}
 use Rattle.mime.specs.Items.{Item, items_of}
 use Rattle.std.specs.Str.{IsUtf8}
@@ -15,7 +15,7 @@ use Rattle.mime.specs.Faults.{IsFault, Explains}
 use Rattle.mime.specs.declared.scan.fault.ParseError.{ParseError}
 use Rattle.mime.specs.declared.scan.fault.ParseError.TheVariants.{NoMemory}
 
--- the rows of what `Params` gives
+-- the rows of what `Params` yields
 abbrev pub given_rows : List Item → List ℕ
 given_rows [] = []
 given_rows (item ∷ items) = row (codes "param ") (item.name ++ (codes "=" ++ item.value)) ++ given_rows items

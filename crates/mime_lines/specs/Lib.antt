@@ -1,3 +1,3 @@
--- the trusted pages
+-- the trusted files
 pub mod Report
 pub mod Program

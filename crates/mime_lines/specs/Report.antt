@@ -42,7 +42,7 @@ pub data ReportsLine : Mode → List ℕ → List ℕ → Type 0 where
   not_text : {mode : Mode} {line : List ℕ} → ¬ (IsUtf8 line) → ReportsLine mode line (row (codes "not text") [])
   is_text : {mode : Mode} {line rows : List ℕ} → IsUtf8 line → ReportsText mode line rows → ReportsLine mode line rows
 
--- what is written of lines, one after another
+-- what is written of lines in a row
 pub data ReportsLines : Mode → List (List ℕ) → List ℕ → Type 0 where
   no_more : {mode : Mode} → ReportsLines mode [] []
   line_more : {mode : Mode} {line : List ℕ} {lines : List (List ℕ)} {rows more : List ℕ}

@@ -25,11 +25,11 @@ at_byte p b within all =
 pub length-lowered : (text : List ℕ) → length (lowered text) ≡ length text
 length-lowered text = length-map text to_ascii_lowercase
 
--- the text before a position is lowercased alone
+-- the text before a position is lowercased by itself
 pub lowered-take : (n : ℕ) (text : List ℕ) → lowered (take n text) ≡ take n (lowered text)
 lowered-take n text = sym (take-map to_ascii_lowercase n text)
 
--- the text after a position is lowercased alone
+-- the text after a position is lowercased by itself
 pub lowered-drop : (n : ℕ) (text : List ℕ) → lowered (drop n text) ≡ drop n (lowered text)
 lowered-drop n text = sym (drop-map to_ascii_lowercase n text)
 

@@ -16,7 +16,7 @@ use Rattle.mime.proofs.LowercaseLemmas.{lowered-lowered, lowered_value-either, l
 use Rattle.mime.proofs.ValueLemmas.Utf8.{lowered-parts, is_no_letter, stays}
 use Rattle.mime.proofs.ValueLemmas.Parts.{read-low_pairs}
 
--- spaces in another case are spaces
+-- lowercasing leaves spaces as they are
 AreSpaces-case : (bytes other : List ℕ) → lowered other ≡ lowered bytes → AreSpaces bytes → AreSpaces other
 AreSpaces-case = list_all-case is_space (λ b. grind (arith, nat_tests))
 

@@ -81,7 +81,7 @@ accepted_at text value reads some =
     listed_at n no_list is = absurd (some (sym is))
     listed_at n (listed list) is = refl
 
--- the same position and the same number, written in another way
+-- the same position and the same number, written differently
 IsAcceptedAt-same : (text : List ℕ) {end also count number : ℕ} → end ≡ also → count ≡ number → IsAcceptedAt text end count
     → IsAcceptedAt text also number
 IsAcceptedAt-same text {end} {also} {count} {number} ends counts is =
@@ -124,7 +124,7 @@ text_is-by_parts kept text value reads some =
           },
     )
 
--- the kept text in another case is accepted as it is
+-- a text that differs from the kept text only in case is accepted
 pub accepted_at-case : (kept text : List ℕ) (value : MediaType) → Reads kept value → value.pairs ≢ [] → lowered kept ≡ lowered text
     → IsAcceptedAt text (length value.essence) (length value.pairs)
 accepted_at-case kept text value reads some is =
@@ -133,7 +133,7 @@ accepted_at-case kept text value reads some is =
     IsAcceptedAt-same text (ap length (sym found.essence)) (sym counted)
     (accepted_at text found.read found.reads (λ none. some (nil_from_length value.pairs (counted ∙ ap length none))))
 
--- a kept text in another case is equal to the value, where the only parameter is a charset
+-- a text that differs from the kept text only in case is equal to the value, if the only parameter is a charset
 pub text_is-lone_charset : (kept text : List ℕ) (value : MediaType) → Reads kept value → value.pairs ≢ [] → lowered kept ≡ lowered text
     → IsLoneCharset value.pairs → TextIs value text
 text_is-lone_charset kept text value reads some is lone =

@@ -1,4 +1,4 @@
--- A comma ends whatever precedes it, and leaves what comes after it as it is.
+-- A comma ends whatever precedes it, and leaves what follows it as it is.
 use Rattle.std.proofs.Common.{◌≡◌, ℕ, suc, ◌≤◌, List, [], ◌∷◌, ◌++◌, length, take, drop, Some, None, refl, sym, ap, ◌∙◌, subst, arith, inl, inr, append_assoc, length-append}
 use Rattle.std.proofs.lemmas.List.{take-append-le, take-append-drop, take-take}
 use Rattle.std.proofs.lemmas.Bool.{and_parts, cond-false}
@@ -55,7 +55,7 @@ cut_writes_text text items rest (goes_on t p c l first others r split of_piece c
     let (pieces, end, found, spelled, last_is) = cut_writes_text l others r cut in
     ((p, c) ∷ pieces, end, next t p c l pieces end split found, ap (λ t. p ++ (c ++ t)) spelled ∙ sym split.spelled, last_is)
 
--- a text takes one number of steps
+-- a text is cut in one number of steps
 pub one_count : OneCount
 one_count text =
     let has = has_cut text in
@@ -63,7 +63,7 @@ one_count text =
     let takes : TakesSteps text (steps_of pieces end) = record { pieces = pieces; end = end; cut = found; counted = refl } in
     (steps_of pieces end, takes, λ other again. takes_unique text other (steps_of pieces end) again takes)
 
--- ---- what may come before a piece
+-- ---- what may precede a piece
 
 -- a byte that begins no type is passed
 dead-inv : (b : ℕ) (bytes : List ℕ) (rest : Following bytes) (items : List CutItem) (end : List ℕ)

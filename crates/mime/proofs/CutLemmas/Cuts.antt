@@ -102,7 +102,7 @@ split-from_dead prefix bytes b begun rest walked dead = record {
   is_character = (rest.of_class, rest.begins);
 }
 
--- ---- which rule a text takes
+-- ---- which rule applies to a text
 
 -- a text is accepted or rejected
 pub accepted_or_rejected : (text : List ℕ) → IsAccepted text ⊎ IsRejected text
@@ -219,7 +219,7 @@ cut_unique text items rest (goes_on t p c l first own r split of_piece cut) othe
 
 -- ---- the steps
 
--- a split takes a step for each byte of its piece and one for the character
+-- a split counts a step for each byte of its piece and one for the character
 pub takes-split : (text p c l : List ℕ) (n : ℕ) → IsSplit text p c l → TakesSteps l n → TakesSteps text (length p + 1 + n)
 takes-split text p c l n split takes =
     record {
@@ -229,7 +229,7 @@ takes-split text p c l n split takes =
       counted = ap (λ k. length p + 1 + k) takes.counted;
     }
 
--- a viable text takes one for each byte
+-- a viable text counts one for each byte
 pub takes-viable : (text : List ℕ) → IsViable text → TakesSteps text (length text)
 takes-viable text viable = record { pieces = []; end = text; cut = last text viable; counted = refl }
 

@@ -29,7 +29,7 @@ use Rattle.mime.proofs.GrammarLemmas.Viability.{accepted_is_viable, empty_is_via
 
 -- ---- the first character of a text
 
--- what comes after the first character of a text
+-- the rest of a text after its first character
 abbrev IsAfterCharacter : List ℕ → List ℕ → Type 0
 IsAfterCharacter text left = (character : List ℕ) × (text ≡ character ++ left) × IsCharacter character left
 
@@ -55,7 +55,7 @@ follow_to (b ∷ bytes) (suc n) border none =
         ⊎_elim (λ is. is) (λ isnt. absurd (none (omega arith, λ within high. grind (arith, nat_tests, isnt, high))))
         (cases_Bool (is_following_byte b))
 
--- from the first position after a text's first byte where it may be cut on, it is what comes after its first character
+-- the text from the first position after its first byte where it may be cut is the rest after its first character
 after_character : (text : List ℕ) (at : ℕ) → 0 < length text → 1 ≤ at → IsCharBoundary text at
     → ((i : ℕ) → 1 ≤ i → i < at → ¬ (IsCharBoundary text i)) → IsAfterCharacter text (drop at text)
 after_character [] at some past border none = absurd (omega arith)
@@ -156,7 +156,7 @@ border_in_rest text at n border =
     let size = length-drop at text in
     (omega (arith, border.0), λ within high. let lead = border.1 (omega arith) (omega arith) in omega arith)
 
--- from the first position after another where a text may be cut on, it is what comes after the character there
+-- the text from the first position after a given one where it may be cut is the rest after the character there
 after_position : (text : List ℕ) (at end : ℕ) → at < length text → at + 1 ≤ end → IsCharBoundary text end
     → ((i : ℕ) → at + 1 ≤ i → i < end → ¬ (IsCharBoundary text i)) → IsAfterCharacter (drop at text) (drop end text)
 after_position text at end there past border near =

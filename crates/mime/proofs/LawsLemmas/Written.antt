@@ -95,7 +95,7 @@ same_essence one other first second reads again = (
 
 -- ---- the bytes of an accepted text
 
--- no quoted value takes it
+-- it may occur in no quoted value
 unsafe-untaken : (awaiting : Bool) (b : ℕ) → IsFalse (is_quoted_byte b) → IsFalse (takes awaiting b)
 unsafe-untaken true b unsafe = unsafe
 unsafe-untaken false b unsafe = ap (λ t. t && not (b == quote_byte)) unsafe

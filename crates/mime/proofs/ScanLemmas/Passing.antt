@@ -60,7 +60,7 @@ stopped_by byte (Some b) test = ap Some (eqb-true b byte test)
 abbrev pub reader_at : List ℕ → ℕ → ℕ → Remaining
 reader_at text at before = record { left = drop at text; count = before + at }
 
--- all that comes before the first byte that fails a test passes it
+-- all bytes before the first that fails a test pass it
 passes_before : (p : ℕ → Bool) (xs : List ℕ) (n : ℕ) → n ≤ prefix_len p xs → list_all p (take n xs) ≡ true
 passes_before p xs zero within = refl
 passes_before p [] (suc n) within = refl
@@ -115,7 +115,7 @@ reaches_wider {class} {wider} within p = record {
   given = p.given;
 }
 
--- a run, and then another one
+-- a run, and then a second one
 abbrev pub reaches_then : {class : ℕ → Bool} {old mid new : Remaining} {stop : Option ℕ} → Passing class old mid
     → Reaches class mid new stop → Reaches class old new stop
 reaches_then {class} p q = record {

@@ -1,4 +1,4 @@
--- What an accepted text is kept as, and what a kept text gives.
+-- The kept text of an accepted text, and the value of a kept text.
 use Rattle.std.proofs.Common.{◌≡◌, ℕ, ◌+◌, List, [], ◌∷◌, ◌++◌, length, take, drop, Some, refl, sym, ap, ◌∙◌, subst, arith, append-nil, append_assoc, length-append}
 use Rattle.std.specs.Prelude.{slice_get}
 use Rattle.std.proofs.lemmas.List.{take_at, drop_at, take_all, take-append-drop}
@@ -125,7 +125,7 @@ keeps_parts top sub (listed (final n p)) well =
 keeps_parts top sub (listed (more n p rest)) well =
     keeps_as _ (tree_with top sub (listed (more n p rest))) _ well refl (whole_text top sub (more n p rest) well.2) refl
 
--- the same, by the positions that the tree gives
+-- the same, by the positions of the tree
 pub keeps-tree : (tree : SyntaxTree) → IsWellFormed tree
     → Keeps tree (kept_text_of (positions_of tree).pair_count (positions_of tree).semicolon (text_of tree)) (kept_positions (positions_of tree))
 keeps-tree tree well = keeps_parts tree.top tree.sub tree.tail well
@@ -143,7 +143,7 @@ media_whole : (top sub : List ℕ) (list : Parameters) → AreParameters list
 media_whole top sub list well kept =
     cc (kept, take-essence (tree_with top sub (listed list)), pairs_within-text_of top sub list well)
 
--- the value of a kept tree is what its text and its positions give
+-- the value of a kept tree is that of its text and its positions
 media_parts : (top sub : List ℕ) (tail : Tail) → IsTail tail
     → let positions = positions_of (tree_with top sub tail) in kept_positions positions ≡ positions
     → value_of_low (tree_with top sub tail) ≡ media_of (text_of (tree_with top sub tail)) (positions_of (tree_with top sub tail))
@@ -153,7 +153,7 @@ media_parts top sub (listed (blank n)) well holds = absurd (let none = ap (λ (p
 media_parts top sub (listed (final n p)) well holds = media_whole top sub (final n p) well refl
 media_parts top sub (listed (more n p rest)) well holds = media_whole top sub (more n p rest) well refl
 
--- the value of a kept text's tree is what its positions give
+-- the value of a kept text's tree is that of its positions
 pub media_of-kept : (text : List ℕ) (positions : Positions) (is_kept : IsKept text positions)
     → value_of is_kept.has.tree ≡ media_of text positions
 media_of-kept text positions is_kept =
@@ -167,11 +167,11 @@ pub reads_as : {text : List ℕ} {positions : Positions} {value : MediaType} (ha
     → Reads text value
 reads_as has valued = record { tree = has.tree; well_formed = has.well_formed; spelled = has.spelled; valued = valued }
 
--- a kept text reads as the value that it gives
+-- a kept text is read as the value of its parts
 pub reads-from_kept : (text : List ℕ) (positions : Positions) → IsKept text positions → Reads text (media_of text positions)
 reads-from_kept text positions is_kept = reads_as is_kept.has (media_of-kept text positions is_kept)
 
--- a text that keeps a tree gives the tree's value
+-- a text that keeps a tree has the tree's value
 kept_media : (tree : SyntaxTree) (text : List ℕ) (positions : Positions) → Keeps tree text positions → value_of tree ≡ media_of text positions
 kept_media tree text positions keeps = keeps.valued ∙ media_of-kept text positions keeps.is_kept
 
@@ -192,7 +192,7 @@ pub kept-from_positions : (text : List ℕ) (positions : Positions) → HasPosit
     → IsKept (kept_text_of positions.pair_count positions.semicolon text) (kept_positions positions)
 kept-from_positions text positions has = (keeps-accepted text positions has).is_kept
 
--- an accepted text reads as the value that its kept text gives
+-- an accepted text is read as the value of its kept text
 pub kept_reads : (text : List ℕ) (positions : Positions) → HasPositions text positions
     → Reads text (media_of (kept_text_of positions.pair_count positions.semicolon text) (kept_positions positions))
 kept_reads text positions has = reads_as has (kept_media has.tree _ _ (keeps-accepted text positions has))
@@ -204,7 +204,7 @@ kept_is_read text value reads =
     let is = sym reads.valued ∙ kept_media reads.tree _ _ keeps in
     subst (λ (v : MediaType). Reads v.kept v) (sym is) (reads-from_kept _ _ keeps.is_kept)
 
--- the semicolon is at the position that the tree gives
+-- the semicolon is at its position in the tree
 semicolon-there : (top sub : List ℕ) (tail : Tail) (s : ℕ) → semicolon_of (length top + 1 + length sub) tail ≡ Some s
     → slice_get (text_of (tree_with top sub tail)) s ≡ Some semicolon_byte
 semicolon-there top sub no_list s is = absurd cc

@@ -266,7 +266,7 @@ get_or-first_equals : (text : List ℕ) → first_position equals_byte text < le
 get_or-first_equals text within =
     grind (arith, nat_tests, prefix_len_stops (λ b. not (b == equals_byte)) text 0 within)
 
--- the first position of an equals sign isn't that of another byte
+-- the first position of an equals sign isn't that of any other byte
 pub first_equals-other : (text : List ℕ) (n : ℕ) → n < length text → get_or text n 0 ≢ equals_byte → first_position equals_byte text ≢ n
 first_equals-other text n within other is =
     other (subst (λ k. get_or text k 0 ≡ equals_byte) is (eqb-true _ equals_byte (get_or-first_equals text (omega (arith, within, is)))))

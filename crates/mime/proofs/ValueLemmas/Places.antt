@@ -32,7 +32,7 @@ last_plus-from at (b ∷ bytes) = with_rest (last_plus (at + 1) bytes) (last_plu
     with_rest None above =
         cond_both (b == plus_byte) (Some at) None (λ found. IfSome found (λ plus. at ≤ plus)) (λ _. omega arith) (λ _. tt)
 
--- a position from another on isn't 0
+-- a position after a given one isn't 0
 not_zero : (from : ℕ) (found : Option ℕ) → 1 ≤ from → IfSome found (λ position. from ≤ position) → found ≢ Some 0
 not_zero from found above is at_zero = absurd (omega (arith, above, subst (λ f. IfSome f (λ position. from ≤ position)) at_zero is))
 

@@ -20,7 +20,7 @@ use Rattle.mime.proofs.BytesLemmas.{cons_parts}
 use Rattle.std.proofs.lemmas.List.{get_or-take}
 use Rattle.mime_search.specs.Differences.{DifferAt}
 
--- an order finds one thing less than another exactly if that comes before, and finds them equal exactly if they are the same
+-- an order finds one thing less than a second one exactly if the first is before it, and finds them equal exactly if they are the same
 abbrev Finds : {X : Type 0} → (X → X → Ordering) → (X → X → Type 0) → Type 0
 Finds {X} cmp IsLess = (x y : X) → (cmp x y ≡ Less) ↔ IsLess x y
 
@@ -39,7 +39,7 @@ finds_then x y P Q Equal b less equal rest =
 finds_then x y P Q Greater b less equal rest =
     (λ is. inl (less.0 is), ⊎_elim less.1 (λ both. absurd (let e = equal.1 both.0 in cc)))
 
--- the order of lists finds less what comes before, if that of their items does
+-- the order of lists finds less what is before, if that of their items does
 finds_lists : {X : Type 0} (cmp : X → X → Ordering) (IsLess : X → X → Type 0) → Finds cmp IsLess → Exact cmp
     → Finds (slice_cmp cmp) (IsListBefore IsLess)
 finds_lists cmp IsLess finds exact [] [] = (λ is. absurd cc, λ before. absurd before)
@@ -48,7 +48,7 @@ finds_lists cmp IsLess finds exact (x ∷ xs) [] = (λ is. absurd cc, λ before.
 finds_lists cmp IsLess finds exact (x ∷ xs) (y ∷ ys) =
     finds_then x y _ _ (cmp x y) (slice_cmp cmp xs ys) (finds x y) (exact x y) (finds_lists cmp IsLess finds exact xs ys)
 
--- the orders of bytes, of texts, of pairs and of values find which comes before
+-- the orders of bytes, of texts, of pairs and of values find which is before
 finds_bytes : Finds nat_cmp (λ x y. x < y)
 finds_bytes x y =
     (λ is. subst (λ o. MatchOrdering o (x < y) (x ≡ y) (y < x)) is (ranked x y (nat_cmp x y) refl), λ less. sym (nat_cmp_is x y Less less))
@@ -70,7 +70,7 @@ finds_media x y =
     (finds_texts x.essence y.essence) (exact_texts x.essence y.essence)
     (finds_lists pair_cmp IsPairBefore finds_pairs (exact pair_cmp_total (exact_pairs _ _ exact_bytes exact_bytes)) x.pairs y.pairs)
 
--- what the order of values says: the first comes before the second, they are equal, or the second comes first
+-- what the order of values says: the first is before the second, they are equal, or the second is before the first
 pub tells_media : (x y : MediaType) → MatchOrdering (media_cmp x y) (Before x y) (Same x y) (Before y x)
 tells_media x y = go (media_cmp x y) refl
   where
@@ -79,7 +79,7 @@ tells_media x y = go (media_cmp x y) refl
     go Equal is = same_from_cmp x y (ap is_eq is)
     go Greater is = (finds_media y x).0 (media_cmp_total.antisymm y x ∙ ap ordering_reverse is)
 
--- an answer that is the order's tells which value comes before
+-- an answer that is the order's says which value is before
 pub tells_answer : (x y : MediaType) (answer : Ordering) → answer ≡ media_cmp x y
     → MatchOrdering answer (Before x y) (Same x y) (Before y x)
 tells_answer x y answer is = subst (λ order. MatchOrdering order (Before x y) (Same x y) (Before y x)) (sym is) (tells_media x y)
@@ -88,16 +88,16 @@ tells_answer x y answer is = subst (λ order. MatchOrdering order (Before x y) (
 pub equal-media : (x y : MediaType) → Same x y → media_cmp x y ≡ Equal
 equal-media x y same = cc (same.0, same.1, tied_itself media_cmp_total y)
 
--- neither of two equal values comes before the other
+-- neither of two equal values is before the other
 Before-not_same : (x y : MediaType) → Before x y → ¬ (Same x y)
 Before-not_same x y before same = true≢false (ap is_lt (sym ((finds_media x y).1 before) ∙ equal-media x y same))
 
--- of two values one at most comes before the other
+-- at most one of two values is before the other
 Before-not_both : (x y : MediaType) → Before x y → ¬ (Before y x)
 Before-not_both x y before back =
     true≢false (ap is_lt (sym ((finds_media x y).1 before) ∙ media_cmp_total.antisymm x y ∙ ap ordering_reverse ((finds_media y x).1 back)))
 
--- a value before one that comes before a third comes before the third
+-- a value before one that is before a third is before the third
 pub Before-transitive : (x y z : MediaType) → Before x y → Before y z → Before x z
 Before-transitive x y z first second =
     subst (λ o. MatchOrdering o (Before x z) (Same x z) (Before z x))
@@ -188,7 +188,7 @@ module _ {A B : Type 0} (seen : A → B) (eq : A → A → Bool) (agrees : (x y 
   pub same_items : (s t : List B) → ComparesItemsByEq Steps (λ x y. y ≡ x) Steps s t eq r → IsTrue r ↔ (s ≡ t)
   same_items s t d = along d.1 d.2 d.3 d.4 s t d.5 d.6 d.8 (subst (λ j. YieldsThen Steps j d.2 d.4 d.6) d.7 d.9) d.10 d.11
 
--- a list with no pair comes before one with some
+-- a list without pairs is before one with some
 pub none-first : (xs ys : List (List ℕ × List ℕ)) → (length xs ≡ 0) ⊎ (length ys ≡ 0)
     → nat_cmp (length xs) (length ys) ≡ slice_cmp pair_cmp xs ys
 none-first [] [] one = refl

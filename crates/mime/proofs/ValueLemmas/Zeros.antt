@@ -4,7 +4,7 @@ use Rattle.std.specs.Char.{to_ascii_lowercase}
 use Rattle.std.proofs.Math.Nat.{add-sub_of_le}
 use Rattle.std.proofs.lemmas.List.{drop_at, drop-replicate, drop-take, length-take-le, take-append-drop, take-replicate}
 
--- a text copied over the first of so many zeros
+-- a text copied over the first of some zeros
 pub zeros-after : (text copied : List ℕ) (size : ℕ) → copied ≡ text
     → drop (length text) (copied ++ drop (length text) (replicate size 0)) ≡ replicate (size - length text) 0
 zeros-after text copied size same = drop_at copied _ (length text) (ap length same) ∙ drop-replicate (length text) size 0

@@ -1,4 +1,4 @@
--- The text that a value keeps. A page of its own, since it names a type of the code that cites `KeptText`.
+-- The text that a value keeps. A file of its own, since it names a type of the code that cites `KeptText`.
 use Rattle.std.specs.Prelude.{ℕ, List, Bool, true, false, string_bytes}
 use Rattle.mime.specs.declared.value.Text.{Text}
 use Rattle.mime.specs.declared.value.Text.TheVariants.{Owned, Short}

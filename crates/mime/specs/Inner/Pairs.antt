@@ -1,4 +1,4 @@
--- The pairs of a parameter list's text, cut one by one from the left.
+-- The pairs of a parameter list's text, cut from the left.
 use Rattle.std.specs.Prelude.{ℕ, zero, suc, Bool, ◌+◌, ◌-◌, List, [], ◌∷◌, ◌++◌, length, take, drop, Option, None, Some, if◌then◌else◌, ◌==◌}
 use Rattle.std.specs.Borrow.{Bor}
 use Rattle.std.specs.List.{prefix_len, list_any}

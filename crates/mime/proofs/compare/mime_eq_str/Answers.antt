@@ -1,4 +1,4 @@
--- Without parameters case alone may differ; the kept text is the value, and no text without a semicolon after the essence is.
+-- Without parameters only case may differ; the kept text equals the value, and no text with a semicolon after the essence does.
 use Rattle.std.proofs.Common.{◌≢◌, ◌∙◌, [], length, true≢false, sym, ap}
 use Rattle.std.proofs.lemmas.List.{nil_from_length}
 use Rattle.mime.proofs.CompareLemmas.Parts.{text_is-kept_case, text_is-by_parts}

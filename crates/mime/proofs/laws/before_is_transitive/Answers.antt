@@ -1,4 +1,4 @@
--- A value that comes before another comes before all values that come after that one.
+-- If a value is before a second one, and that is before a third, the first is before the third.
 use Rattle.mime.proofs.ValueLemmas.Traits.{Before-transitive}
 use Rattle.mime.proofs.laws.before_is_transitive.Goals as goal
 

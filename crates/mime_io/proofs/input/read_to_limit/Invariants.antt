@@ -1,4 +1,4 @@
--- What is read so far is within the limit, and was taken off the source.
+-- What is read so far is within the limit, and the source has lost it.
 use Rattle.std.proofs.Common.{◌≡◌, ◌+◌, ◌≤◌, ◌-◌, length}
 use Rattle.std.specs.Io.KnownBytes.{Consumes}
 use Rattle.mime_io.specs.Stops.{limit}

@@ -1,4 +1,4 @@
--- A pair that another follows was passed, or three, and at last the last of them.
+-- One quoted pair or three were skipped before a further one, and then the last.
 use Rattle.std.proofs.Common.{◌∙◌, ◌+◌, ◌≤◌, length, arith}
 use Rattle.mime_search.proofs.Quotes.{search_past_pair, search_past_three}
 use Rattle.mime_search.proofs.quoted.after_quoted_pairs.Goals as goal

@@ -1,4 +1,4 @@
--- A byte that is neither a quote nor a backslash is passed, with those after it.
+-- A byte other than a quote and a backslash is skipped, with such bytes after it.
 use Rattle.std.proofs.Common.{arith}
 use Rattle.mime_search.proofs.Quotes.{search_past_plain}
 use Rattle.mime_search.proofs.quoted.content_end.Goals as goal

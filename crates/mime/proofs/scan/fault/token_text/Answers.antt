@@ -1,4 +1,4 @@
--- The pieces written one by one are the whole text.
+-- The pieces that are written make the whole text.
 use Rattle.std.proofs.Common.{◌≡◌, List, [], ◌∷◌, ◌++◌, ℕ, sym, ap, ◌∙◌, subst, codes, Some, append-nil, append_assoc}
 use Rattle.std.specs.List.{FoldsTo, concat}
 use Rattle.std.specs.Fmt.{WritesInCalls, WritesText, ◌++?◌, decimal}

@@ -1,4 +1,4 @@
--- A kept text reads as the value that it gives.
+-- A kept text is read as the value of its parts.
 use Rattle.mime.proofs.ValueLemmas.KeptText.{reads-from_kept}
 use Rattle.mime.proofs.value.Mime.fixed.Goals as goal
 

@@ -1,4 +1,4 @@
--- Where the name ends an equals sign follows, or the list ends: so none is after it alone, and the bytes before may be cut there.
+-- An equals sign follows the name, or the list ends, so the bytes may be cut there.
 use Rattle.std.proofs.Common.{◌≡◌, ◌∙◌, ap, length, get_or, subst, arith}
 use Rattle.std.specs.Prelude.{◌==◌, not}
 use Rattle.std.proofs.lemmas.List.Sums.{prefix_len-le-length}

@@ -1,4 +1,4 @@
--- The lists that the two walks give are the values' pairs.
+-- The two walks yield the lists of the values' pairs.
 use Rattle.std.proofs.Common.{rules, ◌≡◌, ◌∙◌, refl}
 use Rattle.std.proofs.lemmas.Iterator.Consumers.{YieldsList-from_first}
 use Rattle.std.proofs.lemmas.Iterator.Search.{cmp_from_yields_List}

@@ -1,4 +1,4 @@
--- The pairs that the two walks give are the values'.
+-- The two walks yield the values' pairs.
 use Rattle.std.proofs.Common.{◌≡◌, ◌↔◌, ◌∙◌, ℕ, List, IsTrue, sym, ap}
 use Rattle.std.specs.Borrow.{Bor}
 use Rattle.std.specs.Cmp.Lexicographic.{same_text}
