@@ -1,5 +1,5 @@
--- Lines, rows and errors for which each definition is true, and others for which it is false, so that a definition that says less or more doesn't
--- check.
+-- Lines, rows and errors for which each definition is true, and others for which it is false, so that a definition that says less or more
+-- doesn't check.
 use Rattle.std.proofs.Common.{◌≡◌, ◌*◌, [], ◌∷◌, map, refl, codes}
 use Rattle.mime_io.specs.declared.error.RunError.TheVariants.{Read, Write, TooLong, NoMemory}
 use Rattle.std.specs.Prelude.{Some, None}

@@ -1,5 +1,5 @@
--- Rows, reports and arguments for which each definition is true, and others for which it is false, so that a definition that says
--- less or more doesn't check.
+-- Rows, reports and arguments for which each definition is true, and others for which it is false, so that a definition that says less or
+-- more doesn't check.
 use Rattle.std.proofs.Common.{◌≡◌, ℕ, List, [], ◌∷◌, length, refl, sym, ap, ◌∙◌, subst, arith, codes}
 use Rattle.std.proofs.Math.Seq.{take-length}
 use Rattle.std.proofs.lemmas.Option.{slice_get_within}
