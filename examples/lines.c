@@ -1,5 +1,5 @@
 /* SPDX-License-Identifier: MIT */
-/* Prints what the program mime_lines prints, by the calls of include/mime.h alone:
+/* Prints what the program mime_lines prints, only by the calls of include/mime.h:
  *     cc -Iinclude examples/lines.c out/libmime.a -o lines */
 #define _POSIX_C_SOURCE 200809L
 #include "mime.h"

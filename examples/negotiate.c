@@ -11,7 +11,7 @@ enum { OK = 200, BAD_REQUEST = 400, NOT_ACCEPTABLE = 406, UNSUPPORTED_TYPE = 415
 static const char *const types[] = {"text/html; charset=utf-8", "application/json", "text/plain; charset=utf-8"};
 static const char offers[] = "text/html; charset=utf-8, application/json, text/plain; charset=utf-8";
 
-/* The status for an upload: a table in UTF-8 is taken. */
+/* Returns the status for an upload: a table in UTF-8 is accepted. */
 static int check_upload(const char *content_type)
 {
     char out[3 * LONGEST + 2];
@@ -31,7 +31,7 @@ static int check_upload(const char *content_type)
     return strcmp(out, "text/csv") == 0 && is_utf8 ? OK : UNSUPPORTED_TYPE;
 }
 
-/* The status of a reply, and its type. `accept` is null if the request has no such header. */
+/* Returns the status of a reply, and sets its type. `accept` is null if the request has no such header. */
 static int choose(const char *accept, const char **type)
 {
     size_t best;

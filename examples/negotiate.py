@@ -1,6 +1,6 @@
 #!/usr/bin/env python3
 # SPDX-License-Identifier: MIT
-"""What a program in Python sends back, by the Accept header of a request, as negotiate.c and negotiate.rs choose it:
+"""Chooses what a program in Python sends, by the Accept header of a request, as negotiate.c and negotiate.rs do:
 examples/negotiate.py LIBRARY [ACCEPT]"""
 import ctypes
 import os
@@ -12,7 +12,7 @@ OK, NOT_ACCEPTABLE = 0, 10
 
 
 def joined(library, offers):
-    """The offers as a list. One that is empty, or has a comma, isn't one in the list, so each has to be a media type."""
+    """Returns the offers as a list. Each has to be a media type, since one that is empty or has a comma isn't one offer of the list."""
     for offer in offers:
         value, out, found = offer.encode(), ctypes.create_string_buffer(3 * len(offer.encode()) + 2), (ctypes.c_size_t * 7)()
         if library.mime_content_type(value, ctypes.c_size_t(len(value)), out, ctypes.c_size_t(len(out)), found) != OK:
@@ -21,7 +21,7 @@ def joined(library, offers):
 
 
 def choose(library, accept, offers):
-    """The status, and the best of these offers, or None. `accept` is what the request has, or None if it has no such header; several lines
+    """Returns the status, and the best of these offers, or None. `accept` is the header, or None for a request without it. Several lines
     are joined by a comma."""
     best, listed = ctypes.c_size_t(), joined(library, offers)
     answer = library.mime_best(accept, ctypes.c_size_t(len(accept or b"")), listed, ctypes.c_size_t(len(listed)), ctypes.byref(best))

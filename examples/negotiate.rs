@@ -1,5 +1,5 @@
 // SPDX-License-Identifier: MIT
-//! What an ordinary Rust program sends back, by the Accept header of a request, as negotiate.c and negotiate.py choose it:
+//! Chooses what an ordinary Rust program sends, by the Accept header of a request, as negotiate.c and negotiate.py do:
 //!     rustc -O --edition 2024 examples/negotiate.rs -L native=out -l static=mime -o negotiate && ./negotiate [ACCEPT]
 
 use std::ffi::c_char;
@@ -16,7 +16,7 @@ unsafe extern "C" {
     fn mime_best(accept: *const c_char, accept_len: usize, offers: *const c_char, offers_len: usize, best: *mut usize) -> u32;
 }
 
-/// The offers as a list. One that is empty, or has a comma, isn't one in the list, so each has to be a media type.
+/// Returns the offers as a list. Each has to be a media type, since one that is empty or has a comma isn't one offer of the list.
 ///
 /// # Panics
 /// If an offer isn't one.
@@ -33,8 +33,8 @@ fn joined(offers: &[&str]) -> String {
     offers.join(", ")
 }
 
-/// The best of these offers, or the status without one: 406 if the client accepts none, 503 if memory ran out. `accept` is what the request
-/// has, if it has such a header; several lines are joined by a comma.
+/// Returns the best of these offers, or the status: 406 if the client accepts none, 503 if memory ran out. `accept` is the header, or
+/// `None` for a request without it. Several lines are joined by a comma.
 pub fn choose<'o>(accept: Option<&[u8]>, offers: &[&'o str]) -> Result<&'o str, u16> {
     let list = joined(offers);
     let mut best = 0;

@@ -13,7 +13,7 @@ class Found(ctypes.Structure):
 
 
 class Mime:
-    """The calls of a library such as libmime.so.0. A text is a str or bytes. A rejected one is a ValueError."""
+    """The calls of a library such as libmime.so.0. A text is a str or bytes. A rejected text raises a ValueError."""
 
     INVALID_BYTE, NO_MEMORY, NOT_UTF8, NOT_ACCEPTABLE = 6, 7, 8, 10
 
@@ -23,7 +23,7 @@ class Mime:
         self.version = self.library.mime_version().decode()
 
     def read(self, text):
-        """The essence, the parameters as pairs, and the printed media type of a header's value, such as that of Content-Type."""
+        """Returns the essence, the parameters as pairs, and the printed media type of a header's value, such as that of Content-Type."""
         out, found = ctypes.create_string_buffer(3 * len(_bytes(text)) + 2), Found()
         answer = self.library.mime_content_type(*_block(text), out, ctypes.c_size_t(len(out)), ctypes.byref(found))
         self._check(answer, f" at position {found.pos}" if answer in (self.INVALID_BYTE, self.NOT_UTF8) else "")
@@ -31,7 +31,7 @@ class Mime:
         return essence, list(zip(parts[::2], parts[1::2])), printed
 
     def best(self, accept, offers):
-        """The best of these offers for an Accept header, or for a request without one if that is None; or None."""
+        """Returns the best of these offers for an Accept header, or None. For a request without the header, `accept` is None."""
         for offer in offers:
             # An offer that is empty, or has a comma, isn't one in the list.
             try:

@@ -27,8 +27,8 @@ unsafe extern "C" {
     fn mime_answer_text(answer: u32) -> *const c_char;
 }
 
-/// Why a value isn't read: the answer of `mime_content_type`, which include/mime.h explains, and of an invalid byte, or one that isn't part of
-/// valid UTF-8, its position.
+/// Why a value isn't read: the answer of `mime_content_type`, which include/mime.h explains, and the position of an invalid byte, or of the
+/// first byte that isn't part of valid UTF-8.
 #[derive(Debug, PartialEq)]
 pub struct Error {
     pub answer: u32,
