@@ -193,7 +193,7 @@ pub fn mime_eq_str(mime: &Mime, s: &str) -> bool
     if mime.param_count() == 0 {
         return eq_str_ignore_ascii_case(kept, s);
     }
-    // A string with an essence of another length is another value.
+    // A string with an essence of a different length isn't equal.
     if !has_semicolon_at(s, mime.essence_str().len()) {
         return false;
     }

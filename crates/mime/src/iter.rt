@@ -143,9 +143,9 @@ fn read_next_piece<'a>(text: &'a str, from: u128) -> ReadPiece<'a>
 /// A media type whose piece has more than 40 bytes, including white space, allocates once, for its kept text, and so does
 /// its `clone`. Any other doesn't allocate.
 ///
-/// Over `text/html, invalid, a/b; q=1` it yields `text/html`, the bad piece `invalid`, and
-/// `a/b; q=1`. Over `a/b ; q=1` it yields `a/b` and the bad piece `q`, since no space may precede the
-/// semicolon. Over `invalid` alone it yields nothing, since that could still become a media type.
+/// Over `text/html, invalid, a/b; q=1` it yields `text/html`, the bad piece `invalid`, and `a/b; q=1`. Over `a/b ; q=1`
+/// it yields `a/b` and the bad piece `q`, since no space may precede the semicolon. Over `invalid` it yields nothing,
+/// since that could still become a media type.
 #[derive(Drop)]
 pub struct MimeIter<'a> {
     alloc: Global,

@@ -144,9 +144,9 @@ pub fn kept_is_safe()
     ensures { KeptIsSafe }
 {}
 
-/// The essence of a value that was read, with `; `, a token, an equals sign and quoted content in its quotes after
-/// it, is read as the value with that parameter alone: `a/b; P="X"` as `a/b` with the parameter `p`, whose value is
-/// `X` (RFC 7231, 3.1.1.1).
+/// The essence of a value that was read, followed by `; `, a token, an equals sign and quoted content in its quotes, is
+/// read as the value with only that parameter: `a/b; P="X"` as `a/b` with the parameter `p`, whose value is `X` (RFC
+/// 7231, 3.1.1.1).
 #[tactic(auto, using(crate::proofs::LawsLemmas::Written::parameter_is_read))]
 pub fn parameter_is_read()
     ensures { ParameterIsRead }
@@ -253,8 +253,8 @@ pub fn one_count()
     ensures { OneCount }
 {}
 
-/// A comma ends what precedes it, unless that is an open quoted string, and what follows the comma is cut as if it were
-/// alone: `e f, a/b` has the item `a/b`, as `a/b` alone has.
+/// A comma ends what precedes it, unless that is an open quoted string. What follows the comma is cut like a string of
+/// its own: `e f, a/b` has the item `a/b`, as `a/b` has.
 #[tactic(auto, using(crate::proofs::CutLemmas::Containment::comma_contains))]
 pub fn comma_contains()
     ensures { CommaContains }

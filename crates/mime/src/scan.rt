@@ -19,8 +19,8 @@ use crate::bytes::{
 pub use crate::scan::fault::{FromStrError, ParseError};
 pub(crate) use crate::scan::reader::{ByteReader, NEAR};
 
-/// The parts of an accepted string: their positions, in bytes from 0, and the number of its parameters. In this order the byte of another
-/// variant of `Scanned` isn't beside a position, which would then be moved in two parts.
+/// The parts of an accepted string: their positions, in bytes from 0, and the number of its parameters. In this order the byte of any
+/// other variant of `Scanned` isn't beside a position, which would then be moved in two parts.
 #[derive(Clone, Copy)]
 pub(crate) struct Positions {
     /// The plus before the suffix.

@@ -41,7 +41,7 @@ pub fn printed(alloc: Global, text: &str) -> Result<Mime, FromStrError>
     Ok(mime)
 }
 
-/// Returns `true` if a text that is read twice gives equal media types: it does, since it has one reading.
+/// Returns `true` if a text that is read twice is read as equal media types: it is, since it has one reading.
 pub fn reads_alike(alloc: Global, text: &str) -> Result<bool, FromStrError>
     ensures { IfOk result (λ same. same ≡ true) }
 {

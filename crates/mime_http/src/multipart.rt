@@ -105,7 +105,7 @@ fn first_boundary(alloc: Global, mime: &Mime) -> Result<Option<Vec<u8>>, AllocEr
     }
 }
 
-/// Returns the boundary between the parts of a body of any `multipart` type, byte for byte as it stands in the body (RFC 2046, 5.1.1):
+/// Returns the boundary between the parts of a body of any `multipart` type, byte for byte as it is in the body (RFC 2046, 5.1.1):
 /// `a b` for `multipart/mixed; boundary="a b"`. Returns `None` exactly if the type isn't `multipart`, there is no parameter `boundary`,
 /// or what the first one means isn't a boundary, as [`is_boundary`] says.
 ///

@@ -1,4 +1,4 @@
-//! The weights that the ranges of an `Accept` header give to a server's offers.
+//! The weights of a server's offers by the ranges of an `Accept` header.
 
 ghost use Rattle.std.specs.Prelude.{◌≡◌, ◌<◌, [], None, map, length, IfSome, IfOk, IsOk};
 ghost use Rattle.std.specs.Option.{option_cmp};
@@ -121,7 +121,7 @@ fn closest_of(ranges: &[Mime], offer: &Mime) -> Option<(u8, usize, u16, usize)>
     closest.found()
 }
 
-/// Returns the rank of an offer: its weight, then how specific its range is, then how early its range comes.
+/// Returns the rank of an offer: its weight, then how specific its range is, then how early its range is in the header.
 #[inline(always)]
 pub(crate) fn merit(ranges: &[Mime], offer: &Mime) -> (u16, u8, usize, usize)
     ensures { result ≡ merit (map (λ range. range.media) ranges.now) offer.now.media }

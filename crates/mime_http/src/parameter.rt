@@ -161,8 +161,8 @@ fn mime_with(
 }
 
 /// Returns the media type with this parameter in place of those of its name, ignoring ASCII case (RFC 9110, 5.6.6). The other
-/// parameters stay as they are, in their order, and this one comes last. `text/html; charset=utf-8` with the parameter `title` and the
-/// value `a "b"` is `text/html; charset=utf-8; title="a \"b\""`.
+/// parameters stay as they are, in their order, and this one is the last. `text/html; charset=utf-8` with the parameter `title` and
+/// the value `a "b"` is `text/html; charset=utf-8; title="a \"b\""`.
 ///
 /// It returns `None` exactly if the name isn't a token, or the value has a byte that no quoted string can hold: a control character
 /// other than the tab. So neither can inject a parameter, or anything else, into a header.

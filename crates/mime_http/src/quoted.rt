@@ -157,7 +157,7 @@ fn special_from(value: &str, from: usize) -> usize
     at
 }
 
-/// Adds a run of bytes and a backslash. A quote or a backslash alone, as in a row of them, is added together with it.
+/// Adds a run of bytes and a backslash. A single quote or backslash, as in a row of them, is added together with it.
 #[inline(always)]
 fn push_with_backslash(text: &mut String, run: &str) -> Result<(), AllocError>
     ensures { OnOk result (string_bytes text.new ≡ (string_bytes text.old ++ run.now) ++ (backslash_byte ∷ [])) }

@@ -427,7 +427,7 @@ fn an_endless_input_is_too_long(rt: HostRuntime) {
     check_all(&rt, rt.alloc(), &ENDLESS);
 }
 
-/// Bytes to be repeated, which give the same report.
+/// Bytes to be repeated, which have the same report.
 const LETTERS: &[Case<'static>] = &[
     Case {
         mode: Mode::List,

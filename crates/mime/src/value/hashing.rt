@@ -54,7 +54,7 @@ fn number_up_to_seven(rest: &[u8]) -> u64
 }
 
 /// Returns the last word of a part: its bytes after the whole words, `END`, and zeros. It is made as a number, whose lowest
-/// byte is the first: most hashers take a word as a number.
+/// byte is the first, since most hashers hash words as numbers.
 #[inline(always)]
 fn end_word(rest: &[u8]) -> [u8; WORD]
     requires { length rest.now < WORD }

@@ -7,8 +7,8 @@ use crate::value::Mime;
 use std::alloc::{AllocError, Global};
 use std::marker::Model;
 
-/// A text that is known to be the kept text of a media type: the essence of another media type, and parameters after it
-/// (RFC 7231, 3.1.1.1). The code that makes one proves this, so the text isn't read again. It is for the crates of this
+/// A text that is known to be the kept text of a media type: the essence of `like`, and parameters after it (RFC 7231,
+/// 3.1.1.1). The code that makes one proves this, so the text isn't read again. It is for the crates of this
 /// repository, such as `mime_http`: what has to be proved is `IsKnown`, in a private file, which may change within 1.x.
 ///
 /// `text/html; charset=utf-8` with 1 parameter is one, if `like` was read from `Text/HTML`. `text/html; charset=UTF-8`
