@@ -116,7 +116,6 @@ fn read_written(alloc: Global, text: &[u8]) -> Result<Mime, FieldError>
 }
 
 /// Reads a value of which so many bytes are written anew, more than 40.
-#[inline(never)]
 fn read_in_block(alloc: Global, value: &str, len: usize) -> Result<Mime, FieldError>
     requires { (parts : Parts) × (answer_of value.now ≡ read parts) × (length (text_of_parts parts) ≡ len) × (40 < len) }
     ensures read { IfOk result (λ mime. (parts : Parts) × (answer_of value.now ≡ read parts) × (mime.media ≡ media_of parts)) }
@@ -131,63 +130,23 @@ fn read_in_block(alloc: Global, value: &str, len: usize) -> Result<Mime, FieldEr
     }
 }
 
-/// Reads anew a value that the library rejects without the white space around it: returns its media type, or its fault. It doesn't
-/// allocate if at most 40 bytes are printed; else it allocates a block for them and one for what is read of them.
-fn read_anew(alloc: Global, value: &str) -> Result<Mime, FieldError>
-    requires { ¬ (IsAccepted (trimmed value.now)) }
-    ensures http { IfOk result (λ mime. HttpReads value.now mime.media × IsPrinted value.now mime.media) }
-    ensures explained { IfErr result (λ error. HttpExplains value.now error) }
-{
-    let mut room = [0u8; 40];
-    let len = match write_anew(value.as_bytes(), &mut room) {
-        Ok(len) => len,
-        Err(fault) => return Err(FieldError::Invalid(fault)),
-    };
-    if len <= 40 {
-        return read_written(alloc, &room[..len]);
-    }
-    read_in_block(alloc, value, len)
-}
-
-/// Reads a value for which the library's memory ran out, without memory: if it has no parameters, and an essence of at most 40 bytes, which
-/// is what is printed then.
-fn read_essence(alloc: Global, value: &str) -> Result<Mime, FieldError>
-    requires accepted { IsAccepted (trimmed value.now) }
-    requires long { 40 < length (trimmed value.now) }
-    ensures http { IfOk result (λ mime. HttpReads value.now mime.media × IsPrinted value.now mime.media) }
-    ensures explained { IfErr result (λ error. HttpExplains value.now error) }
-{
-    let mut room = [0u8; 40];
-    let Ok(len) = write_anew(value.as_bytes(), &mut room) else {
-        return Err(FieldError::NoMemory);
-    };
-    if len > 40 {
-        return Err(FieldError::NoMemory);
-    }
-    let mime = read_written(alloc, &room[..len])?;
-    if mime.essence_str().len() < len {
-        return Err(FieldError::NoMemory);
-    }
-    Ok(mime)
-}
-
 /// The fault of a value which the library rejects for this one without the white space around it, if that tells it: where the library
 /// stops, HTTP goes on at white space and at a semicolon alone, and at the end it lacks the same, if no white space stands there.
 fn same_fault(value: &[u8], fault: ParseError) -> Option<ParseError>
     requires { Explains (trimmed value.now) fault }
     ensures { IfSome result (λ same. IsHttpFault value.now same) }
 {
-    let text = trim_start(value);
     match fault {
         ParseError::NoMemory => None,
         ParseError::InvalidToken { pos, byte } => {
             if is_space(byte) || byte == b';' {
                 return None;
             }
-            let pos = value.len() - text.len() + pos;
+            let pos = value.len() - trim_start(value).len() + pos;
             Some(ParseError::InvalidToken { pos, byte })
         }
         _ => {
+            let text = trim_start(value);
             if trim_end(text).len() < text.len() {
                 return None;
             }
@@ -196,24 +155,53 @@ fn same_fault(value: &[u8], fault: ParseError) -> Option<ParseError>
     }
 }
 
-/// Reads a value that the library rejects without the white space around it, for this fault, or for which its memory ran out. It isn't
-/// inlined, so that reading one that the library accepts stays short.
-#[inline(never)]
+/// Reads a value that the library rejects without the white space around it, for this fault, or for which its memory ran out. The result is
+/// taken apart, so that reading a value that the library accepts makes no room for it.
+#[inline(always)]
 pub(crate) fn read_rejected(
     alloc: Global,
     value: &str,
-    fault: ParseError,
+    fault: &ParseError,
 ) -> Result<Mime, FieldError>
-    requires { Explains (trimmed value.now) fault }
+    requires { Explains (trimmed value.now) fault.now }
     ensures http { IfOk result (λ mime. HttpReads value.now mime.media × IsPrinted value.now mime.media) }
     ensures explained { IfErr result (λ error. HttpExplains value.now error) }
 {
+    match read_other(alloc, value, fault) {
+        Ok(mime) => Ok(mime),
+        Err(error) => Err(error),
+    }
+}
+
+/// Reads what `read_rejected` reads. It doesn't allocate if at most 40 bytes are printed; else it allocates a block for them and one for
+/// what is read of them. A value for which memory ran out is printed as its essence, if it has no parameters.
+#[inline(never)]
+fn read_other(alloc: Global, value: &str, fault: &ParseError) -> Result<Mime, FieldError>
+    requires { Explains (trimmed value.now) fault.now }
+    ensures http { IfOk result (λ mime. HttpReads value.now mime.media × IsPrinted value.now mime.media) }
+    ensures explained { IfErr result (λ error. HttpExplains value.now error) }
+{
+    if let Some(fault) = same_fault(value.as_bytes(), *fault) {
+        return Err(FieldError::Invalid(fault));
+    }
+    let mut room = [0u8; 40];
+    let len = match write_anew(value.as_bytes(), &mut room) {
+        Ok(len) => len,
+        Err(fault) => return Err(FieldError::Invalid(fault)),
+    };
+    if len > 40 {
+        return match fault {
+            ParseError::NoMemory => Err(FieldError::NoMemory),
+            _ => read_in_block(alloc, value, len),
+        };
+    }
+    let mime = match read_written(alloc, &room[..len]) {
+        Ok(mime) => mime,
+        Err(error) => return Err(error),
+    };
     match fault {
-        ParseError::NoMemory => read_essence(alloc, value),
-        _ => match same_fault(value.as_bytes(), fault) {
-            Some(fault) => Err(FieldError::Invalid(fault)),
-            None => read_anew(alloc, value),
-        },
+        ParseError::NoMemory if mime.essence_str().len() < len => Err(FieldError::NoMemory),
+        _ => Ok(mime),
     }
 }
 
@@ -259,9 +247,8 @@ pub fn content_type(alloc: Global, value: &[u8]) -> Result<Mime, FieldError>
             return Err(FieldError::NotUtf8 { pos });
         }
     };
-    let fault = match Mime::from_str(alloc, trimmed(text)) {
-        Ok(mime) => return Ok(mime),
-        Err(error) => *error.fault(),
-    };
-    read_rejected(alloc, text, fault)
+    match Mime::from_str(alloc, trimmed(text)) {
+        Ok(mime) => Ok(mime),
+        Err(error) => read_rejected(alloc, text, error.fault()),
+    }
 }

@@ -28,12 +28,12 @@ around value text is =
 
 pub overflow_sub-pos : goal.overflow_sub-pos
 overflow_sub-pos c =
-    let it = around c.args.value.now c.trim_start-text.result.now c.trim_start-text.ensures in omega (arith, it.begin)
+    let it = around c.args.value.now c.trim_start.result.now c.trim_start.ensures in omega (arith, it.begin)
 
 pub overflow_add-pos : goal.overflow_add-pos
 overflow_add-pos c =
     let value = c.args.value.now in
-    let it = around value c.trim_start-text.result.now c.trim_start-text.ensures in
+    let it = around value c.trim_start.result.now c.trim_start.ensures in
     let pos = c.in-InvalidToken.pos in
     let byte = c.in-InvalidToken.byte in
     let dead : IsDeadAt (trimmed value) pos byte = subst (Explains (trimmed value)) c.in-InvalidToken.is c.requires in
@@ -42,12 +42,12 @@ overflow_add-pos c =
 pub returns-else-byte-eq59 : goal.returns-else-byte-eq59
 returns-else-byte-eq59 c =
     let value = c.args.value.now in
-    let it = around value c.trim_start-text.result.now c.trim_start-text.ensures in
+    let it = around value c.trim_start.result.now c.trim_start.ensures in
     let pos = c.in-InvalidToken.pos in
     let byte = c.in-InvalidToken.byte in
     let dead : IsDeadAt (trimmed value) pos byte = subst (Explains (trimmed value)) c.in-InvalidToken.is c.requires in
-    let begin : length it.before ≡ length value - length c.trim_start-text.result.now = omega (arith, it.begin) in
-    subst (λ text. IsHttpFault text (InvalidToken (length value - length c.trim_start-text.result.now + pos) byte)) (sym it.whole)
+    let begin : length it.before ≡ length value - length c.trim_start.result.now = omega (arith, it.begin) in
+    subst (λ text. IsHttpFault text (InvalidToken (length value - length c.trim_start.result.now + pos) byte)) (sym it.whole)
     (subst (λ n. IsHttpFault (it.before ++ (trimmed value ++ it.after)) (InvalidToken (n + pos) byte)) begin
     (same_byte it.before (trimmed value) it.after pos byte it.white dead
     (sym c.is_space.ensures ∙ c.if-is_space.false) c.if-byte-eq59.false))
