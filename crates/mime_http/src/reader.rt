@@ -10,7 +10,7 @@ use crate::list::is_space;
 use mime::{ParseError, is_quoted_byte, is_quoted_text_byte, is_token};
 use mime_search::{Class, Range, copy_bytes, first_stop, first_stop_far};
 
-/// All but the letters, digits, hyphens and dots, which most bytes of tokens are.
+/// All bytes except letters, digits, hyphens and dots, which are most bytes of tokens.
 static TOKEN_STOPS: Class = Class {
     fold: 0x20,
     folded: Range(b'a', b'z'),
@@ -19,7 +19,7 @@ static TOKEN_STOPS: Class = Class {
     inside: false,
 };
 
-/// All but the bytes of quoted text in ASCII, without the tab.
+/// All bytes except those of quoted text in ASCII; but the tab, too.
 static TEXT_STOPS: Class = Class {
     fold: 0,
     folded: Range(b'#', b'['),
@@ -38,7 +38,7 @@ fn spaces_end(value: &[u8], from: usize) -> usize
     ensures within { result ≤ length value.now }
 {
     let mut at = from;
-    // The short way for no white space.
+    // Most positions have no white space.
     if at < value.len() && value[at] > b' ' {
         return at;
     }
@@ -119,7 +119,7 @@ fn fault_at(value: &[u8], pos: usize, missing: ParseError) -> ParseError
     }
 }
 
-/// Returns the position after the byte that a backslash at a position pairs, or the fault.
+/// Returns the position after the quoted pair whose backslash is at a position, or the fault.
 fn quoted_pair_end(value: &[u8], backslash: usize) -> Result<usize, ParseError>
     requires within { backslash < length value.now }
     requires first { slice_index value.now backslash ≡ backslash_byte }
@@ -255,7 +255,7 @@ fn parameter_at(value: &[u8], name: usize) -> Result<Spans, ParseError>
     value_at(value, equals + 1)
 }
 
-/// Returns where the essence of a value begins and ends, or the fault.
+/// Returns the positions at which the essence of a value begins and ends, or the fault.
 fn essence(value: &[u8]) -> Result<(usize, usize), ParseError>
     ensures { MatchResult result (λ ends. IsEssenceAt value.now ends.0 ends.1) (λ fault. answer_of value.now ≡ rejected fault) }
 {
@@ -275,7 +275,7 @@ fn essence(value: &[u8]) -> Result<(usize, usize), ParseError>
     Ok((top, end))
 }
 
-/// Writes bytes into a buffer after `len` others, if they fit, and returns how many bytes there are then.
+/// Writes bytes into a buffer after `len` others, if they fit, and returns the number of all bytes.
 fn put(room: &mut [u8], len: usize, bytes: &[u8]) -> usize
     requires { len + length bytes.now < 2 ^ 64 }
     ensures holds { (text : List ℕ) → Holds room.old len text → Holds room.new result (text ++ bytes.now) }
@@ -310,7 +310,7 @@ fn put_parameter(room: &mut [u8], len: usize, value: &[u8], name: usize, spans: 
 }
 
 /// Writes the media type of a value anew, as far as there is room: its essence, and each parameter as `with_parameter` writes it. Returns
-/// how many bytes that takes, or the fault of a value that HTTP doesn't allow. It doesn't allocate.
+/// the number of its bytes, or the fault of a value that HTTP doesn't allow. It doesn't allocate.
 pub(crate) fn write_anew(value: &[u8], room: &mut [u8]) -> Result<usize, ParseError>
     ensures answer { MatchResult result
         (λ len. (parts : Parts) × (answer_of value.now ≡ read parts) × Holds room.new len (text_of_parts parts))

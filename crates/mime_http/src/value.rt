@@ -100,14 +100,14 @@ fn trimmed(text: &str) -> &str
     unsafe { str::from_utf8_unchecked(left) }
 }
 
-/// Reads what is written anew of a value. It doesn't allocate for at most 40 bytes.
+/// Reads the text of a value that was written anew. It doesn't allocate for at most 40 bytes.
 fn read_written(alloc: Global, text: &[u8]) -> Result<Mime, FieldError>
     requires { (value : List ℕ) × (parts : Parts) × IsUtf8 value × (answer_of value ≡ read parts) × (text.now ≡ text_of_parts parts) }
     ensures read { (value : List ℕ) (parts : Parts) → answer_of value ≡ read parts → text.now ≡ text_of_parts parts
         → IfOk result (λ mime. mime.media ≡ media_of parts) }
     ensures memory { IfErr result (λ error. (error ≡ FieldError.NoMemory) × (40 < length text.now)) }
 {
-    // SAFETY: what is written of a text is a text.
+    // SAFETY: what is written anew of UTF-8 is UTF-8.
     let text = unsafe { str::from_utf8_unchecked(text) };
     match Mime::from_str(alloc, text) {
         Ok(mime) => Ok(mime),
@@ -115,7 +115,7 @@ fn read_written(alloc: Global, text: &[u8]) -> Result<Mime, FieldError>
     }
 }
 
-/// Reads a value of which so many bytes are written anew, more than 40.
+/// Reads a value of which `len` bytes are written anew, more than 40.
 fn read_in_block(alloc: Global, value: &str, len: usize) -> Result<Mime, FieldError>
     requires { (parts : Parts) × (answer_of value.now ≡ read parts) × (length (text_of_parts parts) ≡ len) × (40 < len) }
     ensures read { IfOk result (λ mime. (parts : Parts) × (answer_of value.now ≡ read parts) × (mime.media ≡ media_of parts)) }
@@ -130,8 +130,9 @@ fn read_in_block(alloc: Global, value: &str, len: usize) -> Result<Mime, FieldEr
     }
 }
 
-/// The fault of a value which the library rejects for this one without the white space around it, if that tells it: where the library
-/// stops, HTTP goes on at white space and at a semicolon alone, and at the end it lacks the same, if no white space stands there.
+/// Returns the fault of a value, if it follows from the one for which `mime` rejects the value without the white space around it.
+/// Where `mime` stops, HTTP goes on only at white space and at a semicolon. At the end the same is missing, if no white space is
+/// there.
 fn same_fault(value: &[u8], fault: ParseError) -> Option<ParseError>
     requires { Explains (trimmed value.now) fault }
     ensures { IfSome result (λ same. IsHttpFault value.now same) }
@@ -155,8 +156,8 @@ fn same_fault(value: &[u8], fault: ParseError) -> Option<ParseError>
     }
 }
 
-/// Reads a value that the library rejects without the white space around it, for this fault, or for which its memory ran out. The result is
-/// taken apart, so that reading a value that the library accepts makes no room for it.
+/// Reads a value that `mime` rejects for this fault without the white space around it, or for which memory ran out. The result is taken
+/// apart, so that reading a value that `mime` accepts makes no room for it.
 #[inline(always)]
 pub(crate) fn read_rejected(
     alloc: Global,
@@ -174,7 +175,7 @@ pub(crate) fn read_rejected(
 }
 
 /// Reads what `read_rejected` reads. It doesn't allocate if at most 40 bytes are printed; else it allocates a block for them and one for
-/// what is read of them. A value for which memory ran out is printed as its essence, if it has no parameters.
+/// the media type. A value for which memory ran out is printed as its essence, if it has no parameters.
 #[inline(never)]
 fn read_other(alloc: Global, value: &str, fault: &ParseError) -> Result<Mime, FieldError>
     requires { Explains (trimmed value.now) fault.now }
@@ -225,15 +226,15 @@ fn read_other(alloc: Global, value: &str, fault: &ParseError) -> Result<Mime, Fi
 /// 40 bytes are printed.
 #[inline(always)]
 pub fn content_type(alloc: Global, value: &[u8]) -> Result<Mime, FieldError>
-    // The result is the media type that HTTP defines,
+    // The result is the media type that HTTP defines.
     ensures http { IfOk result (λ mime. IsUtf8 value.now × HttpReads value.now mime.media) }
-    // with the text that is printed of the value.
+    // It prints the text that is printed for the value.
     ensures kept { IfOk result (λ mime. IsPrinted value.now mime.media) }
-    // An error is where the value isn't UTF-8, or its fault, or says that memory ran out.
+    // An error is the position at which the value isn't UTF-8, its fault, or `NoMemory`.
     ensures explained { IfErr result (λ error. HttpExplains value.now error) }
-    // So what HTTP allows, in UTF-8, is read, or memory ran out,
+    // So a value that HTTP allows, in UTF-8, is read, or memory ran out.
     ensures accepted { IsUtf8 value.now → IsHttpMediaType value.now → IfErr result (λ error. error ≡ FieldError.NoMemory) }
-    // and `*/*` is always read, as is what is printed in at most 40 bytes.
+    // `*/*` is always read, and so is a value of which at most 40 bytes are printed.
     ensures star { value.now ≡ codes "*/*" → IsOk result }
     ensures short { (media : MediaType) → IsUtf8 value.now → HttpReads value.now media → IsPrinted value.now media → length media.kept ≤ 40
         → IsOk result }
