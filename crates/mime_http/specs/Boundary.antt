@@ -1,4 +1,4 @@
--- What may be between the parts of a multipart body (RFC 2046, 5.1.1).
+-- The boundary between the parts of a multipart body (RFC 2046, 5.1.1).
 use Rattle.std.specs.Prelude.{◌≡◌, ◌≢◌, ◌≤◌, ◌-◌, ℕ, Bool, List, Some, ◌||◌, ◌==◌, IsTrue, IsSomeAnd, codes, length, option_map, slice_get}
 use Rattle.std.specs.List.{list_all, list_any}
 use Rattle.std.specs.Char.{is_ascii_alphanumeric}

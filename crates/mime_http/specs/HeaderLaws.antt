@@ -7,7 +7,7 @@ use Rattle.mime_http.specs.HttpMediaType.{HttpReads, IsHttpMediaType}
 use Rattle.mime_http.specs.HttpList.{IsPrinted}
 use Rattle.mime_http.specs.HttpFaults.{IsHttpFault}
 
--- What the library reads, HTTP allows, and it is read as the same media type.
+-- HTTP allows whatever `mime` reads, as the same media type.
 abbrev pub PlainIsHttp : Type 0
 PlainIsHttp = (value : List ℕ) (media : MediaType) → Reads value media → HttpReads value media
 
@@ -15,13 +15,13 @@ PlainIsHttp = (value : List ℕ) (media : MediaType) → Reads value media → H
 abbrev pub OneHttpReading : Type 0
 OneHttpReading = (value : List ℕ) (first second : MediaType) → HttpReads value first → HttpReads value second → Same first second
 
--- One text is printed of each value.
+-- Each value has one printed text.
 abbrev pub OnePrintedText : Type 0
 OnePrintedText =
     (value : List ℕ) (first second : MediaType) → HttpReads value first → IsPrinted value first → HttpReads value second
     → IsPrinted value second → first ≡ second
 
--- What is printed of a value is read as the same media type, with the same text, by the library, and so as HTTP.
+-- The printed text of a value is read by `mime`, and so by HTTP's grammar, as the same media type, with the same text.
 abbrev pub PrintedIsRead : Type 0
 PrintedIsRead =
     (value : List ℕ) (media : MediaType) → HttpReads value media → IsPrinted value media

@@ -1,5 +1,5 @@
--- How a header's value is rejected: which values may still become a media type that HTTP allows, up to where a value may, and its
--- one fault. This is as in the library's file `Faults`, with `IsHttpMediaType` for accepted.
+-- Why a header's value is rejected: which values may still become a media type that HTTP allows, the longest prefix that may, and its
+-- one fault. This is as in the file `Faults` of `mime`, with `IsHttpMediaType` for accepted.
 use Rattle.std.specs.Prelude.{◌≡◌, ℕ, ◌<◌, ◌≤◌, List, ◌++◌, length, take, slice_get, Some, MatchOption, ⊤}
 use Rattle.std.specs.Str.{IsUtf8, IsValidUpTo}
 use Rattle.mime.specs.Values.{MediaType}
@@ -45,7 +45,7 @@ pub record NeedsMemory (value : List ℕ) : Type 0 where
   pub printed : IsPrinted value media
   pub long : 40 < length media.kept
 
--- why reading a value fails: from where on it isn't UTF-8, or by its fault, or out of memory
+-- why reading a value fails: the position at which it isn't UTF-8, its fault, or that memory ran out
 abbrev pub HttpExplains : List ℕ → FieldError → Type 0
 HttpExplains value (NotUtf8 pos) = ¬ (IsUtf8 value) × IsValidUpTo value pos
 HttpExplains value (Invalid fault) = IsUtf8 value × IsHttpFault value fault

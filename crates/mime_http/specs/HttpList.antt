@@ -1,5 +1,5 @@
--- What a header holds whose lines are lists of media types (RFC 9110, 5.6.1.2 and 12.5.1), or any lines at all: the ranges and the bad
--- entries; and what is printed of a media type. OWS (5.6.3) is the library's `AreSpaces`.
+-- The ranges and the bad entries of a header's lines, which are lists of media types (RFC 9110, 5.6.1.2 and 12.5.1) or any others; and what
+-- is printed for a media type. OWS (5.6.3) is the `AreSpaces` of `mime`.
 use Rattle.std.specs.Prelude.{◌≡◌, ℕ, Bool, false, List, [], ◌∷◌, ◌++◌, ◌==◌, ◌&&◌, IsFalse, if◌then◌else◌, codes}
 use Rattle.std.specs.List.{list_all}
 use Rattle.std.specs.Str.{IsUtf8}
@@ -9,7 +9,7 @@ use Rattle.mime.specs.Values.{MediaType, Reads, IsAccepted}
 use Rattle.mime_http.specs.HttpMediaType.{HttpReads, IsHttpMediaType}
 use Rattle.mime_http.specs.Written.{with_pairs}
 
--- the lines of a header that a request has, if only empty ones, or else one that accepts everything (12.5.1)
+-- the lines of a header; for a request without the header, one line that accepts everything (12.5.1)
 abbrev pub lines_or_any : List (List ℕ) → List (List ℕ)
 lines_or_any [] = codes "*/*" ∷ []
 lines_or_any (line ∷ lines) = line ∷ lines
@@ -34,15 +34,15 @@ trim_end (b ∷ bytes) = if list_all is_space (b ∷ bytes) then [] else b ∷ t
 abbrev pub trimmed : List ℕ → List ℕ
 trimmed bytes = trim_end (trim_start bytes)
 
--- What is printed of a value that is this media type. If the library accepts the value without the white space around it, that is printed
--- as the library prints it; if not, the value is printed anew: its essence, and each parameter after a semicolon and a space.
+-- What is printed for a value that is this media type. If `mime` accepts the value without the white space around it, that is printed as
+-- `mime` prints it; if not, the value is printed anew: its essence, and each parameter after a semicolon and a space.
 pub data IsPrinted : List ℕ → MediaType → Type 0 where
   as_it_stands : (value : List ℕ) (media : MediaType) → Reads (trimmed value) media → IsPrinted value media
   anew : (value : List ℕ) (media : MediaType) → ¬ (IsAccepted (trimmed value)) → media ≡ with_pairs media media.pairs
       → IsPrinted value media
 
--- what texts are, in their order: white space alone is nothing, OWS media-type OWS in UTF-8 is a range, and any other is bad as a whole.
--- A range is printed as the value of a header is that has one media type
+-- what texts are, in their order: only white space is nothing, OWS media-type OWS in UTF-8 is a range, and any other text is a bad entry.
+-- A range is printed like the value of a header with one media type
 pub data AreSorted : List (List ℕ) → List MediaType → List (List ℕ) → Type 0 where
   no_text : AreSorted [] [] []
   blank : (text : List ℕ) (texts : List (List ℕ)) (ranges : List MediaType) (bad : List (List ℕ)) → AreSpaces text
@@ -52,7 +52,7 @@ pub data AreSorted : List (List ℕ) → List MediaType → List (List ℕ) → 
   a_bad : (text : List ℕ) (texts : List (List ℕ)) (ranges : List MediaType) (bad : List (List ℕ)) → ¬ (AreSpaces text)
       → ¬ (IsUtf8 text × IsHttpMediaType text) → AreSorted texts ranges bad → AreSorted (text ∷ texts) ranges (trimmed text ∷ bad)
 
--- what stands between a string's quotes, of any bytes: a backslash hides the byte after it, and no quote is bare
+-- what is between a string's quotes, of any bytes: a quote occurs only in a quoted pair
 pub data IsInString : List ℕ → Type 0 where
   string_end : IsInString []
   string_byte : (b : ℕ) (content : List ℕ) → IsFalse (b == quote_byte) → IsFalse (b == backslash_byte) → IsInString content

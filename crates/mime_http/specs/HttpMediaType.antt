@@ -1,5 +1,5 @@
 -- A header's value that is one media type, as HTTP defines it (RFC 9110, 8.3.1 and 5.6.6), and what it is read as. Above each definition
--- is its rule. OWS, token and the content of a quoted string (5.6.2 to 5.6.4) are the library's `AreSpaces`, `IsToken`, `IsContent`.
+-- is its rule. OWS, token and the content of a quoted string (5.6.2 to 5.6.4) are `AreSpaces`, `IsToken` and `IsContent` of `mime`.
 use Rattle.std.specs.Prelude.{◌≡◌, ℕ, ◌+◌, List, [], ◌∷◌, ◌++◌, length, drop}
 use Rattle.mime.specs.Bytes.{slash_byte, semicolon_byte, equals_byte, quote_byte}
 use Rattle.mime.specs.Grammar.{AreSpaces, IsToken, IsContent}

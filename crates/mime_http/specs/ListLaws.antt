@@ -12,7 +12,7 @@ OneCut =
     (lines : List (List ℕ)) → (pieces : List (List ℕ)) × AreBetweenCommas IsPiece BeginsPiece lines pieces
     × ((other : List (List ℕ)) → AreBetweenCommas IsPiece BeginsPiece lines other → other ≡ pieces)
 
--- texts that are elements, each a media range with its weight, or white space alone
+-- texts that are elements, each a media range with its weight, or only white space
 pub data AreElements : List (List ℕ) → List MediaType → Type 0 where
   no_text : AreElements [] []
   nothing : (text : List ℕ) (texts : List (List ℕ)) (media : List MediaType) → AreSpaces text → AreElements texts media

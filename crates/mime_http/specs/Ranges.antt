@@ -1,4 +1,4 @@
--- Which weight the ranges of an `Accept` header give an offer, and which offer is the best (RFC 9110, 12.4.2 and 12.5.1).
+-- The weight of an offer by the ranges of an `Accept` header, and the best offer (RFC 9110, 12.4.2 and 12.5.1).
 use Rattle.std.specs.Prelude.{◌≡◌, ◌⊎◌, ◌↔◌, ◌<◌, ℕ, ◌-◌, Bool, List, ◌++◌, length, Option, Some, None, IsTrue, Contains, option_map, unwrap_or, map, filter, filter_map, find, position, slice_index_or, nat_lt, not, ◌&&◌, if◌then◌else◌, codes}
 use Rattle.std.specs.List.{list_all, list_any, enumerate_from, AllPairs}
 use Rattle.std.specs.Ordering.{is_gt, is_le, nat_cmp, on, then_cmp}
@@ -51,12 +51,12 @@ abbrev pub closest : List MediaType → MediaType → Option Rank
 closest ranges offer =
     let all = filter_map (closeness offer) (enumerate_from 0 ranges) in find (λ one. list_all (λ other. is_le (rank_cmp other one)) all) all
 
--- how an offer ranks: by the weight that its most specific range gives it, then by how specific that is, then by how early it comes
+-- how an offer ranks: by the weight of its most specific range, then by how specific that is, then by how early it is in the header
 abbrev pub merit : List MediaType → MediaType → Rank
 merit ranges offer =
     unwrap_or (option_map (λ close. (close.2, close.0, close.1, length ranges - close.3)) (closest ranges offer)) (0, 0, 0, 0)
 
--- the weight that ranges give an offer
+-- the weight of an offer by these ranges
 abbrev pub given_weight : List MediaType → MediaType → ℕ
 given_weight ranges offer = (merit ranges offer).0
 

@@ -1,4 +1,4 @@
--- What follows from the file Ranges, in other words (RFC 9110, 12.5.1).
+-- The laws of the file Ranges (RFC 9110, 12.5.1).
 use Rattle.std.specs.Prelude.{◌≡◌, ◌⊎◌, ◌<◌, ◌≤◌, ℕ, ◌+◌, ◌*◌, List, [], ◌∷◌, ◌++◌, codes, replicate, Some, None, IsTrue, Contains, MatchOption, is_some, map, slice_get}
 use Rattle.std.specs.List.{enumerate_from}
 use Rattle.mime.specs.Values.{MediaType, type_of}

@@ -28,7 +28,7 @@ text_of_pair (name, value) = codes "; " ++ (name ++ (equals_byte ∷ (quote_of v
 abbrev pub text_of_pairs : List (List ℕ × List ℕ) → List ℕ
 text_of_pairs pairs = flat_map text_of_pair pairs
 
--- the pairs of a media type whose names are others than this one, ignoring ASCII case
+-- the pairs of a media type whose names differ from this one, ignoring ASCII case
 abbrev pub others : List ℕ → List (List ℕ × List ℕ) → List (List ℕ × List ℕ)
 others name pairs = filter (λ pair. not (bytes_eq (lowered pair.0) (lowered name))) pairs
 
@@ -36,10 +36,10 @@ others name pairs = filter (λ pair. not (bytes_eq (lowered pair.0) (lowered nam
 abbrev pub with_pairs : MediaType → List (List ℕ × List ℕ) → MediaType
 with_pairs media pairs = record media { pairs = pairs; kept = media.essence ++ text_of_pairs pairs }
 
--- the media type with a parameter in place of those of its name: the others stay, as they are and in their order, and this one comes last
+-- the media type with a parameter in place of those of its name: the others stay, as they are and in their order, and this one is the last
 abbrev pub with_pair : MediaType → List ℕ → List ℕ → MediaType
 with_pair media name content = with_pairs media (others name media.pairs ++ ((name, content) ∷ []))
 
--- What is written for a value means the value; that of a `charset` means it in lowercase, as it is read.
+-- A written value means the value that was passed; that of a `charset` means it in lowercase, as it is read.
 abbrev pub WrittenIsMeant : Type 0
 WrittenIsMeant = (name value : List ℕ) → unescaped (lowered_value name (escaped value)) ≡ lowered_value name value
