@@ -36,8 +36,8 @@ fn string_end(line: &[u8], from: usize) -> usize
     if end < line.len() { end + 1 } else { end }
 }
 
-/// Returns the length of a line's first piece, of which the first comma or quote is the quote at a position. It isn't inlined: few
-/// pieces have a quote.
+/// Returns the length of a line's first piece, which has neither a comma nor a quote before the quote at this position. It isn't
+/// inlined: few pieces have a quote.
 #[inline(never)]
 #[tactic(auto, using(crate::proofs::Cuts::ends_outside, crate::proofs::Cuts::string_opens, crate::proofs::Cuts::outside_byte))]
 fn quoted_piece_len(line: &[u8], quote: usize) -> usize

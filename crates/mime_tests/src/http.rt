@@ -176,7 +176,7 @@ pub(crate) fn show_unescaped(alloc: Global, out: &mut String, value: &str, other
     show_meant(out, Vec::new(alloc), value, other);
 }
 
-/// Shows the same in a buffer that has room for both values.
+/// Shows what a value means, and then what a second value means, in a buffer that has room for both.
 pub(crate) fn show_unescaped_in_room(alloc: Global, out: &mut String, value: &str, other: &str) {
     let room = value.len().saturating_add(other.len());
     if let Ok(buffer) = Vec::with_capacity(alloc, room) {
