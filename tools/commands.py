@@ -13,6 +13,7 @@ from pathlib import Path
 from subprocess import DEVNULL, PIPE, STDOUT
 
 TOP = os.path.dirname(os.path.dirname(os.path.realpath(__file__)))
+TOOL = os.path.relpath(os.path.realpath(sys.argv[0]), TOP).removeprefix("tools/")
 # Where the crates lie with the proofs that `rt check` keeps. `check` names a copy, since rt ci keeps none.
 PROVED = os.environ.get("PROVED") or TOP
 # What passed in earlier runs: a file each, with a checksum of all that it rests on. A fresh clone has none.
@@ -68,19 +69,22 @@ def run_ok(*words, folder=TOP, given=None):
     return text
 
 
-def is_right(tool, command, is_wanted, folder=TOP, **how):
+def told(what, well, more=""):
+    """Whether a thing is well, which is printed, and more if it isn't."""
+    print(f"{TOOL}: {what}: {'right' if well else f'NOT SO{more}'}", flush=True)
+    return well
+
+
+def is_right(command, is_wanted, folder=TOP, **how):
     """Whether a shell command succeeds and writes what is wanted."""
     try:
         text, status = output(["bash", "-euo", "pipefail", "-c", command], folder, **how)
     except TimeoutError as error:
         text, status = str(error), 1
-    well = not status and bool(is_wanted(text))
-    wrong = "" if well else f", and not as wanted: {command}\n{text[-3000:]}"
-    print(f"{tool}: {command.splitlines()[-1][:60]}: {'right' if well else 'FAILED'}{wrong}", flush=True)
-    return well
+    return told(command.splitlines()[-1][:60], not status and bool(is_wanted(text)), f", and not as wanted: {command}\n{text[-3000:]}")
 
 
-def exit_status(tool, tries, least=1):
+def exit_status(tries, least=1):
     """The exit status of a tool, after its last line. Each of its tries says whether it passed; an error ends them; if there are fewer than
     the least, some are lost."""
     results = []
@@ -88,7 +92,7 @@ def exit_status(tool, tries, least=1):
         for well in tries:
             results.append(bool(well))
     except OSError as error:
-        print(f"{tool}: {error}")
+        print(f"{TOOL}: {error}")
         results.append(False)
     failed = max(len(results), least) - sum(results)
     print(f"{sum(results)} passed, {failed} failed")

@@ -1,0 +1,240 @@
+"""What the calls of include/mime.h have to answer: tools/c_calls tries this. tools/calls.c makes the calls. Each check of a text is a
+generator that yields calls, and is sent what they gave."""
+
+import random
+import re
+import struct
+import traceback
+from collections import namedtuple
+from contextlib import suppress
+from itertools import islice, repeat
+
+from commands import run, told
+
+OK, _, MISSING_SUBTYPE, _, _, _, INVALID_BYTE, NO_MEMORY, NOT_UTF8, _, NOT_ACCEPTABLE, BAD_OFFER, NO_BOUNDARY, BAD_PARAMETER = range(14)
+# The length of the longest media type that asks for no memory.
+SHORT = 40
+# The size of the buffer that a call needs, if it needs one.
+ROOMS = {
+    "read": lambda text: 2 * len(text) + 2,
+    "content_type": lambda value: 3 * len(value) + 2,
+    "accept": lambda text: 3 * len(text) + 3,
+    "list": lambda text: 2 * len(text),
+    "order": lambda accept, offers: 8 * offers.count(b",") + 8,
+    "boundary": lambda value: 71,
+    "unescape": lambda value: len(value) + 1,
+    "set_parameter": lambda text, name, value: 2 * len(text) + len(name) + 2 * len(value) + 6,
+}
+OFFERS = [b"text/html", b"image/svg+xml;p=x", b"a/b", b"text/html"]
+# What the texts near the grammar are made of.
+PIECES = [b"a", b"text", b"/", b"/", b";", b";", b"; ", b"=", b"=", b'"', b'"', b"\\", b"+", b",", b"*/*", b"a/b", b"text/html;q=0.5", b" ",
+          b"\t", b"charset", b"UTF-8", b"Q", b"multipart/mixed;boundary=", b"\xc3\xa9", b"\xff", b"(", b"\x7f", b'p="x y"',
+          b"image/SVG+xml", b"text/of-40-bytes-which-ask-for-no-memory", b"text/of-41-bytes-which-do-ask-for-memory1"]
+# The numbers that tools/calls.c gives for a call, the last of which counts the bytes that it gives then.
+NUMBERS = struct.Struct("14N")
+# The checks are assertions.
+if not __debug__:
+    raise SystemExit("Python has to run without -O")
+
+
+class Given(namedtuple("Given", "answer length params printed slash subtype_end pos byte requests largest blocks held stack written")):
+    @property
+    def strings(self):
+        return self.written.split(b"\0")[:-1]
+
+    @property
+    def pairs(self):
+        """The names and the values of parameters."""
+        return [*zip(self.strings[1:-1:2], self.strings[2:-1:2])]
+
+
+def call(name, *strings, may_do_without=False):
+    """A call as tools/calls.c reads it."""
+    room = ROOMS[name](*strings) if name in ROOMS else 0
+    lengths = [*map(len, strings), 0, 0]
+    return b"%b %d %d %d %d %d\n%b" % (name.encode(), room, may_do_without, *lengths[:3], b"".join(strings))
+
+
+def made(words, calls):
+    """What a program made of tools/calls.c gives for each call."""
+    said, errors, status = run(words, given=b"".join(calls))
+    if status:
+        raise OSError(f"{words[-1]} ended with status {status}: {errors[-3000:].decode(errors='replace')}")
+    at = 0
+    for _ in calls:
+        *numbers, count = NUMBERS.unpack_from(said, at)
+        begin = at + NUMBERS.size
+        at = begin + count
+        yield Given(*numbers, said[begin:at])
+
+
+def header(value):
+    """The call that reads a header. Of 41 bytes with a semicolon at the end those before it need no memory, though it is asked for."""
+    return call("content_type", value, may_do_without=len(value.strip(b" \t")) == SHORT + 1)
+
+
+def check_found(it, text):
+    """Checks the strings that were found, or the fault, which lies within the text, at the byte that was found, or at one past ASCII."""
+    if it.answer == OK:
+        essence, printed = it.strings[0], it.strings[-1]
+        assert len(it.strings) == 2 * it.params + 2 and it.printed == it.length - len(printed) - 1
+        assert it.written[it.slash : it.slash + 1] == b"/" and (essence[it.subtype_end : it.subtype_end + 1] or b"+") == b"+"
+        assert it.subtype_end <= len(essence) and not re.search(rb"[\1-\10\12-\37\177]", it.written)
+    else:
+        assert it.length == it.params == 0
+    byte = text[it.pos : it.pos + 1]
+    rights = {INVALID_BYTE: byte == bytes([it.byte]), NOT_UTF8: byte > b"\x7f" and it.byte == 0}
+    assert rights.get(it.answer, it.pos == it.byte == 0)
+
+
+def check_read(text):
+    it = yield call("read", text)
+    check_found(it, text)
+    is_read = it.answer == OK
+    asked = int(is_read and len(text) > SHORT)
+    assert it.answer <= NOT_UTF8 and it.answer != NO_MEMORY and it.requests == asked and it.largest <= len(text)
+    rows = [(text, text, it.answer, is_read, 2 * asked), (b"*/*", text, it.answer, it.strings == [b"*/*"] * 2, asked),
+            (text, b"a/", MISSING_SUBTYPE if is_read else it.answer, 0, asked), (b"a/", text, MISSING_SUBTYPE, 0, 0)]
+    if is_read:
+        printed = it.strings[-1]
+        rows.append((text, printed, OK, 1, asked + (len(printed) > SHORT)))
+    for one, other, *wanted in rows:
+        equal = yield call("equal", one, other)
+        assert [equal.answer, equal.length, equal.requests] == wanted and equal.blocks <= 2 and equal.largest <= len(text)
+
+
+def check_list(text):
+    it = yield call("list", text)
+    assert (it.answer == OK or it.answer == NOT_UTF8 and not it.length) and it.blocks <= 1 and it.largest <= len(text)
+    good = [item[1:] for item in it.strings if item[:1] == b"+"]
+    assert sum(len(item) > SHORT for item in good) <= it.requests <= len(good)
+    for item in it.strings:
+        read = yield call("read", item[1:])
+        assert read.strings[-1:] == [item[1:]] if item[:1] == b"+" else item[:1] == b"-" and read.answer != OK
+
+
+def check_content_type(text):
+    """Checks that the value, if mime_read reads it without the white space around it, or else what it is printed as, is read alike."""
+    same = yield call("read", text.strip(b" \t"))
+    it = yield header(text)
+    check_found(it, text)
+    is_plain, is_read = same.answer == OK, it.answer == OK
+    assert is_read or it.requests == 0
+    # What is written anew has at most a byte more for each parameter, which has four.
+    assert it.blocks <= (1 if is_plain else 2) and it.largest <= len(text) + (0 if is_plain else len(text) // 4)
+    if is_read and not is_plain:
+        assert it.requests == (2 if len(it.strings[-1]) > SHORT else 0)
+        same = yield call("read", it.strings[-1])
+    assert is_read == (same.answer == OK)
+    if is_read:
+        assert it.strings == same.strings and it.slash == same.slash and it.written[-2:-1] not in (b" ", b"\t")
+        # What is before the first semicolon has the same essence.
+        bare = yield header(text.partition(b";")[0])
+        assert bare.answer == OK and bare.params == 0 and bare.strings[0] == it.strings[0]
+
+
+def check_accept(text):
+    # An entry of 41 bytes with a semicolon at its end needs no memory, though it is asked for.
+    it = yield call("accept", text, may_do_without=b";" in text)
+    ranges = re.findall(rb"(?:0\d{3}|1000)\0[^\0]*/[^\0]*\0(?:[^\0]+\0[^\0]*\0)*\0", it.written)
+    assert it.answer == OK and b"".join(ranges) == it.written
+    refusal = BAD_OFFER if it.params else NOT_ACCEPTABLE
+    may_do_without = bool(it.params) or b";" in text
+    none = yield call("best", b"", text, may_do_without=may_do_without)
+    assert (none.answer, none.length) == (refusal, 0)
+    best = yield call("best_of_all", text, may_do_without=may_do_without)
+    assert (best.answer, best.length) == (OK if ranges and not it.params else refusal, 0)
+    best = yield call("best", text, b", ".join(OFFERS[:3]), may_do_without=True)
+    assert ranges and best.length < 3 if best.answer == OK else (best.answer, best.length) == (NOT_ACCEPTABLE, 0)
+
+
+def check_order(text):
+    """Checks that each next offer is the best of those that are left."""
+    # One of the requests isn't needed: without its memory the order is found in another way.
+    it = yield call("order", text, b", ".join(OFFERS), may_do_without=True)
+    assert it.answer == (OK if it.length else NOT_ACCEPTABLE)
+    left = [*range(len(OFFERS))]
+    for position in struct.unpack(f"{it.length}N", it.written):
+        best = yield call("best", text, b",".join(OFFERS[at] for at in left), may_do_without=True)
+        assert best.answer == OK and left.pop(best.length) == position
+    if left:
+        best = yield call("best", text, b",".join(OFFERS[at] for at in left), may_do_without=True)
+        assert best.answer == NOT_ACCEPTABLE
+    it = yield call("order", text, b"a/b, c", may_do_without=True)
+    assert (it.answer, it.length) == (BAD_OFFER, 0)
+
+
+def meant(value):
+    """What a value means, as RFC 9110, 5.6.4, says it."""
+    return re.sub(rb"(?s)\\(.?)", rb"\1", value)
+
+
+def check_unescape(text):
+    it = yield call("unescape", text)
+    assert (it.answer, it.written, it.requests) == (OK, meant(text) + b"\0", 0)
+
+
+def check_boundary(text):
+    value = yield header(text)
+    named = [it for name, it in value.pairs if name == b"boundary" and value.strings[0].startswith(b"multipart/")]
+    # RFC 2046, 5.1.1
+    wanted = [it for it in map(meant, named[:1]) if re.fullmatch(rb"[\w'()+,\-./:=? ]{0,69}[\w'()+,\-./:=?]", it)]
+    it = yield call("boundary", text, may_do_without=not wanted)
+    assert it.answer == (value.answer if value.answer != OK or wanted else NO_BOUNDARY)
+    assert it.strings == wanted and it.length == len(b"".join(wanted))
+
+
+def check_set(media, name, value, wanted):
+    """Checks a parameter that is written into a media type: it is read back, and the others stay. `wanted` is the answer."""
+    it = yield call("set_parameter", media, name, value, may_do_without=wanted != OK or b";" in media)
+    assert it.answer == wanted and (it.answer == OK or it.length == 0)
+    if it.answer == OK:
+        before, after = (yield header(media)), (yield call("read", it.written[:-1]))
+        assert before.answer == after.answer == OK and before.strings[0] == after.strings[0]
+        *kept, (last, written) = after.pairs
+        assert kept == [it for it in before.pairs if it[0] != last] and last == name.lower()
+        assert meant(written) == (value.lower() if last == b"charset" else value)
+
+
+def check_set_parameter(text):
+    it = yield header(text)
+    yield from check_set(text, b"P", b"x", it.answer)
+    yield from check_set(text, b"charset", b"UTF-8", it.answer)
+    # As the value: what mime_read takes in quotes is one, with a backslash before each quote and each backslash.
+    it = yield call("read", b'a/b;p="' + re.sub(rb'(["\\])', rb"\\\1", text) + b'"')
+    yield from check_set(b'a/b;p="y z";q=1', b"p", text, OK if it.answer == OK else BAD_PARAMETER)
+    # As the name: what mime_read takes before an equals sign is one, and nothing else.
+    it = yield call("read", b"a/b;" + text + b"=x")
+    is_name = it.answer == OK and it.params == 1 and len(it.strings[1]) == len(text)
+    yield from check_set(b"a/b", text, b"x y", OK if is_name else BAD_PARAMETER)
+
+
+CHECKS = check_read, check_list, check_content_type, check_accept, check_order, check_boundary, check_unescape, check_set_parameter
+
+
+def near_grammar(count):
+    """As many texts near the grammar, the same each time."""
+    chance = random.Random(1)
+    return (b"".join(chance.choices(PIECES, k=chance.randrange(13))) for _ in range(count))
+
+
+def next_call(check, given):
+    with suppress(StopIteration):
+        return check.send(given)
+
+
+def holds(words, texts):
+    """Whether all checks hold of these texts."""
+    texts, count = iter(texts), 0
+    try:
+        while some := [*islice(texts, 4000)]:
+            count += len(some)
+            left, given = [check(it) for it in some for check in CHECKS], repeat(None)
+            while left:
+                asked = [*map(next_call, left, given)]
+                left = [it for it, asks in zip(left, asked) if asks]
+                given = made(words, [*filter(None, asked)])
+    except AssertionError as error:
+        print(*traceback.TracebackException.from_exception(error, limit=-1, capture_locals=True).format(), sep="")
+        return told(f"calls of {words[-1]}", False)
+    return told(f"calls of {words[-1]} on {count} texts", True)
