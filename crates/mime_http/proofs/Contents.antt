@@ -2,6 +2,7 @@
 use Rattle.mime_http.proofs.Common.{AreHeaderBytes, AreTokenBytes-from_token, Bool, IsBoundary, IsContent, IsToken, List, WrittenIsMeant, [], and_parts, ap, append-nil, append_assoc, arith, cases_Bool, cond, drop, drop-append-add, drop-length, drop_of_length-le, eqb-true, escaped, false, false_from_ne_true, get_or, if◌then◌else◌, is_bchar, is_charset, is_quoted_byte, is_quoted_text_byte, is_token_byte, length, list_all, list_all-wider, lowered, lowered_value, lowered_value-either, nat_tests, no_byte, not, quoted_pair, refl, suc, sym, take, take-append-add, take-length, text_byte, to_ascii_lowercase, true, unescaped, zero, ℕ, ⊎_elim, ◌&&◌, ◌*◌, ◌++◌, ◌+◌, ◌<◌, ◌==◌, ◌||◌, ◌∙◌, ◌∷◌, ◌≡◌, ◌≢◌, ◌≤◌, Form, flat_map-append, text_of_pairs, Token, bit_and, drop-cons, form_of, is_plain, is_token_value, kind_of, list_all-append, prefix_len, prefix_len-le-length, prefix_len_stops, take_more, text_in, text_of_pair}
 use Rattle.mime_http.specs.declared.quoted.Form.TheVariants.{Quoted}
 use Rattle.mime_http.proofs.Written.{token_from_test}
+use Rattle.std.specs.Char.{is_ascii_uppercase}
 
 -- whether a byte is written after a backslash
 abbrev pub is_special : ℕ → Bool
@@ -106,6 +107,11 @@ lowered_escaped : (value : List ℕ) → lowered (escaped value) ≡ escaped (lo
 lowered_escaped [] = refl
 lowered_escaped (b ∷ value) =
     grind (arith, nat_tests, lowered_escaped value)
+
+-- a text without capitals is in lowercase,
+pub no_capital : (bytes : List ℕ) → list_all (λ b. not (is_ascii_uppercase b)) bytes ≡ true → lowered bytes ≡ bytes
+no_capital [] all = refl
+no_capital (b ∷ bytes) all = grind (arith, nat_tests, all, no_capital bytes)
 
 -- so a value without capitals stays as it is written where it is read in lowercase
 pub kept_low : (name value : List ℕ) → lowered value ≡ value → lowered_value name (escaped value) ≡ escaped value

@@ -82,11 +82,7 @@ fn meant_boundary(alloc: Global, value: &str) -> Result<Option<Vec<u8>>, AllocEr
     }
     let mut boundary = Vec::new(alloc);
     unescape(value, &mut boundary)?;
-    if is_boundary(&boundary) {
-        Ok(Some(boundary))
-    } else {
-        Ok(None)
-    }
+    Ok(is_boundary(&boundary).then_some(boundary))
 }
 
 /// Returns the boundary that the first parameter `boundary` means, if it means one. It isn't inlined: most media types aren't

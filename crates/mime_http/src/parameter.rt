@@ -29,15 +29,13 @@ fn is_token_text(text: &str) -> bool
 }
 
 /// Returns `true` if a string has no ASCII capital.
+#[tactic(auto, using(crate::proofs::Contents::no_capital))]
 fn is_lowercase(text: &str) -> bool
     ensures { IsTrue result → lowered text.now ≡ text.now }
 {
-    for &byte in text.as_bytes() {
-        if byte.is_ascii_uppercase() {
-            return false;
-        }
-    }
-    true
+    text.as_bytes()
+        .iter()
+        .all(|byte| !byte.is_ascii_uppercase())
 }
 
 /// Returns `true` if a parameter is kept as it is written: without a capital in what is kept in lowercase.

@@ -130,15 +130,12 @@ fn kind_of(value: &[u8]) -> u8
 pub(crate) fn form_of(value: &str) -> Option<Form>
     ensures { result ≡ (if list_all is_quoted_byte value.now then Some (form_of value.now) else None) }
 {
-    let kind = kind_of(value.as_bytes());
-    if kind == N {
-        None
-    } else if kind == B {
-        Some(Form::Escaped)
-    } else if kind == Q || value.is_empty() {
-        Some(Form::Quoted)
-    } else {
-        Some(Form::Token)
+    match kind_of(value.as_bytes()) {
+        N => None,
+        B => Some(Form::Escaped),
+        Q => Some(Form::Quoted),
+        _ if value.is_empty() => Some(Form::Quoted),
+        _ => Some(Form::Token),
     }
 }
 

@@ -119,21 +119,6 @@ fn fault_at(value: &[u8], pos: usize, missing: ParseError) -> ParseError
     }
 }
 
-/// Returns the position after the quoted pair whose backslash is at a position, or the fault.
-fn quoted_pair_end(value: &[u8], backslash: usize) -> Result<usize, ParseError>
-    requires within { backslash < length value.now }
-    requires first { slice_index value.now backslash ≡ backslash_byte }
-    ensures { MatchResult result
-        (λ end. (end ≡ backslash + 2) × (end ≤ length value.now) × (is_quoted_byte (slice_index value.now (backslash + 1)) ≡ true))
-        (IsStringFault value.now backslash) }
-{
-    let paired = backslash + 1;
-    if paired < value.len() && is_quoted_byte(value[paired]) {
-        return Ok(paired + 1);
-    }
-    Err(fault_at(value, paired, ParseError::MissingQuote))
-}
-
 /// Returns the position after a byte of quoted text, in content that begins at `from`, and perhaps after more of them.
 #[inline(always)]
 fn text_end(value: &[u8], at: usize, from: usize) -> usize
@@ -163,10 +148,11 @@ fn string_end(value: &[u8], from: usize) -> Result<usize, ParseError>
             return Ok(at);
         }
         if byte == b'\\' {
-            at = match quoted_pair_end(value, at) {
-                Ok(end) => end,
-                Err(fault) => return Err(fault),
-            };
+            let paired = at + 1;
+            if paired == value.len() || !is_quoted_byte(value[paired]) {
+                return Err(fault_at(value, paired, ParseError::MissingQuote));
+            }
+            at = paired + 1;
         } else if is_quoted_text_byte(byte) {
             at = text_end(value, at, from);
         } else {

@@ -66,16 +66,8 @@ impl fmt::Display for FieldError {
 
 impl Error for FieldError {}
 
-/// Converts bytes to a string as `str::from_utf8` does, and faster for ASCII, which most values are.
-#[inline(always)]
-pub(crate) fn text_of(value: &[u8]) -> Result<&str, Utf8Error>
-    ensures cases { MatchResult result (λ text. (text.now ≡ value.now) × IsUtf8 value.now)
-        (λ error. ¬ (IsUtf8 value.now) × IsValidUpTo value.now (valid_up_to error)) }
-{
-    text_of_piece(value, false)
-}
-
-/// Returns the string of a piece of a line. The bytes of a line that is known to be ASCII aren't looked at again.
+/// Converts bytes to a string as `str::from_utf8` does, and faster for ASCII, which most values are. Those that are known to be ASCII
+/// aren't looked at again.
 #[inline(always)]
 #[tactic(auto, using(crate::proofs::HttpText::ascii_is_utf8))]
 pub(crate) fn text_of_piece(piece: &[u8], is_ascii: bool) -> Result<&str, Utf8Error>
@@ -241,7 +233,7 @@ pub fn content_type(alloc: Global, value: &[u8]) -> Result<Mime, FieldError>
     // Rejecting a value needs no memory.
     ensures rejected { ¬ (IsHttpMediaType value.now) → IfErr result (λ error. error ≢ FieldError.NoMemory) }
 {
-    let text = match text_of(value) {
+    let text = match text_of_piece(value, false) {
         Ok(text) => text,
         Err(error) => {
             let pos = error.valid_up_to();

@@ -1,7 +1,21 @@
 -- Text and pairs go on the content, and another byte, or the end, is the string's fault.
-use Rattle.mime_http.proofs.Common.{IsContent, arith, in_string, sym, subst, ◌∙◌, no_byte}
-use Rattle.mime_http.proofs.ReadAt.{at_byte, at_end, content_on, fault_after, no_part, no_text, pair_content, text_content}
+use Rattle.mime_http.proofs.Common.{IsContent, List, MissingQuote, Parts, [], answer_at, ap, arith, awaits_after, awaits_after-append, false, fault_at, in_string, is_quoted_byte, length, nat_tests, next, no_byte, refl, rejected, slice_index, subst, sym, true, ℕ, ◌++◌, ◌+◌, ◌<◌, ◌∙◌, ◌∷◌, ◌≡◌}
+use Rattle.mime_http.proofs.ReadAt.{at_byte, at_end, content_on, fault_after, no_part, no_text, over_byte, pair_content, stuck, text_content}
+use Rattle.mime_http.proofs.reader.string_end.Goals.{then-paired-value-via-then-paired-value, then-paired-value-via-else-paired-value+then-not-is_quoted_byte}
 use Rattle.mime_http.proofs.reader.string_end.Goals as goal
+
+-- a byte that a backslash can't pair is the string's fault, and so is the end
+unpaired : (value : List ℕ) (at : ℕ) (parts : Parts) (name content : List ℕ) → at < length value → slice_index value at ≡ 92
+    → (at + 1 < length value → is_quoted_byte (slice_index value (at + 1)) ≡ false) → awaits_after false content ≡ false
+    → answer_at value (in_string parts name content) at ≡ rejected (fault_at value (at + 1) MissingQuote)
+unfolding is_quoted_byte
+unpaired value at parts name content within first isnt none =
+    let more : List ℕ = content ++ (92 ∷ []) in
+    let begun : awaits_after false more ≡ true = awaits_after-append false content (92 ∷ []) ∙ rw none refl in
+    over_byte value at (in_string parts name content) (in_string parts name more) within
+    (ap (next (in_string parts name content)) first ∙ rw none refl)
+    ∙ stuck value (at + 1) (in_string parts name more) MissingQuote (omega (arith, within)) refl
+    (λ here. rw begun (grind (arith, nat_tests, isnt here)))
 
 pub loop-at-init : goal.loop-at-init
 loop-at-init c = record {
@@ -10,21 +24,30 @@ loop-at-init c = record {
   content = subst IsContent (sym (no_part c.args.value.now c.args.from)) no_byte;
 }
 
-pub returns-in-Err : goal.returns-in-Err
-returns-in-Err c =
+pub returns-then-paired-value : goal.returns-then-paired-value
+returns-then-paired-value c =
+    let value = c.args.value.now in
+    let at = c.loop-at.at in
     let keeps = c.loop-at.invariant in
-    fault_after c.args.value.now c.args.from c.loop-at.at c.in-Err.fault keeps.least keeps.within keeps.content c.in-Err.ensures
+    let isnt : at + 1 < length value → is_quoted_byte (slice_index value (at + 1)) ≡ false = elim c.then-paired-value.branch [
+      | then-paired-value-via-then-paired-value w ↦ λ more. absurd (omega (arith, more, w.if-paired-value.true))
+      | then-paired-value-via-else-paired-value+then-not-is_quoted_byte w ↦ λ more.
+          sym w.is_quoted_byte.ensures ∙ w.if-not-is_quoted_byte.true
+    ] in
+    fault_after value c.args.from at _ keeps.least keeps.within keeps.content (λ name content none parts.
+    unpaired value at parts name content c.loop-at-test.true c.if-byte-eq92.true isnt none ∙ ap rejected (sym c.fault_at.ensures))
 
 pub loop-at-preserved-then-byte-eq92 : goal.loop-at-preserved-then-byte-eq92
 loop-at-preserved-then-byte-eq92 c =
     let value = c.args.value.now in
+    let at = c.loop-at.at in
     let keeps = c.loop-at.invariant in
-    let pair = c.in-Ok.ensures in
-    let after = pair_content value c.loop-at.at c.in-Ok.end pair.0 pair.1 c.if-byte-eq92.true pair.2 in
+    let after = pair_content value at (at + 1 + 1) (omega arith) (omega (arith, c.if-paired-value.false, c.loop-at-test.true))
+    c.if-byte-eq92.true (sym c.is_quoted_byte.ensures ∙ c.if-not-is_quoted_byte.false) in
     record {
-      least = omega (arith, keeps.least, pair.0);
-      within = pair.1;
-      content = content_on value c.args.from c.loop-at.at c.in-Ok.end keeps.least (omega (arith, pair.0)) keeps.content after;
+      least = omega (arith, keeps.least);
+      within = omega (arith, c.if-paired-value.false, c.loop-at-test.true);
+      content = content_on value c.args.from at (at + 1 + 1) keeps.least (omega arith) keeps.content after;
     }
 
 pub loop-at-preserved : goal.loop-at-preserved
