@@ -3,7 +3,7 @@
 ghost use Rattle.std.specs.Prelude.{◌≡◌, ◌≢◌, ◌<◌, ◌≤◌, ℕ, List, true, codes, length, Some, IfOk, IfErr, IfSome, IsOk, MatchResult};
 ghost use Rattle.std.specs.Fmt.InlineText.{inline_text};
 ghost use Rattle.std.specs.Str.{IsAscii, IsUtf8, IsValidUpTo, valid_up_to};
-ghost use Rattle.mime.specs.Values.{MediaType, Reads, IsAccepted};
+ghost use Rattle.mime.specs.Values.{MediaType};
 ghost use Rattle.mime.specs.Faults.{Explains};
 ghost use Rattle.mime_http.specs.HttpMediaType.{HttpReads, IsHttpMediaType};
 ghost use Rattle.mime_http.specs.HttpList.{trimmed, IsPrinted};
