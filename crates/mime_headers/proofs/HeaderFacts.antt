@@ -1,6 +1,6 @@
 -- Heads, rows and verdicts for which each definition is true, and others for which it is false, so that a page that says less or more
 -- doesn't check.
-use Rattle.std.proofs.Common.{◌≡◌, ℕ, true, false, List, [], ◌∷◌, ◌++◌, map, refl, codes}
+use Rattle.std.proofs.Common.{◌≡◌, ℕ, true, false, List, [], ◌∷◌, ◌++◌, length, map, refl, codes}
 use Rattle.std.specs.Prelude.{◌≢◌, Some, None, String, string_bytes}
 use Rattle.std.specs.Fmt.{decimal}
 use Rattle.std.specs.Global.{Global}
@@ -11,13 +11,13 @@ use Rattle.mime_http.specs.HttpFaults.{HttpExplains}
 use Rattle.mime_http.specs.declared.value.FieldError.{FieldError}
 use Rattle.mime_http.specs.declared.value.FieldError.TheVariants.{NotUtf8, Invalid}
 use Rattle.mime_http.specs.HttpList.{trimmed}
-use Rattle.mime_headers.specs.Head.{without_mark, bare_lines, head_of, after_head, from_status, goes_on, continued, begins, values_of}
+use Rattle.mime_headers.specs.Head.{without_mark, bare_lines, head_of, next_head, is_counted, goes_on, continued, begins, values_of}
 use Rattle.mime_headers.specs.Program.{AreOffers, AreRefused}
 use Rattle.mime_headers.specs.Program.AreRefused.{at_word, no_memory, after_word}
 use Rattle.mime_headers.specs.declared.offers.BadOffer.{BadOffer}
 use Rattle.mime_headers.specs.declared.offers.BadOffer.TheVariants.{Fault}
 use Rattle.mime_headers.specs.Program.AreOffers.{no_word, a_word}
-use Rattle.mime_headers.specs.Report.{ReadsAs, shown, media_rows, fault_at, fault_remark, fault_rows, none_row, count_row, spaced_row, weight_text, range_row, place_text, by_text, lacking_remark, offer_rows, best_of, best_rows, is_acceptable, verdict_of, chooses, title_row}
+use Rattle.mime_headers.specs.Report.{ReadsAs, shown, media_rows, fault_at, fault_remark, fault_rows, none_row, count_row, spaced_row, weight_text, range_row, place_text, by_text, lacking_remark, offer_rows, best_of, best_rows, is_acceptable, verdict_of, chooses, title_row, cut_row, is_cut}
 use Rattle.mime_headers.specs.Shown.{control_len, without_controls}
 use Rattle.mime_headers.specs.declared.verdict.Verdict.{Verdict}
 
@@ -32,14 +32,23 @@ marks :
 marks = (refl, refl, refl, refl, refl)
 
 -- a head ends with its first line that has nothing but a mark, or with the input
+abbrev lines_of_head : List ℕ → List (List ℕ)
+lines_of_head bytes = head_of (bare_lines bytes)
+
 heads :
-    (head_of (codes "a: b\r\nc\r\n\r\nd: e") ≡ codes "a: b" ∷ codes "c" ∷ []) × (head_of (codes "> a:\n> \n< b:\n") ≡ codes "a:" ∷ [])
-    × (head_of (codes "a:\n>\r\nb:") ≡ codes "a:" ∷ []) × (head_of (codes "\na:") ≡ []) × (head_of (codes "a:") ≡ codes "a:" ∷ [])
-heads = (refl, refl, refl, refl, refl)
+    map lines_of_head (codes "a: b\r\nc\r\n\r\nd: e" ∷ codes "> a:\n> \n< b:\n" ∷ codes "a:\n>\r\nb:" ∷ codes "\na:" ∷ codes "a:" ∷ [] ∷ [])
+    ≡ (codes "a: b" ∷ codes "c" ∷ []) ∷ (codes "a:" ∷ []) ∷ (codes "a:" ∷ []) ∷ [] ∷ (codes "a:" ∷ []) ∷ [] ∷ []
+heads = refl
 
 -- but not with white space, a form feed or a second carriage return
-no_ends : head_of (codes "a:\n \n\r\r\n> \t\n" ++ 12 ∷ codes "\nb: \r") ≡ codes "a:" ∷ codes " " ∷ codes "\r" ∷ codes "\t" ∷ (12 ∷ []) ∷ codes "b: " ∷ []
+no_ends : lines_of_head (codes "a:\n \n\r\r\n> \t\n" ++ 12 ∷ codes "\nb: \r") ≡ codes "a:" ∷ codes " " ∷ codes "\r" ∷ codes "\t" ∷ (12 ∷ []) ∷ codes "b: " ∷ []
 no_ends = refl
+
+-- a head that is indented loses two spaces of each line, and ends before the next one
+indented_heads :
+    (lines_of_head (codes "  http/1\n  a: b\n   c\n d\n \n  HTTP/2\n") ≡ codes "http/1" ∷ codes "a: b" ∷ codes " c" ∷ codes " d" ∷ codes " " ∷ [])
+    × (lines_of_head (codes " HTTP/1\n  a: b\n") ≡ codes " HTTP/1" ∷ codes "  a: b" ∷ [])
+indented_heads = (refl, refl)
 
 -- a line that begins with white space goes on with the one before it
 lines_that_go_on :
@@ -90,7 +99,7 @@ rows_of_fault :
 rows_of_fault = refl
 
 -- a field that isn't there, and one that is
-none : (none_row (codes "no Accept") [] ≡ codes "no Accept\n") × (none_row (codes "no Accept") ([] ∷ []) ≡ [])
+none : (none_row [] ≡ codes "no Accept\n") × (none_row ([] ∷ []) ≡ [])
     × (count_row [] ≡ codes "no Content-Type\n") × (count_row ([] ∷ []) ≡ [])
     × (count_row ([] ∷ [] ∷ []) ≡ codes "several Content-Type lines (HTTP allows one)\n")
 none = (refl, refl, refl, refl, refl)
@@ -133,9 +142,9 @@ plain = record media { pairs = []; kept = codes "a/b+c" }
 
 -- the place of the range that decides and its text, and that of one that demands more, if the offer weighs nothing
 reasons :
-    (place_text 0 (Some plain) ≡ decimal 1 ++ codes " a/b+c") × (place_text 1 None ≡ [])
-    × (by_text (star (codes "1") ∷ plain ∷ []) (Some 1) ≡ codes " by " ++ place_text 1 (Some plain)) × (by_text (plain ∷ []) None ≡ codes " by none")
-    × (lacking_remark (star (codes "1") ∷ media ∷ []) 0 plain ≡ codes " (lacks a parameter of " ++ (place_text 1 (Some media) ++ codes ")"))
+    (place_text (codes "<") 0 (Some plain) (codes ">") ≡ codes "<" ++ (decimal 1 ++ codes " a/b+c>")) × (place_text (codes "<") 1 None (codes ">") ≡ [])
+    × (by_text (star (codes "1") ∷ plain ∷ []) (Some 1) ≡ place_text (codes " by ") 1 (Some plain) []) × (by_text (plain ∷ []) None ≡ codes " by none")
+    × (lacking_remark (star (codes "1") ∷ media ∷ []) 0 plain ≡ place_text (codes " (lacks a parameter of ") 1 (Some media) (codes ")"))
     × (lacking_remark (star (codes "1") ∷ media ∷ []) 1 plain ≡ []) × (lacking_remark (plain ∷ []) 0 media ≡ [])
 reasons = (refl, refl, refl, refl, refl, refl, refl)
 
@@ -166,17 +175,31 @@ choices :
     × (chooses [] (Some false) true ≡ false)
 choices = (refl, refl, refl, refl)
 
--- after an empty line others are passed over until one that begins with `HTTP/`
+-- after an empty line others are passed over until one that begins with `HTTP/`, or with two spaces and `HTTP/`, as one in a head may, too
 next_heads :
-    (from_status (after_head (bare_lines (codes "> a:\n>\n* b\n< HTTP/1.1 200\r\n<\n"))) ≡ codes "HTTP/1.1 200" ∷ [] ∷ [])
-    × (from_status (after_head (bare_lines (codes "a:\nHTTP/1.1 200\n"))) ≡ []) × (from_status (after_head (bare_lines (codes "\nHTTP 1\n X"))) ≡ [])
-next_heads = (refl, refl, refl)
+    map (λ bytes. next_head false (bare_lines bytes)) (codes "> a:\n>\n* b\n< HTTP/1.1 200\r\n<\n" ∷ codes "a:\n\nb\n  HTTP/1.1 200\n  c:\n"
+    ∷ codes "  HTTP/1.0 302\n  HTTP/1.1 200\n" ∷ codes "a:\nHTTP/1.1 200\n" ∷ codes "\nHTTP 1\n X\n HTTP/1" ∷ [])
+    ≡ (codes "HTTP/1.1 200" ∷ [] ∷ []) ∷ (codes "  HTTP/1.1 200" ∷ codes "  c:" ∷ []) ∷ (codes "  HTTP/1.1 200" ∷ []) ∷ [] ∷ [] ∷ []
+next_heads = refl
+
+-- in an input that is cut off a head counts only if something follows its end
+cut_heads :
+    (map (λ bytes. is_counted true (bare_lines bytes)) (codes "a:\n\n" ∷ codes "a:\n\nb" ∷ codes "a:\n  HTTP/" ∷ codes "a:\n> " ∷ [])
+    ≡ false ∷ true ∷ true ∷ false ∷ [])
+    × (is_counted false (bare_lines (codes "a:")) ≡ true) × (next_head true (bare_lines (codes "\nHTTP/1\n\n")) ≡ [])
+    × (next_head true (bare_lines (codes "\nHTTP/1\n\nb")) ≡ codes "HTTP/1" ∷ [] ∷ codes "b" ∷ [])
+    × (cut_row true ≡ codes "not read after 1048576 bytes\n") × (cut_row false ≡ [])
+cut_heads = (refl, refl, refl, refl, refl, refl)
 
 -- the row of a head, if there are many: its first line that is no remark
 titles :
     (title_row true (codes "* a" ∷ codes "GET /\t" ∷ codes "b: c" ∷ []) ≡ codes "head GET /.\n") × (title_row true [] ≡ codes "head \n")
     × (title_row false (codes "a" ∷ []) ≡ [])
 titles = (refl, refl, refl)
+
+-- an input of one byte more than 1,048,576 is cut off
+cut_inputs : (bytes : List ℕ) → (length bytes ≡ 1048576 → is_cut bytes ≡ false) × (length bytes ≡ 1048577 → is_cut bytes ≡ true)
+cut_inputs bytes = (λ len. rw len refl, λ len. rw len refl)
 
 -- ---- offers
 

@@ -1,5 +1,5 @@
 -- Which lines of an input are a head, and the values of a field there (RFC 9110, 5.5 and 5.6.3; RFC 9112, 2.2 and 5).
-use Rattle.std.specs.Prelude.{ℕ, Bool, false, List, [], ◌∷◌, ◌++◌, ◌==◌, ◌||◌, ◌&&◌, map, take, drop, length, if◌then◌else◌, codes}
+use Rattle.std.specs.Prelude.{ℕ, Bool, false, List, [], ◌∷◌, ◌++◌, ◌==◌, ◌||◌, ◌&&◌, not, map, take, drop, length, if◌then◌else◌, codes}
 use Rattle.std.specs.Str.{str_eq_ignore_ascii_case}
 use Rattle.std.specs.Str.Lines.{strip_carriage_return}
 use Rattle.mime.specs.Grammar.{is_space}
@@ -15,16 +15,50 @@ abbrev pub without_mark : List ℕ → List ℕ
 without_mark [] = []
 without_mark (b ∷ line) = if b == 60 || b == 62 then without_space line else b ∷ line
 
--- the lines of a head, which end with the first that has nothing but a mark; one carriage return at a line's end is no part of it
-abbrev pub until_empty : List (List ℕ) → List (List ℕ)
-until_empty [] = []
-until_empty (line ∷ lines) = if length line == 0 then [] else line ∷ until_empty lines
-
+-- the lines of an input; one carriage return at a line's end is no part of it
 abbrev pub bare_lines : List ℕ → List (List ℕ)
 bare_lines bytes = map (λ line. without_mark (strip_carriage_return line)) (lines_of bytes)
 
-abbrev pub head_of : List ℕ → List (List ℕ)
-head_of bytes = until_empty (bare_lines bytes)
+-- whether a line begins with a label, in any case
+abbrev pub begins : List ℕ → List ℕ → Bool
+begins label line = str_eq_ignore_ascii_case (take (length label) line) label
+
+-- `wget -S` indents a head by two spaces, which the line that begins it shows; its other lines may lack them
+abbrev pub is_indented : List ℕ → Bool
+is_indented line = begins (codes "  http/") line
+
+abbrev pub without_indent : Bool → List ℕ → List ℕ
+without_indent indented line = if indented && begins (codes "  ") line then drop 2 line else line
+
+-- a head ends with the first line that has nothing but a mark, before a line that begins an indented head, or with the input
+abbrev pub until_end : List (List ℕ) → List (List ℕ)
+until_end [] = []
+until_end (line ∷ lines) = if length line == 0 || is_indented line then [] else line ∷ until_end lines
+
+abbrev pub head_of : List (List ℕ) → List (List ℕ)
+head_of [] = []
+head_of (line ∷ lines) = if length line == 0 then [] else map (without_indent (is_indented line)) (line ∷ until_end lines)
+
+-- the lines after a head's, without one that has nothing but a mark
+abbrev pub after_end : List (List ℕ) → List (List ℕ)
+after_end [] = []
+after_end (line ∷ lines) = if length line == 0 then lines else if is_indented line then line ∷ lines else after_end lines
+
+abbrev pub after_head : List (List ℕ) → List (List ℕ)
+after_head [] = []
+after_head (line ∷ lines) = if length line == 0 then lines else after_end lines
+
+-- and, of these, those from the first of the next head on, which begins with `HTTP/`, or with two spaces and `HTTP/`
+abbrev pub from_status : List (List ℕ) → List (List ℕ)
+from_status [] = []
+from_status (line ∷ lines) = if begins (codes "http/") line || is_indented line then line ∷ lines else from_status lines
+
+-- the lines from the next head on; of an input that is cut off, a head counts only if a line follows its end
+abbrev pub is_counted : Bool → List (List ℕ) → Bool
+is_counted cut lines = not cut || not (length (after_head lines) == 0)
+
+abbrev pub next_head : Bool → List (List ℕ) → List (List ℕ)
+next_head cut lines = if is_counted cut (from_status (after_head lines)) then from_status (after_head lines) else []
 
 -- a line that begins with white space goes on with the field before it: one space stands for the white space between them (RFC 9112, 5.2)
 abbrev pub goes_on : List ℕ → Bool
@@ -36,24 +70,12 @@ continued [] = []
 continued (line ∷ lines) = if goes_on line then 32 ∷ trimmed line ++ continued lines else []
 
 -- the values of a field, of each line that begins with its name, in any case, and a colon; other lines are passed over
-abbrev pub begins : List ℕ → List ℕ → Bool
-begins label line = str_eq_ignore_ascii_case (take (length label) line) label
-
 abbrev pub values_of : List ℕ → List (List ℕ) → List (List ℕ)
 values_of label [] = []
 values_of label (line ∷ lines) =
     if begins label line
     then (trimmed (drop (length label) line) ++ continued lines) ∷ values_of label lines
     else values_of label lines
-
--- the lines after a head's, and, of these, those from the first of the next head on, which begins with `HTTP/`
-abbrev pub after_head : List (List ℕ) → List (List ℕ)
-after_head [] = []
-after_head (line ∷ lines) = if length line == 0 then lines else after_head lines
-
-abbrev pub from_status : List (List ℕ) → List (List ℕ)
-from_status [] = []
-from_status (line ∷ lines) = if begins (codes "http/") line then line ∷ lines else from_status lines
 
 -- what a head is called: its first line that is no remark, which begins with an asterisk, as `curl -v` prints it
 abbrev pub title_of : List (List ℕ) → List ℕ

@@ -1,5 +1,5 @@
 -- What the program writes of a head and of offers: of each `Content-Type`, of `Accept`, and of each offer (RFC 9110, 8.3, 12.5.1 and 15.5.7).
-use Rattle.std.specs.Prelude.{◌≡◌, ◌≢◌, ℕ, ◌+◌, ◌/◌, ◌%◌, Bool, true, false, List, [], ◌∷◌, ◌++◌, ◌==◌, ◌||◌, ◌&&◌, Option, Some, None, is_some, option_map, unwrap_or, position, map, flat_map, length, slice_get, replicate, not, if◌then◌else◌, codes}
+use Rattle.std.specs.Prelude.{◌≡◌, ◌≢◌, ℕ, ◌+◌, ◌/◌, ◌%◌, Bool, true, false, List, [], ◌∷◌, ◌++◌, ◌==◌, ◌||◌, ◌&&◌, Option, Some, None, is_some, option_map, unwrap_or, position, map, flat_map, length, slice_get, replicate, nat_lt, not, if◌then◌else◌, codes}
 use Rattle.std.specs.Char.{is_ascii_graphic}
 use Rattle.std.specs.Fmt.{decimal}
 use Rattle.std.specs.Str.{IsUtf8}
@@ -19,7 +19,8 @@ use Rattle.mime_http.specs.declared.ranking.RankedOffer.{RankedOffer}
 use Rattle.mime_http.specs.declared.value.FieldError.{FieldError}
 use Rattle.mime_http.specs.declared.value.FieldError.TheVariants.{NotUtf8, Invalid, NoMemory}
 use Rattle.mime_io.specs.Lines.{row, suffix_row}
-use Rattle.mime_headers.specs.Head.{bare_lines, until_empty, after_head, from_status, title_of, is_spaced, values_of}
+use Rattle.mime_io.specs.Stops.{limit}
+use Rattle.mime_headers.specs.Head.{bare_lines, head_of, is_counted, is_spaced, next_head, title_of, values_of}
 use Rattle.mime_headers.specs.Shown.{without_controls}
 use Rattle.mime_headers.specs.declared.verdict.Verdict.{Verdict}
 
@@ -85,29 +86,24 @@ pub data ReportsBoundary (media : MediaType) : List ℕ → Type 0 where
   bounded : (bytes : List ℕ) → IsBoundaryOf media bytes → ReportsBoundary media (row (codes "boundary ") bytes)
   unbounded : ((bytes : List ℕ) → ¬ (IsBoundaryOf media bytes)) → ReportsBoundary media []
 
--- what is written of a value, and whether it is good: of a media type its rows, and otherwise those of its fault
-pub data ReportsType (value : List ℕ) : List ℕ → Bool → Type 0 where
+-- a report before and after a value, and whether that is good: of a media type its rows are added, and otherwise those of its fault
+pub data AddsType (value old : List ℕ) : List ℕ → Bool → Type 0 where
   good : (media : MediaType) (last : List ℕ) → IsUtf8 value → ReadsAs value media → ReportsBoundary media last
-      → ReportsType value (media_rows media ++ last) true
+      → AddsType value old (old ++ (media_rows media ++ last)) true
   bad : (error : FieldError) → error ≢ NoMemory → HttpExplains value error
-      → ReportsType value (fault_rows (codes "bad Content-Type ") value error) false
+      → AddsType value old (old ++ fault_rows (codes "bad Content-Type ") value error) false
 
--- and of all values, one after another, each without the white space around it (RFC 9110, 5.5)
-pub data ReportsTypes : List (List ℕ) → List ℕ → Bool → Type 0 where
-  no_more : ReportsTypes [] [] true
-  one_more : {value rows others : List ℕ} {is_good are_good : Bool} {values : List (List ℕ)} → ReportsType (trimmed value) rows is_good
-      → ReportsTypes values others are_good → ReportsTypes (value ∷ values) (rows ++ others) (is_good && are_good)
+-- and of all values, one after another, each without the white space around it (RFC 9110, 5.5), with whether all so far are good
+pub data AddsTypes : List (List ℕ) → List ℕ → Bool → List ℕ → Bool → Type 0 where
+  no_more : {text : List ℕ} {are_good : Bool} → AddsTypes [] text are_good text are_good
+  one_more : {value old between new : List ℕ} {are_good is_good all_good : Bool} {values : List (List ℕ)} → AddsType (trimmed value) old between is_good
+      → AddsTypes values between (are_good && is_good) new all_good → AddsTypes (value ∷ values) old are_good new all_good
 
 -- the row which says that there is no `Content-Type`, or more than one
 abbrev pub count_row : List (List ℕ) → List ℕ
 count_row [] = row (codes "no Content-Type") []
 count_row (value ∷ []) = []
 count_row (value ∷ other ∷ values) = row (codes "several Content-Type lines (HTTP allows one)") []
-
--- the row which says that a field has no line
-abbrev pub none_row : List ℕ → List (List ℕ) → List ℕ
-none_row label [] = row label []
-none_row label (value ∷ values) = []
 
 -- ---- Accept
 
@@ -118,44 +114,53 @@ digit number = 48 + number % 10
 abbrev pub weight_text : ℕ → List ℕ
 weight_text weight = digit (weight / 1000) ∷ 46 ∷ digit (weight / 100) ∷ digit (weight / 10) ∷ digit weight ∷ []
 
--- the row of a range: its weight, its kept text, and a word if its `q` is none
+-- a weight and a media type's kept text
+abbrev pub weighed_text : List ℕ → ℕ → MediaType → List ℕ
+weighed_text label weight media = label ++ (weight_text weight ++ (codes " " ++ media.kept))
+
+-- the row of a range, with a word if its `q` is no weight
 abbrev pub weight_remark : MediaType → List ℕ
 weight_remark range = if unwrap_or (option_map is_qvalue (first_value (codes "q") range.pairs)) true then [] else codes " (q is no weight)"
 
 abbrev pub range_row : MediaType → List ℕ
-range_row range = codes "Accept " ++ (weight_text (weight_of range) ++ (codes " " ++ (range.kept ++ (weight_remark range ++ codes "\n"))))
+range_row range = weighed_text (codes "Accept ") (weight_of range) range ++ (weight_remark range ++ codes "\n")
 
--- what is written of an entry, and the range that it is, if it is one
-pub data ReportsEntry : List ℕ → List ℕ → List MediaType → Type 0 where
-  nothing : ReportsEntry [] [] []
-  a_range : (entry : List ℕ) (range : MediaType) → IsUtf8 entry → ReadsAs entry range → ReportsEntry entry (range_row range) (range ∷ [])
-  a_bad : (entry : List ℕ) (error : FieldError) → entry ≢ [] → error ≢ NoMemory → HttpExplains entry error
-      → ReportsEntry entry (fault_rows (codes "bad Accept ") entry error) []
+-- a report before and after an entry, and the ranges so far: one that is a range is taken
+pub data AddsEntry (entry old : List ℕ) (ranges : List MediaType) : List ℕ → List MediaType → Type 0 where
+  nothing : entry ≡ [] → AddsEntry entry old ranges old ranges
+  a_range : (range : MediaType) → IsUtf8 entry → ReadsAs entry range → AddsEntry entry old ranges (old ++ range_row range) (ranges ++ (range ∷ []))
+  a_bad : (error : FieldError) → entry ≢ [] → error ≢ NoMemory → HttpExplains entry error
+      → AddsEntry entry old ranges (old ++ fault_rows (codes "bad Accept ") entry error) ranges
 
--- and of lines, entry by entry between the commas outside strings, each without the white space around it, and the ranges
-pub data ReportsLines : List (List ℕ) → List ℕ → List MediaType → Type 0 where
-  no_line : ReportsLines [] [] []
-  line_end : {text rows more : List ℕ} {ranges others : List MediaType} {lines : List (List ℕ)} → BeginsPiece text
-      → ReportsEntry (trimmed text) rows ranges → ReportsLines lines more others → ReportsLines (text ∷ lines) (rows ++ more) (ranges ++ others)
-  comma : {text line rows more : List ℕ} {ranges others : List MediaType} {lines : List (List ℕ)} → IsPiece text
-      → ReportsEntry (trimmed text) rows ranges → ReportsLines (line ∷ lines) more others
-      → ReportsLines ((text ++ (comma_byte ∷ line)) ∷ lines) (rows ++ more) (ranges ++ others)
+-- and of lines, entry by entry between the commas outside strings, each without the white space around it
+pub data AddsLines : List (List ℕ) → List ℕ → List MediaType → List ℕ → List MediaType → Type 0 where
+  no_line : {text : List ℕ} {ranges : List MediaType} → AddsLines [] text ranges text ranges
+  line_end : {text old between new : List ℕ} {ranges some all : List MediaType} {lines : List (List ℕ)} → BeginsPiece text
+      → AddsEntry (trimmed text) old ranges between some → AddsLines lines between some new all → AddsLines (text ∷ lines) old ranges new all
+  comma : {text line old between new : List ℕ} {ranges some all : List MediaType} {lines : List (List ℕ)} → IsPiece text
+      → AddsEntry (trimmed text) old ranges between some → AddsLines (line ∷ lines) between some new all
+      → AddsLines ((text ++ (comma_byte ∷ line)) ∷ lines) old ranges new all
+
+-- the row which says that there is no `Accept`
+abbrev pub none_row : List (List ℕ) → List ℕ
+none_row [] = row (codes "no Accept") []
+none_row (line ∷ lines) = []
 
 -- ---- offers
 
 -- a range's place among the ranges, from 1, and its kept text
-abbrev pub place_text : ℕ → Option MediaType → List ℕ
-place_text at None = []
-place_text at (Some range) = decimal (at + 1) ++ (codes " " ++ range.kept)
+abbrev pub place_text : List ℕ → ℕ → Option MediaType → List ℕ → List ℕ
+place_text before at None after = []
+place_text before at (Some range) after = before ++ (decimal (at + 1) ++ (codes " " ++ (range.kept ++ after)))
 
 -- which range decides, if one does; and which an offer lacks a parameter of, if it weighs nothing
 abbrev pub by_text : List MediaType → Option ℕ → List ℕ
 by_text ranges None = codes " by none"
-by_text ranges (Some at) = codes " by " ++ place_text at (slice_get ranges at)
+by_text ranges (Some at) = place_text (codes " by ") at (slice_get ranges at) []
 
 abbrev pub lacking_text : List MediaType → Option ℕ → List ℕ
 lacking_text ranges None = []
-lacking_text ranges (Some at) = codes " (lacks a parameter of " ++ (place_text at (slice_get ranges at) ++ codes ")")
+lacking_text ranges (Some at) = place_text (codes " (lacks a parameter of ") at (slice_get ranges at) (codes ")")
 
 abbrev pub lacking_remark : List MediaType → ℕ → MediaType → List ℕ
 lacking_remark ranges weight offer = if weight == 0 then lacking_text ranges (position (is_lacking offer) ranges) else []
@@ -164,8 +169,7 @@ lacking_remark ranges weight offer = if weight == 0 then lacking_text ranges (po
 abbrev pub offer_row : List MediaType → RankedOffer → Option MediaType → List ℕ
 offer_row ranges one None = []
 offer_row ranges one (Some offer) =
-    codes "offer " ++ (weight_text one.weight
-    ++ (codes " " ++ (offer.kept ++ (by_text ranges one.range ++ (lacking_remark ranges one.weight offer ++ codes "\n")))))
+    weighed_text (codes "offer ") one.weight offer ++ (by_text ranges one.range ++ (lacking_remark ranges one.weight offer ++ codes "\n"))
 
 abbrev pub offer_rows : List MediaType → List MediaType → List RankedOffer → List ℕ
 offer_rows ranges offers ranking = flat_map (λ one. offer_row ranges one (slice_get offers one.offer)) ranking
@@ -190,14 +194,14 @@ is_acceptable offers best = length offers == 0 || is_some best
 abbrev pub chooses : List (List ℕ) → Option Bool → Bool → Bool
 chooses lines before is_last = not (length lines == 0) || (is_last && not (is_some before))
 
--- what is written of the lines of `Accept`, which are one list (5.3), and of offers, if they are chosen there; and whether, in the last
+-- a report before and after the lines of `Accept`, which are one list (5.3), and offers, if they are chosen there; and whether, in the last
 -- choice, one was acceptable
-pub data ReportsChoice (lines : List (List ℕ)) (offers : List MediaType) (before : Option Bool) : Bool → List ℕ → Option Bool → Type 0 where
-  elsewhere : ReportsChoice lines offers before false [] before
-  here : {entry_rows : List ℕ} {ranges : List MediaType} {ranking : List RankedOffer} → ReportsLines (lines_or_any lines) entry_rows ranges
+pub data AddsChoice (lines : List (List ℕ)) (offers : List MediaType) (old : List ℕ) (before : Option Bool)
+    : Bool → List ℕ → Option Bool → Type 0 where
+  elsewhere : AddsChoice lines offers old before false old before
+  here : {text : List ℕ} {ranges : List MediaType} {ranking : List RankedOffer} → AddsLines (lines_or_any lines) (old ++ none_row lines) [] text ranges
       → IsRanking ranges offers ranking
-      → ReportsChoice lines offers before true
-      (none_row (codes "no Accept") lines ++ (entry_rows ++ (offer_rows ranges offers ranking ++ best_rows offers (best_of offers ranking))))
+      → AddsChoice lines offers old before true (text ++ (offer_rows ranges offers ranking ++ best_rows offers (best_of offers ranking)))
       (Some (is_acceptable offers (best_of offers ranking)))
 
 -- the row of a head, if there are many
@@ -209,35 +213,47 @@ abbrev pub spaced_row : List ℕ → List ℕ
 spaced_row line =
     if is_spaced (codes "content-type") line || is_spaced (codes "accept") line then row (codes "white space before the colon: ") (shown line) else []
 
--- what is written of a head
-pub record ReportsHead (offers : List MediaType) (many : Bool) (head : List (List ℕ)) (is_last : Bool) (before : Option Bool) (rows : List ℕ)
-    (are_good : Bool) (after : Option Bool) : Type 0 where
-  pub type_rows : List ℕ
-  pub choice_rows : List ℕ
-  pub are_types : ReportsTypes (values_of (codes "content-type:") head) type_rows are_good
-  pub is_choice : ReportsChoice (values_of (codes "accept:") head) offers before (chooses (values_of (codes "accept:") head) before is_last)
-      choice_rows after
-  pub is_rows :
-      rows ≡ title_row many head
-      ++ (flat_map spaced_row head ++ (type_rows ++ (count_row (values_of (codes "content-type:") head) ++ choice_rows)))
+-- what is known after some heads: the report, whether each `Content-Type` is good, and the last choice
+pub record State : Type 0 where
+  pub text : List ℕ
+  pub are_good : Bool
+  pub choice : Option Bool
 
--- and of all heads of lines, one after another
-pub data ReportsHeads (offers : List MediaType) (many : Bool) : List (List ℕ) → Option Bool → List ℕ → Bool → Option Bool → Type 0 where
-  last_head : {lines : List (List ℕ)} {before after : Option Bool} {rows : List ℕ} {are_good : Bool} → from_status (after_head lines) ≡ []
-      → ReportsHead offers many (until_empty lines) true before rows are_good after → ReportsHeads offers many lines before rows are_good after
-  a_head : {lines next : List (List ℕ)} {before between after : Option Bool} {rows more : List ℕ} {are_good are_more : Bool}
-      → from_status (after_head lines) ≡ next → next ≢ [] → ReportsHead offers many (until_empty lines) false before rows are_good between
-      → ReportsHeads offers many next between more are_more after → ReportsHeads offers many lines before (rows ++ more) (are_good && are_more) after
+-- before and after a head
+pub record AddsHead (offers : List MediaType) (many : Bool) (head : List (List ℕ)) (is_last : Bool) (old new : State) : Type 0 where
+  pub text : List ℕ
+  pub types :
+      AddsTypes (values_of (codes "content-type:") head) (old.text ++ (title_row many head ++ flat_map spaced_row head)) old.are_good text new.are_good
+  pub choice : AddsChoice (values_of (codes "accept:") head) offers (text ++ count_row (values_of (codes "content-type:") head)) old.choice
+      (chooses (values_of (codes "accept:") head) old.choice is_last) new.text new.choice
+
+-- and all heads of lines, one after another
+pub data AddsHeads (offers : List MediaType) (cut many : Bool) : List (List ℕ) → State → State → Type 0 where
+  last_head : {lines : List (List ℕ)} {old new : State} → next_head cut lines ≡ [] → AddsHead offers many (head_of lines) true old new
+      → AddsHeads offers cut many lines old new
+  a_head : {lines next : List (List ℕ)} {old between new : State} → next_head cut lines ≡ next → next ≢ []
+      → AddsHead offers many (head_of lines) false old between → AddsHeads offers cut many next between new → AddsHeads offers cut many lines old new
+
+-- the row of an input that is cut off
+abbrev pub cut_row : Bool → List ℕ
+cut_row cut = if cut then row (codes "not read after 1048576 bytes") [] else []
 
 -- the verdict on values that are all good or not, and on the last choice
 abbrev pub verdict_of : Bool → Option Bool → Verdict
 verdict_of are_good choice = if are_good && unwrap_or choice true then Verdict.Acceptable else Verdict.NotAcceptable
 
--- the text is the report on these bytes and offers
-pub record IsReportOf (offers : List MediaType) (bytes text : List ℕ) (verdict : Verdict) : Type 0 where
-  pub rows : List ℕ
-  pub are_good : Bool
-  pub choice : Option Bool
-  pub are_heads : ReportsHeads offers (not (length (from_status (after_head (bare_lines bytes))) == 0)) (bare_lines bytes) None rows are_good choice
-  pub is_text : text ≡ without_controls rows
-  pub is_verdict : verdict ≡ verdict_of are_good choice
+-- the text is the report on these lines and offers; of an input that is cut off, the first head is ended within
+pub record IsReport (offers : List MediaType) (cut : Bool) (lines : List (List ℕ)) (text : List ℕ) (verdict : Verdict) : Type 0 where
+  pub state : State
+  pub counted : is_counted cut lines ≡ true
+  pub heads : AddsHeads offers cut (not (length (next_head cut lines) == 0)) lines (record { text = []; are_good = true; choice = None }) state
+  pub is_text : text ≡ without_controls (state.text ++ cut_row cut)
+  pub is_verdict : verdict ≡ verdict_of state.are_good state.choice
+
+-- an input of more bytes than the limit is cut off: it is read to one byte past it, which only shows that the line before has ended
+abbrev pub is_cut : List ℕ → Bool
+is_cut bytes = nat_lt limit (length bytes)
+
+-- the text is the report on the bytes that were read, and on offers
+abbrev pub IsReportOf : List MediaType → List ℕ → List ℕ → Verdict → Type 0
+IsReportOf offers bytes text verdict = IsReport offers (is_cut bytes) (bare_lines bytes) text verdict

@@ -1,11 +1,11 @@
 //! A head: its lines, and the values of a field.
 
-ghost use Rattle.std.specs.Prelude.{◌≡◌, ◌≢◌, ◌<◌, ◌≤◌, ◌∷◌, ◌++◌, ◌==◌, [], None, Some, length, map, OnOk, IfOk, IfSome, MatchOption};
+ghost use Rattle.std.specs.Prelude.{◌≡◌, ◌≢◌, ◌<◌, ◌≤◌, ◌-◌, ◌∷◌, ◌++◌, [], length, map, OnOk, IfOk, IfSome, MatchOption};
 ghost use Rattle.std.specs.Str.Lines.{strip_carriage_return};
 ghost use Rattle.std.specs.Vec.{vec_items};
 ghost use Rattle.mime.specs.Grammar.{is_space};
 ghost use Rattle.mime_http.specs.HttpList.{trim_start, trim_end, trimmed};
-ghost use Rattle.mime_headers.specs.Head.{without_space, without_mark, bare_lines, head_of, after_head, from_status, title_of, is_colon_first, is_spaced, goes_on, continued, begins, values_of};
+ghost use Rattle.mime_headers.specs.Head.{without_space, without_mark, bare_lines, is_indented, without_indent, until_end, after_end, head_of, after_head, from_status, is_counted, next_head, title_of, is_colon_first, is_spaced, goes_on, continued, begins, values_of};
 
 use mime_io::first_line;
 use std::alloc::{AllocError, Global};
@@ -47,20 +47,6 @@ fn bare_line(input: &[u8]) -> Option<(&[u8], &[u8])>
 {
     let (line, rest) = first_line(input)?;
     Some((unmarked(unreturned(line)), rest))
-}
-
-/// The first line of a head and the input after it, or `None` if the head has ended: with a line that has nothing but a mark, or with
-/// the input.
-pub(crate) fn head_line(input: &[u8]) -> Option<(&[u8], &[u8])>
-    ensures lines { MatchOption result (head_of input.now ≡ []) (λ cut. head_of input.now ≡ cut.0.now ∷ head_of cut.1.now) }
-    ensures shorter { IfSome result (λ cut. length cut.1.now < length input.now) }
-{
-    let (line, rest) = bare_line(input)?;
-    if line.is_empty() {
-        None
-    } else {
-        Some((line, rest))
-    }
 }
 
 /// Whether a byte is white space.
@@ -123,24 +109,22 @@ fn begins(label: &[u8], line: &[u8]) -> bool
 }
 
 /// What the lines after a field's add to its value, after what it has.
-fn push_continued(value: &mut Vec<u8>, after: &[u8]) -> Result<(), AllocError>
-    ensures { OnOk result (vec_items value.new ≡ vec_items value.old ++ continued (head_of after.now)) }
+fn push_continued(value: &mut Vec<u8>, lines: &[&[u8]]) -> Result<(), AllocError>
+    ensures { OnOk result (vec_items value.new ≡ vec_items value.old ++ continued (map (λ line. line.now) lines.now)) }
 {
-    let mut rest = after;
-    while let Some((line, more)) = head_line(rest) {
+    for line in lines {
         if !goes_on(line) {
             return Ok(());
         }
         value.push(b' ')?;
         value.extend_from_slice(trimmed(line))?;
-        rest = more;
     }
     Ok(())
 }
 
 /// A field's value, which begins in its line and goes on in those after it.
-fn whole_value(alloc: Global, begin: &[u8], after: &[u8]) -> Result<Vec<u8>, AllocError>
-    ensures { IfOk result (λ value. vec_items value ≡ trimmed begin.now ++ continued (head_of after.now)) }
+fn whole_value(alloc: Global, begin: &[u8], after: &[&[u8]]) -> Result<Vec<u8>, AllocError>
+    ensures { IfOk result (λ value. vec_items value ≡ trimmed begin.now ++ continued (map (λ line. line.now) after.now)) }
 {
     let mut value = trimmed(begin).to_vec(alloc)?;
     push_continued(&mut value, after)?;
@@ -151,45 +135,139 @@ fn whole_value(alloc: Global, begin: &[u8], after: &[u8]) -> Result<Vec<u8>, All
 pub(crate) fn values_of(
     alloc: Global,
     label: &[u8],
-    input: &[u8],
+    head: &[&[u8]],
 ) -> Result<Vec<Vec<u8>>, AllocError>
-    ensures { IfOk result (λ values. map vec_items (vec_items values) ≡ values_of label.now (head_of input.now)) }
+    ensures { IfOk result (λ values. map vec_items (vec_items values) ≡ values_of label.now (map (λ line. line.now) head.now)) }
 {
     let mut values = Vec::new(alloc);
-    let mut rest = input;
-    while let Some((line, more)) = head_line(rest) {
+    for (at, line) in head.iter().enumerate() {
         if begins(label, line) {
-            values.push(whole_value(alloc, &line[label.len()..], more)?)?;
+            values.push(whole_value(alloc, &line[label.len()..], &head[at + 1..])?)?;
         }
-        rest = more;
     }
     Ok(values)
 }
 
-/// An input without the head at its start, and the empty line that ends it.
-fn skip_head(input: &[u8]) -> &[u8]
-    ensures lines { bare_lines result.now ≡ after_head (bare_lines input.now) }
-    ensures shorter { length result.now ≤ length input.now }
+/// Whether a line begins a head that is indented, as `wget -S` prints it.
+fn is_indented(line: &[u8]) -> bool
+    ensures { result ≡ is_indented line.now }
+{
+    begins(b"  http/", line)
+}
+
+/// A line of a head without the spaces by which the head is indented, if it is.
+fn unindented(indented: bool, line: &[u8]) -> &[u8]
+    ensures { result.now ≡ without_indent indented line.now }
+{
+    if indented && begins(b"  ", line) {
+        &line[2..]
+    } else {
+        line
+    }
+}
+
+/// A head: the input from it on, its lines, and the input after it.
+#[derive(Drop)]
+pub(crate) struct Head<'a> {
+    pub(crate) input: &'a [u8],
+    pub(crate) lines: Vec<&'a [u8]>,
+    after: &'a [u8],
+    ghost are_lines: { map (λ line. line.now) lines.items ≡ head_of (bare_lines input.now) },
+    ghost is_after: { bare_lines after.now ≡ after_head (bare_lines input.now) },
+    ghost is_shorter: { length after.now ≤ length input.now - 1 },
+}
+
+impl Head<'_> {
+    /// Returns whether a head counts. In an input that is cut off it does only if something follows its end.
+    pub(crate) fn is_counted(&self, is_cut: bool) -> bool
+        ensures { result ≡ is_counted is_cut (bare_lines self.now.input.now) }
+    {
+        !is_cut || !self.after.is_empty()
+    }
+}
+
+/// Reads the head at an input's start.
+pub(crate) fn read_head(alloc: Global, input: &[u8]) -> Result<Head<'_>, AllocError>
+    ensures { IfOk result (λ head. head.input.now ≡ input.now) }
+{
+    let mut lines = Vec::new(alloc);
+    let Some((first, rest)) = bare_line(input) else {
+        return Ok(Head {
+            input,
+            lines,
+            after: &[],
+        });
+    };
+    let after = push_head(&mut lines, first, rest)?;
+    Ok(Head {
+        input,
+        lines,
+        after,
+    })
+}
+
+/// Adds the lines of a head, whose first line and the input after it are given. Returns the input after the head.
+fn push_head<'a>(
+    lines: &mut Vec<&'a [u8]>,
+    first: &'a [u8],
+    rest: &'a [u8],
+) -> Result<&'a [u8], AllocError>
+    ensures lines { OnOk result (map (λ line. line.now) (vec_items lines.new)
+        ≡ map (λ line. line.now) (vec_items lines.old) ++ head_of (first.now ∷ bare_lines rest.now)) }
+    ensures after { IfOk result (λ after. bare_lines after.now ≡ after_head (first.now ∷ bare_lines rest.now)) }
+    ensures shorter { IfOk result (λ after. length after.now ≤ length rest.now) }
+{
+    if first.is_empty() {
+        return Ok(rest);
+    }
+    let indented = is_indented(first);
+    lines.push(unindented(indented, first))?;
+    push_lines(lines, indented, rest)
+}
+
+/// Adds the lines of a head after its first, and returns the input after it.
+fn push_lines<'a>(
+    lines: &mut Vec<&'a [u8]>,
+    indented: bool,
+    input: &'a [u8],
+) -> Result<&'a [u8], AllocError>
+    ensures lines { OnOk result (map (λ line. line.now) (vec_items lines.new)
+        ≡ map (λ line. line.now) (vec_items lines.old) ++ map (without_indent indented) (until_end (bare_lines input.now))) }
+    ensures after { IfOk result (λ after. bare_lines after.now ≡ after_end (bare_lines input.now)) }
+    ensures shorter { IfOk result (λ after. length after.now ≤ length input.now) }
 {
     let mut rest = input;
     while let Some((line, more)) = bare_line(rest) {
         if line.is_empty() {
-            return more;
+            return Ok(more);
         }
+        if is_indented(line) {
+            return Ok(rest);
+        }
+        lines.push(unindented(indented, line))?;
         rest = more;
     }
-    rest
+    Ok(rest)
 }
 
-/// What is left after a line of a head, and the others.
-fn skip_lines<'a>(line: &[u8], rest: &'a [u8]) -> &'a [u8]
-    ensures lines { bare_lines result.now ≡ after_head (line.now ∷ bare_lines rest.now) }
-    ensures shorter { length result.now ≤ length rest.now }
+/// Returns the next head after one, if there is one that counts.
+pub(crate) fn next_head<'a>(
+    alloc: Global,
+    is_cut: bool,
+    head: &Head<'a>,
+) -> Result<Option<Head<'a>>, AllocError>
+    ensures next { IfOk result (λ next. MatchOption next (next_head is_cut (bare_lines head.now.input.now) ≡ [])
+        (λ next. (next_head is_cut (bare_lines head.now.input.now) ≡ bare_lines next.input.now) × (bare_lines next.input.now ≢ []))) }
+    ensures shorter { IfOk result (λ next. IfSome next (λ next. length next.input.now < length head.now.input.now)) }
 {
-    if line.is_empty() {
-        rest
+    let Some(input) = from_status(head.after) else {
+        return Ok(None);
+    };
+    let next = read_head(alloc, input)?;
+    if next.is_counted(is_cut) {
+        Ok(Some(next))
     } else {
-        skip_head(rest)
+        Ok(None)
     }
 }
 
@@ -197,11 +275,11 @@ fn skip_lines<'a>(line: &[u8], rest: &'a [u8]) -> &'a [u8]
 fn from_status(input: &[u8]) -> Option<&[u8]>
     ensures lines { MatchOption result (from_status (bare_lines input.now) ≡ [])
         (λ next. (from_status (bare_lines input.now) ≡ bare_lines next.now) × (bare_lines next.now ≢ [])) }
-    ensures shorter { IfSome result (λ next. length next.now ≤ length input.now) }
+    ensures shorter { IfSome result (λ next. (length next.now ≤ length input.now) × (0 < length next.now)) }
 {
     let mut rest = input;
     while let Some((line, more)) = bare_line(rest) {
-        if begins(b"http/", line) {
+        if begins(b"http/", line) || is_indented(line) {
             return Some(rest);
         }
         rest = more;
@@ -209,26 +287,14 @@ fn from_status(input: &[u8]) -> Option<&[u8]>
     None
 }
 
-/// An input from the next head on, if there is one.
-pub(crate) fn next_head(input: &[u8]) -> Option<&[u8]>
-    ensures lines { MatchOption result (from_status (after_head (bare_lines input.now)) ≡ [])
-        (λ next. (from_status (after_head (bare_lines input.now)) ≡ bare_lines next.now) × (bare_lines next.now ≢ [])) }
-    ensures shorter { IfSome result (λ next. length next.now < length input.now) }
-{
-    let (line, rest) = bare_line(input)?;
-    from_status(skip_lines(line, rest))
-}
-
 /// What a head is called.
-pub(crate) fn title_of(input: &[u8]) -> &[u8]
-    ensures { result.now ≡ title_of (head_of input.now) }
+pub(crate) fn title_of<'a>(head: &[&'a [u8]]) -> &'a [u8]
+    ensures { result.now ≡ title_of (map (λ line. line.now) head.now) }
 {
-    let mut rest = input;
-    while let Some((line, more)) = head_line(rest) {
+    for line in head {
         if !begins(b"*", line) {
             return line;
         }
-        rest = more;
     }
     &[]
 }

@@ -1,51 +1,55 @@
 //! One run of the program, from a source to a sink.
 
-ghost use Rattle.std.specs.Prelude.{◌≡◌, ◌≢◌, ℕ, List, ◌≤◌, ◌+◌, length, map, true, OnOk, IfOk, IfErr};
+ghost use Rattle.std.specs.Prelude.{◌≡◌, ◌≢◌, ℕ, List, ◌≤◌, ◌+◌, length, map, true, false, OnOk, IfOk, IfErr};
 ghost use Rattle.std.specs.Io.KnownBytes.{Consumes, Appends, IsAtEnd};
 ghost use Rattle.mime_io.specs.Stops.{limit};
+ghost use Rattle.mime_headers.specs.Head.{bare_lines, is_counted};
 ghost use Rattle.mime_headers.specs.Report.{IsReportOf};
 
 use crate::report::report_of;
 use crate::verdict::Verdict;
 use mime::Mime;
-use mime_io::{RunError, Sink, Source, read_to_limit, write_report};
+use mime_io::{LIMIT, RunError, Sink, Source, read_past_limit, write_report};
 use std::alloc::Global;
 
-/// Reads a source to its end, and then writes the report on the head that it read, and on the offers, to a sink. Returns the
-/// verdict.
+/// Reads a source to its end, or to one byte past the limit, and then writes the report on the heads that it read, and on the offers, to a
+/// sink. Returns the verdict.
 ///
 /// # Errors
-/// `Read` if the source fails, and `Write` if the sink does; no call is made again. `TooLong` if the source
-/// gives more than 1,048,576 bytes. `NoMemory` if memory runs out. The first of these is returned. Only
-/// after `Write` may a part of the report have been written.
+/// `Read` if the source fails, and `Write` if the sink does; no call is made again. `TooLong` if the source gives more than 1,048,576 bytes,
+/// and its first head isn't ended within them. `NoMemory` if memory runs out. The first of these is returned. Only after `Write` may a part
+/// of the report have been written.
 pub fn run<S: Source, T: Sink>(
     alloc: Global,
     source: &mut S,
     sink: &mut T,
     offers: &[Mime],
 ) -> Result<Verdict, RunError>
-    // A run that succeeds has read bytes to the end of the source, and not more than the limit. It has
-    // written the report on these bytes and the offers, nothing else, and flushed it, and the verdict is the
-    // report's. This also holds of a source or a sink that doesn't say which bytes it has.
+    // A run that succeeds has read bytes to the end of the source, or to one byte past the limit. It has written the report on these bytes
+    // and the offers, nothing else, and flushed it, and the verdict is the report's. This also holds of a source or a sink that doesn't say
+    // which bytes it has.
     ensures whole { IfOk result (λ verdict. (bytes : List ℕ) × (text : List ℕ)
-        × Consumes (S.left source.old) (S.left source.new) bytes × (length bytes ≤ limit)
+        × Consumes (S.left source.old) (S.left source.new) bytes × (length bytes ≤ limit + 1) × (length bytes ≤ limit → IsAtEnd (S.left source.new))
         × IsReportOf (map (λ offer. offer.media) offers.now) bytes text verdict × Appends (T.held sink.old) (T.held sink.new) text) }
-    ensures end { OnOk result (IsAtEnd (S.left source.new)) }
     ensures flushed { OnOk result (T.IsFlushed sink.new) }
     // The source fails if the result is `Read`, the sink if it is `Write`, and otherwise neither does.
     ensures read { result ≡ Err RunError.Read → S.has_failed source.new ≡ true }
     ensures write { result ≡ Err RunError.Write → T.has_failed sink.new ≡ true }
     ensures source_unfailed { result ≢ Err RunError.Read → S.has_failed source.new ≡ S.has_failed source.old }
     ensures sink_unfailed { result ≢ Err RunError.Write → T.has_failed sink.new ≡ T.has_failed sink.old }
-    // If the result is `TooLong`, the source gave one byte more than the limit.
-    ensures too_long { result ≡ Err RunError.TooLong
-        → (bytes : List ℕ) × Consumes (S.left source.old) (S.left source.new) bytes × (length bytes ≡ limit + 1) }
+    // If the result is `TooLong`, the source gave one byte more than the limit, and the first head isn't ended within it.
+    ensures too_long { result ≡ Err RunError.TooLong → (bytes : List ℕ) × Consumes (S.left source.old) (S.left source.new) bytes
+        × (length bytes ≡ limit + 1) × (is_counted true (bare_lines bytes) ≡ false) }
     // Nothing is written before the report is complete.
     ensures untouched { IfErr result (λ error. error ≢ RunError.Write → sink.new ≡ sink.old) }
 {
-    let input = read_to_limit(alloc, source)?;
-    let Ok(report) = report_of(alloc, input.as_slice(), offers) else {
+    let input = read_past_limit(alloc, source)?;
+    let is_cut = input.len() > LIMIT;
+    let Ok(answer) = report_of(alloc, input.as_slice(), is_cut, offers) else {
         return Err(RunError::NoMemory);
+    };
+    let Some(report) = answer else {
+        return Err(RunError::TooLong);
     };
     write_report(sink, report.text.as_slice())?;
     Ok(report.verdict)

@@ -1,17 +1,16 @@
-//! The report on a head.
+//! The report on heads.
 
-ghost use Rattle.std.specs.Prelude.{◌≡◌, ◌++◌, [], ◌∷◌, ℕ, List, Some, map, flat_map, slice_get, replicate, OnOk, IfOk, option_map};
+ghost use Rattle.std.specs.Prelude.{◌≡◌, ◌++◌, ◌∷◌, [], ℕ, List, false, map, flat_map, slice_get, replicate, OnOk, IfOk, MatchOption, option_map};
 ghost use Rattle.std.specs.Vec.{vec_items};
-ghost use Rattle.mime.specs.Values.{suffix_of};
-ghost use Rattle.mime_http.specs.HttpList.{trimmed, lines_or_any};
+ghost use Rattle.mime.specs.Values.{MediaType, suffix_of};
+ghost use Rattle.mime_http.specs.HttpList.{lines_or_any};
 ghost use Rattle.mime_io.specs.Inner.{Adds};
 ghost use Rattle.mime_io.specs.Lines.{row, suffix_row};
-ghost use Rattle.mime_headers.specs.Report.{shown_byte, shown, param_row, media_rows, ReportsBoundary, fault_at, fault_remark, caret_row, fault_rows, ReportsType, ReportsTypes, none_row, count_row, spaced_row, digit, weight_text};
-ghost use Rattle.mime_headers.specs.Report.{weight_remark, range_row, place_text, by_text, lacking_text, lacking_remark, offer_row, offer_rows, best_of, best_rows, is_acceptable, verdict_of, chooses, title_row, ReportsChoice, ReportsHead, IsReportOf};
-ghost use Rattle.mime_headers.specs.Head.{head_of};
-ghost use Rattle.mime_headers.specs.Inner.{AddsEntry, AddsLines};
+ghost use Rattle.mime_headers.specs.Head.{bare_lines, head_of, is_counted};
+ghost use Rattle.mime_headers.specs.Report.{shown_byte, shown, param_row, media_rows, ReportsBoundary, fault_at, fault_remark, caret_row, fault_rows, AddsType, AddsTypes, none_row, count_row, spaced_row, digit, weight_text};
+ghost use Rattle.mime_headers.specs.Report.{weighed_text, weight_remark, range_row, AddsEntry, AddsLines, place_text, by_text, lacking_remark, offer_row, offer_rows, best_of, best_rows, is_acceptable, verdict_of, chooses, title_row, AddsChoice, AddsHead, cut_row, IsReport};
 
-use crate::head::{head_line, is_spaced, next_head, title_of, trimmed, values_of};
+use crate::head::{Head, is_spaced, next_head, read_head, title_of, trimmed, values_of};
 use crate::shown::without_controls;
 use crate::verdict::Verdict;
 use mime::{Mime, ParseError};
@@ -28,209 +27,469 @@ pub(crate) struct Report {
     pub(crate) verdict: Verdict,
 }
 
-/// The report on the heads of an input, and on offers.
-pub(crate) fn report_of(alloc: Global, input: &[u8], offers: &[Mime]) -> Result<Report, AllocError>
-    ensures { IfOk result (λ report. IsReportOf (map (λ offer. offer.media) offers.now) input.now (vec_items report.text) report.verdict) }
-{
-    let mut text = Vec::new(alloc);
-    let mut are_good = true;
-    let mut choice = None;
-    let mut head = input;
-    let mut next = next_head(input);
-    let many = next.is_some();
-    while let Some(rest) = next {
-        are_good &= push_head(alloc, &mut text, offers, many, head, false, &mut choice)?;
-        head = rest;
-        next = next_head(rest);
-    }
-    are_good &= push_head(alloc, &mut text, offers, many, head, true, &mut choice)?;
-    let text = without_controls(alloc, text)?;
-    let verdict = verdict_of(are_good, choice);
-    Ok(Report { text, verdict })
-}
-
-/// Adds the rows of a head, and sets whether an offer was acceptable, if it is asked there. Returns whether each `Content-Type` is good.
-fn push_head(
+/// Returns the report on the heads of an input and on offers, or `None` if the input is cut off and its first head isn't ended.
+pub(crate) fn report_of(
     alloc: Global,
-    report: &mut Vec<u8>,
+    input: &[u8],
+    is_cut: bool,
     offers: &[Mime],
-    many: bool,
-    head: &[u8],
-    is_last: bool,
-    choice: &mut Option<bool>,
-) -> Result<bool, AllocError>
-    ensures { IfOk result (λ are_good. Adds (λ rows. ReportsHead (map (λ offer. offer.media) offers.now) many (head_of head.now) is_last choice.old rows
-        are_good choice.new) (vec_items report.old) (vec_items report.new)) }
+) -> Result<Option<Report>, AllocError>
+    ensures { IfOk result (λ answer. MatchOption answer (is_counted is_cut (bare_lines input.now) ≡ false) (λ report.
+        IsReport (map (λ offer. offer.media) offers.now) is_cut (bare_lines input.now) (vec_items report.text) report.verdict)) }
 {
-    let types = values_of(alloc, b"content-type:", head)?;
-    let lines = values_of(alloc, b"accept:", head)?;
-    push_title(report, many, head)?;
-    push_spaced(report, head)?;
-    let are_good = push_types(alloc, report, &types)?;
-    push_count(report, &types)?;
-    let is_here = chooses(&lines, *choice, is_last);
-    *choice = push_choice(alloc, report, &lines, offers, *choice, is_here)?;
-    Ok(are_good)
+    let mut head = read_head(alloc, input)?;
+    if !head.is_counted(is_cut) {
+        return Ok(None);
+    }
+    let mut rows = Rows {
+        alloc,
+        text: Vec::new(alloc),
+    };
+    let mut seen = Seen {
+        are_good: true,
+        choice: None,
+    };
+    let mut next = next_head(alloc, is_cut, &head)?;
+    let many = next.is_some();
+    while let Some(after) = next {
+        seen = rows.push_head(offers, many, &head, false, seen)?;
+        next = next_head(alloc, is_cut, &after)?;
+        head = after;
+    }
+    seen = rows.push_head(offers, many, &head, true, seen)?;
+    rows.push_cut(is_cut)?;
+    let text = without_controls(alloc, rows.text)?;
+    let verdict = verdict_of(seen);
+    Ok(Some(Report { text, verdict }))
 }
 
-/// Adds the row of a head, if there are many.
-fn push_title(report: &mut Vec<u8>, many: bool, head: &[u8]) -> Result<(), AllocError>
-    ensures { OnOk result (vec_items report.new ≡ vec_items report.old ++ title_row many (head_of head.now)) }
-{
-    if many {
-        push_shown(report, "head ", title_of(head))
-    } else {
+/// What is known after some heads: whether each `Content-Type` is good, and whether an offer was acceptable in the last choice.
+#[derive(Clone, Copy)]
+struct Seen {
+    are_good: bool,
+    choice: Option<bool>,
+}
+
+/// The rows of a report.
+#[derive(Drop)]
+struct Rows {
+    alloc: Global,
+    text: Vec<u8>,
+}
+
+impl Rows {
+    /// Adds the rows of a head. Returns what is known after it.
+    fn push_head(
+        &mut self,
+        offers: &[Mime],
+        many: bool,
+        head: &Head<'_>,
+        is_last: bool,
+        before: Seen,
+    ) -> Result<Seen, AllocError>
+        ensures { IfOk result (λ seen. AddsHead (map (λ offer. offer.media) offers.now) many (head_of (bare_lines head.now.input.now)) is_last
+            (record { text = vec_items self.old.text; are_good = before.are_good; choice = before.choice })
+            (record { text = vec_items self.new.text; are_good = seen.are_good; choice = seen.choice })) }
+    {
+        let types = values_of(self.alloc, b"content-type:", &head.lines)?;
+        let lines = values_of(self.alloc, b"accept:", &head.lines)?;
+        self.push_title(many, &head.lines)?;
+        self.push_spaced(&head.lines)?;
+        let are_good = self.push_types(&types, before.are_good)?;
+        self.push_count(&types)?;
+        let is_here = chooses(&lines, before.choice, is_last);
+        let choice = self.push_choice(&lines, offers, before.choice, is_here)?;
+        Ok(Seen { are_good, choice })
+    }
+
+    /// Adds the row of a head, if there are many.
+    fn push_title(&mut self, many: bool, head: &[&[u8]]) -> Result<(), AllocError>
+        ensures { OnOk result (vec_items self.new.text ≡ vec_items self.old.text ++ title_row many (map (λ line. line.now) head.now)) }
+    {
+        if many {
+            self.push_shown("head ", title_of(head))
+        } else {
+            Ok(())
+        }
+    }
+
+    /// Adds the rows of lines that would be headers without their white space.
+    fn push_spaced(&mut self, head: &[&[u8]]) -> Result<(), AllocError>
+        ensures { OnOk result (vec_items self.new.text ≡ vec_items self.old.text ++ flat_map spaced_row (map (λ line. line.now) head.now)) }
+    {
+        for line in head {
+            self.push_if_spaced(line)?;
+        }
         Ok(())
     }
-}
 
-/// Adds the rows of lines that would be headers without their white space.
-fn push_spaced(report: &mut Vec<u8>, head: &[u8]) -> Result<(), AllocError>
-    ensures { OnOk result (vec_items report.new ≡ vec_items report.old ++ flat_map spaced_row (head_of head.now)) }
-{
-    let mut rest = head;
-    while let Some((line, more)) = head_line(rest) {
-        push_if_spaced(report, line)?;
-        rest = more;
+    /// Adds the row of a line that would be a header without its white space, if it is one.
+    fn push_if_spaced(&mut self, line: &[u8]) -> Result<(), AllocError>
+        ensures { OnOk result (vec_items self.new.text ≡ vec_items self.old.text ++ spaced_row line.now) }
+    {
+        if is_spaced(b"content-type", line) || is_spaced(b"accept", line) {
+            self.push_shown("white space before the colon: ", line)
+        } else {
+            Ok(())
+        }
     }
-    Ok(())
-}
 
-/// Adds the row of a line that would be a header without its white space, if it is one.
-fn push_if_spaced(report: &mut Vec<u8>, line: &[u8]) -> Result<(), AllocError>
-    ensures { OnOk result (vec_items report.new ≡ vec_items report.old ++ spaced_row line.now) }
-{
-    if is_spaced(b"content-type", line) || is_spaced(b"accept", line) {
-        push_shown(report, "white space before the colon: ", line)
-    } else {
+    /// Adds the row which says that there is no `Content-Type`, or more than one.
+    fn push_count(&mut self, values: &[Vec<u8>]) -> Result<(), AllocError>
+        ensures { OnOk result (vec_items self.new.text ≡ vec_items self.old.text ++ count_row (map vec_items values.now)) }
+    {
+        match values {
+            [] => self.push_row("no Content-Type", b""),
+            [_] => Ok(()),
+            _ => self.push_row("several Content-Type lines (HTTP allows one)", b""),
+        }
+    }
+
+    /// Adds the rows of the lines of `Accept` and of offers, if they are chosen here. Returns whether one was acceptable in the last
+    /// choice.
+    fn push_choice(
+        &mut self,
+        lines: &[Vec<u8>],
+        offers: &[Mime],
+        before: Option<bool>,
+        is_here: bool,
+    ) -> Result<Option<bool>, AllocError>
+        ensures { IfOk result (λ after. AddsChoice (map vec_items lines.now) (map (λ offer. offer.media) offers.now) (vec_items self.old.text) before is_here
+            (vec_items self.new.text) after) }
+    {
+        if !is_here {
+            return Ok(before);
+        }
+        let mut ranges = Vec::new(self.alloc);
+        self.push_lines(&mut ranges, lines)?;
+        let ranking = rank_offers(self.alloc, &ranges, offers)?;
+        self.push_offers(&ranges, offers, &ranking)?;
+        let best = best_of(offers, &ranking);
+        self.push_best(offers, best)?;
+        Ok(Some(is_acceptable(offers, best)))
+    }
+
+    /// Adds the rows of each value of `Content-Type`. Returns whether all are good, and those before.
+    fn push_types(&mut self, values: &[Vec<u8>], before: bool) -> Result<bool, AllocError>
+        ensures { IfOk result (λ are_good. AddsTypes (map vec_items values.now) (vec_items self.old.text) before (vec_items self.new.text) are_good) }
+    {
+        let mut are_good = before;
+        for value in values {
+            are_good &= self.push_type(trimmed(value))?;
+        }
+        Ok(are_good)
+    }
+
+    /// Adds the rows of a media type, or of the value's fault. Returns whether it is one.
+    fn push_type(&mut self, value: &[u8]) -> Result<bool, AllocError>
+        ensures { IfOk result (λ is_good. AddsType value.now (vec_items self.old.text) (vec_items self.new.text) is_good) }
+    {
+        match content_type(self.alloc, value) {
+            Ok(mime) => {
+                self.push_media(&mime)?;
+                self.push_boundary(&mime)?;
+                Ok(true)
+            }
+            Err(FieldError::NoMemory) => Err(AllocError),
+            Err(error) => {
+                self.push_fault("bad Content-Type ", value, error)?;
+                Ok(false)
+            }
+        }
+    }
+
+    /// Adds the rows of a media type.
+    fn push_media(&mut self, mime: &Mime) -> Result<(), AllocError>
+        ensures { OnOk result (vec_items self.new.text ≡ vec_items self.old.text ++ media_rows mime.now.media) }
+    {
+        self.push_row("Content-Type ", mime.as_str().as_bytes())?;
+        self.push_row("essence ", mime.essence_str().as_bytes())?;
+        self.push_suffix(mime)?;
+        self.push_params(mime)
+    }
+
+    /// Adds the row of the suffix, if there is one.
+    fn push_suffix(&mut self, mime: &Mime) -> Result<(), AllocError>
+        ensures { OnOk result (vec_items self.new.text ≡ vec_items self.old.text ++ suffix_row (suffix_of mime.now.media)) }
+    {
+        match mime.suffix() {
+            Some(suffix) => self.push_row("suffix ", suffix.as_str().as_bytes()),
+            None => Ok(()),
+        }
+    }
+
+    /// Adds a row for each parameter, with what its value means.
+    fn push_params(&mut self, mime: &Mime) -> Result<(), AllocError>
+        ensures { OnOk result (vec_items self.new.text ≡ vec_items self.old.text ++ flat_map param_row mime.now.media.pairs) }
+    {
+        for (name, value) in mime.params() {
+            self.push_param(name.as_str(), value.as_str())?;
+        }
         Ok(())
     }
-}
 
-/// Adds the row which says that there is no `Content-Type`, or more than one.
-fn push_count(report: &mut Vec<u8>, values: &[Vec<u8>]) -> Result<(), AllocError>
-    ensures { OnOk result (vec_items report.new ≡ vec_items report.old ++ count_row (map vec_items values.now)) }
-{
-    match values {
-        [] => push_row(report, "no Content-Type", b""),
-        [_] => Ok(()),
-        _ => push_row(report, "several Content-Type lines (HTTP allows one)", b""),
+    /// Adds the row of a parameter.
+    fn push_param(&mut self, name: &str, value: &str) -> Result<(), AllocError>
+        ensures { OnOk result (vec_items self.new.text ≡ vec_items self.old.text ++ param_row (name.now, value.now)) }
+    {
+        self.push("param ")?;
+        self.push(name)?;
+        self.push("=")?;
+        unescape(value, &mut self.text)?;
+        self.push("\n")
+    }
+
+    /// Adds the row of the boundary, if there is one.
+    fn push_boundary(&mut self, mime: &Mime) -> Result<(), AllocError>
+        ensures { OnOk result (Adds (ReportsBoundary mime.now.media) (vec_items self.old.text) (vec_items self.new.text)) }
+    {
+        match boundary(self.alloc, mime)? {
+            Some(bytes) => self.push_row("boundary ", bytes.as_slice()),
+            None => Ok(()),
+        }
+    }
+
+    /// Adds the rows of a rejected value of a field.
+    fn push_fault(&mut self, label: &str, value: &[u8], error: FieldError) -> Result<(), AllocError>
+        ensures { OnOk result (vec_items self.new.text ≡ vec_items self.old.text ++ fault_rows label.now value.now error) }
+    {
+        let text = format!(in self.alloc; "{error}")?;
+        self.push_row(label, text.as_bytes())?;
+        self.push_shown("    ", value)?;
+        self.push_caret(fault_at(value, error), fault_remark(error))
+    }
+
+    /// Adds a row with a caret so many bytes after its margin, and a remark.
+    fn push_caret(&mut self, at: usize, remark: &str) -> Result<(), AllocError>
+        ensures { OnOk result (vec_items self.new.text ≡ vec_items self.old.text ++ caret_row at remark.now) }
+    {
+        self.push("    ")?;
+        self.push_spaces(at)?;
+        self.push("^")?;
+        self.push(remark)?;
+        self.push("\n")
+    }
+
+    /// Adds so many spaces.
+    fn push_spaces(&mut self, count: usize) -> Result<(), AllocError>
+        ensures { OnOk result (vec_items self.new.text ≡ vec_items self.old.text ++ replicate count 32) }
+    {
+        for _ in 0..count {
+            self.text.push(b' ')?;
+        }
+        Ok(())
+    }
+
+    /// Adds a row of bytes that may be any.
+    fn push_shown(&mut self, label: &str, bytes: &[u8]) -> Result<(), AllocError>
+        ensures { OnOk result (vec_items self.new.text ≡ vec_items self.old.text ++ row label.now (shown bytes.now)) }
+    {
+        self.push(label)?;
+        for byte in bytes {
+            self.text.push(shown(*byte))?;
+        }
+        self.push("\n")
+    }
+
+    /// Adds the rows of the lines of `Accept`, or of one that accepts everything, and takes their ranges.
+    fn push_lines(&mut self, ranges: &mut Vec<Mime>, lines: &[Vec<u8>]) -> Result<(), AllocError>
+        ensures { OnOk result (AddsLines (lines_or_any (map vec_items lines.now)) (vec_items self.old.text ++ none_row (map vec_items lines.now))
+            (map (λ range. range.media) (vec_items ranges.old)) (vec_items self.new.text) (map (λ range. range.media) (vec_items ranges.new))) }
+    {
+        if lines.is_empty() {
+            self.push_row("no Accept", b"")?;
+            return self.push_line(ranges, b"*/*");
+        }
+        for line in lines {
+            self.push_line(ranges, line)?;
+        }
+        Ok(())
+    }
+
+    /// Adds the rows of a line's entries, and takes its ranges.
+    fn push_line(&mut self, ranges: &mut Vec<Mime>, line: &[u8]) -> Result<(), AllocError>
+        ensures { (lines : List (List ℕ)) (text : List ℕ) (all : List MediaType) → OnOk result
+            (AddsLines lines (vec_items self.new.text) (map (λ range. range.media) (vec_items ranges.new)) text all
+            → AddsLines (line.now ∷ lines) (vec_items self.old.text) (map (λ range. range.media) (vec_items ranges.old)) text all) }
+    {
+        let mut left = Some(line);
+        while let Some(text) = left {
+            let (entry, rest) = first_entry(text);
+            self.push_entry(ranges, trimmed(entry))?;
+            left = rest;
+        }
+        Ok(())
+    }
+
+    /// Adds the rows of an entry, and takes it if it is a range.
+    fn push_entry(&mut self, ranges: &mut Vec<Mime>, entry: &[u8]) -> Result<(), AllocError>
+        ensures { OnOk result (AddsEntry entry.now (vec_items self.old.text)
+            (map (λ range. range.media) (vec_items ranges.old)) (vec_items self.new.text) (map (λ range. range.media) (vec_items ranges.new))) }
+    {
+        if entry.is_empty() {
+            return Ok(());
+        }
+        match content_type(self.alloc, entry) {
+            Ok(range) => {
+                self.push_range(&range)?;
+                ranges.push(range)?;
+                Ok(())
+            }
+            Err(FieldError::NoMemory) => Err(AllocError),
+            Err(error) => self.push_fault("bad Accept ", entry, error),
+        }
+    }
+
+    /// Adds the row of a range.
+    fn push_range(&mut self, range: &Mime) -> Result<(), AllocError>
+        ensures { OnOk result (vec_items self.new.text ≡ vec_items self.old.text ++ range_row range.now.media) }
+    {
+        self.push_weighed("Accept ", weight_of(range), range)?;
+        self.push(weight_remark(range))?;
+        self.push("\n")
+    }
+
+    /// Adds a weight in thousandths, with three decimals, and a media type.
+    fn push_weighed(&mut self, label: &str, weight: u16, mime: &Mime) -> Result<(), AllocError>
+        ensures { OnOk result (vec_items self.new.text ≡ vec_items self.old.text ++ weighed_text label.now weight mime.now.media) }
+    {
+        self.push(label)?;
+        self.text.extend_from_slice(&decimals(weight))?;
+        self.push(" ")?;
+        self.push(mime.as_str())
+    }
+
+    /// Adds the rows of offers in the order in which they are ranked.
+    fn push_offers(
+        &mut self,
+        ranges: &[Mime],
+        offers: &[Mime],
+        ranking: &[RankedOffer],
+    ) -> Result<(), AllocError>
+        ensures { OnOk result (vec_items self.new.text ≡ vec_items self.old.text
+            ++ offer_rows (map (λ range. range.media) ranges.now) (map (λ offer. offer.media) offers.now) ranking.now) }
+    {
+        for one in ranking {
+            self.push_offer(ranges, offers, one)?;
+        }
+        Ok(())
+    }
+
+    /// Adds the row of an offer, if there is one.
+    fn push_offer(
+        &mut self,
+        ranges: &[Mime],
+        offers: &[Mime],
+        one: &RankedOffer,
+    ) -> Result<(), AllocError>
+        ensures { OnOk result (vec_items self.new.text ≡ vec_items self.old.text
+            ++ offer_row (map (λ range. range.media) ranges.now) one.now (slice_get (map (λ offer. offer.media) offers.now) one.now.offer)) }
+    {
+        let Some(offer) = offers.get(one.offer) else {
+            return Ok(());
+        };
+        self.push_weighed("offer ", one.weight, offer)?;
+        self.push_by(ranges, one.range)?;
+        self.push_lacking(ranges, one.weight, offer)?;
+        self.push("\n")
+    }
+
+    /// Adds which range decides, if one does.
+    fn push_by(&mut self, ranges: &[Mime], at: Option<usize>) -> Result<(), AllocError>
+        ensures { OnOk result (vec_items self.new.text ≡ vec_items self.old.text ++ by_text (map (λ range. range.media) ranges.now) at) }
+    {
+        match at {
+            Some(at) => self.push_place(" by ", ranges, at, ""),
+            None => self.push(" by none"),
+        }
+    }
+
+    /// Adds which range an offer lacks a parameter of, if it weighs nothing.
+    fn push_lacking(&mut self, ranges: &[Mime], weight: u16, offer: &Mime) -> Result<(), AllocError>
+        ensures { OnOk result (vec_items self.new.text ≡ vec_items self.old.text
+            ++ lacking_remark (map (λ range. range.media) ranges.now) weight offer.now.media) }
+    {
+        if weight > 0 {
+            return Ok(());
+        }
+        match lacking(ranges, offer) {
+            Some(at) => self.push_place(" (lacks a parameter of ", ranges, at, ")"),
+            None => Ok(()),
+        }
+    }
+
+    /// Adds a range's place, from 1, and the range, between two strings.
+    fn push_place(
+        &mut self,
+        before: &str,
+        ranges: &[Mime],
+        at: usize,
+        after: &str,
+    ) -> Result<(), AllocError>
+        ensures { OnOk result (vec_items self.new.text ≡ vec_items self.old.text
+            ++ place_text before.now at (slice_get (map (λ range. range.media) ranges.now) at) after.now) }
+    {
+        let Some(range) = ranges.get(at) else {
+            return Ok(());
+        };
+        let place = at + 1;
+        self.push(before)?;
+        self.push(format!(in self.alloc; "{place}")?.as_str())?;
+        self.push(" ")?;
+        self.push(range.as_str())?;
+        self.push(after)
+    }
+
+    /// Adds the row that says which offer is the best, if there are offers.
+    fn push_best(&mut self, offers: &[Mime], best: Option<&Mime>) -> Result<(), AllocError>
+        ensures { OnOk result (vec_items self.new.text ≡ vec_items self.old.text
+            ++ best_rows (map (λ offer. offer.media) offers.now) (option_map (λ best. best.now.media) best.entry)) }
+    {
+        if offers.is_empty() {
+            return Ok(());
+        }
+        match best {
+            Some(best) => self.push_row("best ", best.as_str().as_bytes()),
+            None => self.push_row("406 Not Acceptable", b""),
+        }
+    }
+
+    /// Adds the row of an input that is cut off, if it is.
+    fn push_cut(&mut self, is_cut: bool) -> Result<(), AllocError>
+        ensures { OnOk result (vec_items self.new.text ≡ vec_items self.old.text ++ cut_row is_cut) }
+    {
+        if is_cut {
+            self.push_row("not read after 1048576 bytes", b"")
+        } else {
+            Ok(())
+        }
+    }
+
+    /// Adds a row: a label, bytes and a line feed.
+    fn push_row(&mut self, label: &str, text: &[u8]) -> Result<(), AllocError>
+        ensures { OnOk result (vec_items self.new.text ≡ vec_items self.old.text ++ row label.now text.now) }
+    {
+        self.push(label)?;
+        self.text.extend_from_slice(text)?;
+        self.push("\n")
+    }
+
+    /// Adds a string.
+    fn push(&mut self, text: &str) -> Result<(), AllocError>
+        ensures { OnOk result (vec_items self.new.text ≡ vec_items self.old.text ++ text.now) }
+    {
+        self.text.extend_from_slice(text.as_bytes())
     }
 }
 
-/// Whether offers are chosen under a head with these lines of `Accept`.
+/// Returns whether offers are chosen under a head with these lines of `Accept`.
 fn chooses(lines: &[Vec<u8>], before: Option<bool>, is_last: bool) -> bool
     ensures { result ≡ chooses (map vec_items lines.now) before is_last }
 {
     !lines.is_empty() || (is_last && before.is_none())
 }
 
-/// Adds the rows of the lines of `Accept`, and of offers, if they are chosen here. Returns whether one was acceptable in the last choice.
-fn push_choice(
-    alloc: Global,
-    report: &mut Vec<u8>,
-    lines: &[Vec<u8>],
-    offers: &[Mime],
-    before: Option<bool>,
-    is_here: bool,
-) -> Result<Option<bool>, AllocError>
-    ensures { IfOk result (λ after. Adds (λ rows. ReportsChoice (map vec_items lines.now) (map (λ offer. offer.media) offers.now) before is_here rows after)
-        (vec_items report.old) (vec_items report.new)) }
-{
-    if !is_here {
-        return Ok(before);
-    }
-    let mut ranges = Vec::new(alloc);
-    push_none(report, "no Accept", lines)?;
-    push_lines(alloc, report, &mut ranges, lines)?;
-    let ranking = rank_offers(alloc, &ranges, offers)?;
-    push_offers(alloc, report, &ranges, offers, &ranking)?;
-    let best = best_of(offers, &ranking);
-    push_best(report, offers, best)?;
-    Ok(Some(is_acceptable(offers, best)))
-}
-
-/// Adds the rows of each value of `Content-Type`. Returns whether all are good.
-fn push_types(alloc: Global, report: &mut Vec<u8>, values: &[Vec<u8>]) -> Result<bool, AllocError>
-    ensures { IfOk result (λ are_good. Adds (λ rows. ReportsTypes (map vec_items values.now) rows are_good) (vec_items report.old) (vec_items report.new)) }
-{
-    let mut are_good = true;
-    for value in values {
-        are_good &= push_type(alloc, report, trimmed(value))?;
-    }
-    Ok(are_good)
-}
-
-/// Adds the rows of a media type, or of the value's fault. Returns whether it is one.
-fn push_type(alloc: Global, report: &mut Vec<u8>, value: &[u8]) -> Result<bool, AllocError>
-    ensures { IfOk result (λ is_good. Adds (λ rows. ReportsType value.now rows is_good) (vec_items report.old) (vec_items report.new)) }
-{
-    match content_type(alloc, value) {
-        Ok(mime) => {
-            push_media(report, &mime)?;
-            push_boundary(alloc, report, &mime)?;
-            Ok(true)
-        }
-        Err(FieldError::NoMemory) => Err(AllocError),
-        Err(error) => {
-            push_fault(alloc, report, "bad Content-Type ", value, error)?;
-            Ok(false)
-        }
-    }
-}
-
-/// Adds the rows of a media type.
-fn push_media(report: &mut Vec<u8>, mime: &Mime) -> Result<(), AllocError>
-    ensures { OnOk result (vec_items report.new ≡ vec_items report.old ++ media_rows mime.now.media) }
-{
-    push_row(report, "Content-Type ", mime.as_str().as_bytes())?;
-    push_row(report, "essence ", mime.essence_str().as_bytes())?;
-    push_suffix(report, mime)?;
-    push_params(report, mime)
-}
-
-/// Adds the row of the suffix, if there is one.
-fn push_suffix(report: &mut Vec<u8>, mime: &Mime) -> Result<(), AllocError>
-    ensures { OnOk result (vec_items report.new ≡ vec_items report.old ++ suffix_row (suffix_of mime.now.media)) }
-{
-    match mime.suffix() {
-        Some(suffix) => push_row(report, "suffix ", suffix.as_str().as_bytes()),
-        None => Ok(()),
-    }
-}
-
-/// Adds a row for each parameter, with what its value means.
-fn push_params(report: &mut Vec<u8>, mime: &Mime) -> Result<(), AllocError>
-    ensures { OnOk result (vec_items report.new ≡ vec_items report.old ++ flat_map param_row mime.now.media.pairs) }
-{
-    for (name, value) in mime.params() {
-        push_param(report, name.as_str(), value.as_str())?;
-    }
-    Ok(())
-}
-
-/// Adds the row of a parameter.
-fn push_param(report: &mut Vec<u8>, name: &str, value: &str) -> Result<(), AllocError>
-    ensures { OnOk result (vec_items report.new ≡ vec_items report.old ++ param_row (name.now, value.now)) }
-{
-    push(report, "param ")?;
-    push(report, name)?;
-    push(report, "=")?;
-    unescape(value, report)?;
-    push(report, "\n")
-}
-
-/// Adds the row of the boundary, if there is one.
-fn push_boundary(alloc: Global, report: &mut Vec<u8>, mime: &Mime) -> Result<(), AllocError>
-    ensures { OnOk result (Adds (ReportsBoundary mime.now.media) (vec_items report.old) (vec_items report.new)) }
-{
-    match boundary(alloc, mime)? {
-        Some(bytes) => push_row(report, "boundary ", bytes.as_slice()),
-        None => Ok(()),
-    }
-}
-
-/// The position of the byte at fault, or the value's length if something is missing at its end.
+/// Returns the position of the byte at fault, or the value's length if something is missing at its end.
 fn fault_at(value: &[u8], error: FieldError) -> usize
     ensures { result ≡ fault_at value.now error }
 {
@@ -242,23 +501,7 @@ fn fault_at(value: &[u8], error: FieldError) -> usize
     }
 }
 
-/// Adds the rows of a rejected value of a field.
-fn push_fault(
-    alloc: Global,
-    report: &mut Vec<u8>,
-    label: &str,
-    value: &[u8],
-    error: FieldError,
-) -> Result<(), AllocError>
-    ensures { OnOk result (vec_items report.new ≡ vec_items report.old ++ fault_rows label.now value.now error) }
-{
-    let text = format!(in alloc; "{error}")?;
-    push_row(report, label, text.as_bytes())?;
-    push_shown(report, "    ", value)?;
-    push_caret(report, fault_at(value, error), fault_remark(error))
-}
-
-/// The position of the byte at fault/// A word on a comment.
+/// Returns a remark on a comment, if the byte at fault begins one.
 fn fault_remark(error: FieldError) -> &'static str
     ensures { result.now ≡ fault_remark error }
 {
@@ -270,28 +513,7 @@ fn fault_remark(error: FieldError) -> &'static str
     }
 }
 
-/// Adds a row with a caret so many bytes after its margin, and a remark.
-fn push_caret(report: &mut Vec<u8>, at: usize, remark: &str) -> Result<(), AllocError>
-    ensures { OnOk result (vec_items report.new ≡ vec_items report.old ++ caret_row at remark.now) }
-{
-    push(report, "    ")?;
-    push_spaces(report, at)?;
-    push(report, "^")?;
-    push(report, remark)?;
-    push(report, "\n")
-}
-
-/// Adds so many spaces.
-fn push_spaces(report: &mut Vec<u8>, count: usize) -> Result<(), AllocError>
-    ensures { OnOk result (vec_items report.new ≡ vec_items report.old ++ replicate count 32) }
-{
-    for _ in 0..count {
-        report.push(b' ')?;
-    }
-    Ok(())
-}
-
-/// How a byte is shown that may be any.
+/// Returns how a byte is shown that may be any.
 fn shown(byte: u8) -> u8
     ensures { result ≡ shown_byte byte }
 {
@@ -302,122 +524,27 @@ fn shown(byte: u8) -> u8
     }
 }
 
-/// Adds a row of bytes that may be any.
-fn push_shown(report: &mut Vec<u8>, label: &str, bytes: &[u8]) -> Result<(), AllocError>
-    ensures { OnOk result (vec_items report.new ≡ vec_items report.old ++ row label.now (shown bytes.now)) }
+/// Returns a weight in thousandths with three decimals.
+fn decimals(weight: u16) -> [u8; 5]
+    ensures { result ≡ weight_text weight }
 {
-    push(report, label)?;
-    for byte in bytes {
-        report.push(shown(*byte))?;
-    }
-    push(report, "\n")
+    [
+        digit(weight / 1000),
+        b'.',
+        digit(weight / 100),
+        digit(weight / 10),
+        digit(weight),
+    ]
 }
 
-/// Adds a row that says that there are no values.
-fn push_none(report: &mut Vec<u8>, label: &str, values: &[Vec<u8>]) -> Result<(), AllocError>
-    ensures { OnOk result (vec_items report.new ≡ vec_items report.old ++ none_row label.now (map vec_items values.now)) }
-{
-    if values.is_empty() {
-        push_row(report, label, b"")
-    } else {
-        Ok(())
-    }
-}
-
-/// The last digit of a number.
+/// Returns the last digit of a number.
 fn digit(number: u16) -> u8
     ensures { result ≡ digit number }
 {
     b'0' + (number % 10) as u8
 }
 
-/// Adds a weight in thousandths, with three decimals.
-fn push_weight(report: &mut Vec<u8>, weight: u16) -> Result<(), AllocError>
-    ensures { OnOk result (vec_items report.new ≡ vec_items report.old ++ weight_text weight) }
-{
-    report.push(digit(weight / 1000))?;
-    report.push(b'.')?;
-    report.push(digit(weight / 100))?;
-    report.push(digit(weight / 10))?;
-    report.push(digit(weight))?;
-    Ok(())
-}
-
-/// Adds the rows of the lines of `Accept`, or of one that accepts everything, and takes their ranges.
-fn push_lines(
-    alloc: Global,
-    report: &mut Vec<u8>,
-    ranges: &mut Vec<Mime>,
-    lines: &[Vec<u8>],
-) -> Result<(), AllocError>
-    ensures { OnOk result (AddsLines (lines_or_any (map vec_items lines.now)) [] (vec_items report.old) (vec_items report.new)
-        (map (λ range. range.media) (vec_items ranges.old)) (map (λ range. range.media) (vec_items ranges.new))) }
-{
-    if lines.is_empty() {
-        return push_line(alloc, report, ranges, b"*/*");
-    }
-    for line in lines {
-        push_line(alloc, report, ranges, line)?;
-    }
-    Ok(())
-}
-
-/// Adds the rows of a line's entries, and takes its ranges.
-fn push_line(
-    alloc: Global,
-    report: &mut Vec<u8>,
-    ranges: &mut Vec<Mime>,
-    line: &[u8],
-) -> Result<(), AllocError>
-    ensures { (lines : List (List ℕ)) → OnOk result (AddsLines (line.now ∷ lines) lines (vec_items report.old) (vec_items report.new)
-        (map (λ range. range.media) (vec_items ranges.old)) (map (λ range. range.media) (vec_items ranges.new))) }
-{
-    let mut left = Some(line);
-    while let Some(text) = left {
-        let (entry, rest) = first_entry(text);
-        push_entry(alloc, report, ranges, trimmed(entry))?;
-        left = rest;
-    }
-    Ok(())
-}
-
-/// Adds the rows of an entry, and takes it if it is a range.
-fn push_entry(
-    alloc: Global,
-    report: &mut Vec<u8>,
-    ranges: &mut Vec<Mime>,
-    entry: &[u8],
-) -> Result<(), AllocError>
-    ensures { OnOk result (AddsEntry entry.now (vec_items report.old) (vec_items report.new)
-        (map (λ range. range.media) (vec_items ranges.old)) (map (λ range. range.media) (vec_items ranges.new))) }
-{
-    if entry.is_empty() {
-        return Ok(());
-    }
-    match content_type(alloc, entry) {
-        Ok(range) => {
-            push_range(report, &range)?;
-            ranges.push(range)?;
-            Ok(())
-        }
-        Err(FieldError::NoMemory) => Err(AllocError),
-        Err(error) => push_fault(alloc, report, "bad Accept ", entry, error),
-    }
-}
-
-/// Adds the row of a range.
-fn push_range(report: &mut Vec<u8>, range: &Mime) -> Result<(), AllocError>
-    ensures { OnOk result (vec_items report.new ≡ vec_items report.old ++ range_row range.now.media) }
-{
-    push(report, "Accept ")?;
-    push_weight(report, weight_of(range))?;
-    push(report, " ")?;
-    push(report, range.as_str())?;
-    push(report, weight_remark(range))?;
-    push(report, "\n")
-}
-
-/// The word that a range's `q` is no weight, if it isn't.
+/// Returns a remark on a range's `q`, if it is no weight.
 fn weight_remark(range: &Mime) -> &'static str
     ensures { result.now ≡ weight_remark range.now.media }
 {
@@ -428,132 +555,7 @@ fn weight_remark(range: &Mime) -> &'static str
     }
 }
 
-/// Adds the rows of offers in the order in which they are ranked.
-fn push_offers(
-    alloc: Global,
-    report: &mut Vec<u8>,
-    ranges: &[Mime],
-    offers: &[Mime],
-    ranking: &[RankedOffer],
-) -> Result<(), AllocError>
-    ensures { OnOk result (vec_items report.new ≡ vec_items report.old
-        ++ offer_rows (map (λ range. range.media) ranges.now) (map (λ offer. offer.media) offers.now) ranking.now) }
-{
-    for one in ranking {
-        push_offer(alloc, report, ranges, offers, one)?;
-    }
-    Ok(())
-}
-
-/// Adds the row of an offer, if there is one.
-fn push_offer(
-    alloc: Global,
-    report: &mut Vec<u8>,
-    ranges: &[Mime],
-    offers: &[Mime],
-    one: &RankedOffer,
-) -> Result<(), AllocError>
-    ensures { OnOk result (vec_items report.new ≡ vec_items report.old
-        ++ offer_row (map (λ range. range.media) ranges.now) one.now (slice_get (map (λ offer. offer.media) offers.now) one.now.offer)) }
-{
-    match offers.get(one.offer) {
-        Some(offer) => push_ranked(alloc, report, ranges, offer, one),
-        None => Ok(()),
-    }
-}
-
-/// Adds the row of this offer.
-fn push_ranked(
-    alloc: Global,
-    report: &mut Vec<u8>,
-    ranges: &[Mime],
-    offer: &Mime,
-    one: &RankedOffer,
-) -> Result<(), AllocError>
-    ensures { OnOk result (vec_items report.new ≡ vec_items report.old ++ offer_row (map (λ range. range.media) ranges.now) one.now (Some offer.now.media)) }
-{
-    push(report, "offer ")?;
-    push_weight(report, one.weight)?;
-    push(report, " ")?;
-    push(report, offer.as_str())?;
-    push_by(alloc, report, ranges, one.range)?;
-    push_remark(alloc, report, ranges, one.weight, offer)?;
-    push(report, "\n")
-}
-
-/// Adds which range decides, if one does.
-fn push_by(
-    alloc: Global,
-    report: &mut Vec<u8>,
-    ranges: &[Mime],
-    at: Option<usize>,
-) -> Result<(), AllocError>
-    ensures { OnOk result (vec_items report.new ≡ vec_items report.old ++ by_text (map (λ range. range.media) ranges.now) at) }
-{
-    match at {
-        Some(at) => {
-            push(report, " by ")?;
-            push_place(alloc, report, ranges, at)
-        }
-        None => push(report, " by none"),
-    }
-}
-
-/// Adds which range an offer lacks a parameter of, if it weighs nothing.
-fn push_remark(
-    alloc: Global,
-    report: &mut Vec<u8>,
-    ranges: &[Mime],
-    weight: u16,
-    offer: &Mime,
-) -> Result<(), AllocError>
-    ensures { OnOk result (vec_items report.new ≡ vec_items report.old
-        ++ lacking_remark (map (λ range. range.media) ranges.now) weight offer.now.media) }
-{
-    if weight > 0 {
-        return Ok(());
-    }
-    push_lacking(alloc, report, ranges, lacking(ranges, offer))
-}
-
-/// Adds which range an offer lacks a parameter of, if there is one.
-fn push_lacking(
-    alloc: Global,
-    report: &mut Vec<u8>,
-    ranges: &[Mime],
-    at: Option<usize>,
-) -> Result<(), AllocError>
-    ensures { OnOk result (vec_items report.new ≡ vec_items report.old ++ lacking_text (map (λ range. range.media) ranges.now) at) }
-{
-    match at {
-        Some(at) => {
-            push(report, " (lacks a parameter of ")?;
-            push_place(alloc, report, ranges, at)?;
-            push(report, ")")
-        }
-        None => Ok(()),
-    }
-}
-
-/// Adds a range's place, from 1, and the range.
-fn push_place(
-    alloc: Global,
-    report: &mut Vec<u8>,
-    ranges: &[Mime],
-    at: usize,
-) -> Result<(), AllocError>
-    ensures { OnOk result (vec_items report.new ≡ vec_items report.old ++ place_text at (slice_get (map (λ range. range.media) ranges.now) at)) }
-{
-    let Some(range) = ranges.get(at) else {
-        return Ok(());
-    };
-    let place = at + 1;
-    push(report, format!(in alloc; "{place}")?.as_str())?;
-    push(report, " ")?;
-    push(report, range.as_str())
-}
-
-/// The best of the offers, if one is acceptable.
+/// Returns the best of the offers, if one is acceptable.
 fn best_of<'o>(offers: &'o [Mime], ranking: &[RankedOffer]) -> Option<&'o Mime>
     ensures { option_map (λ best. best.now.media) result ≡ best_of (map (λ offer. offer.media) offers.now) ranking.now }
 {
@@ -564,50 +566,20 @@ fn best_of<'o>(offers: &'o [Mime], ranking: &[RankedOffer]) -> Option<&'o Mime>
     offers.get(first.offer)
 }
 
-/// Adds the row that says which offer is the best, if there are offers.
-fn push_best(report: &mut Vec<u8>, offers: &[Mime], best: Option<&Mime>) -> Result<(), AllocError>
-    ensures { OnOk result (vec_items report.new ≡ vec_items report.old
-        ++ best_rows (map (λ offer. offer.media) offers.now) (option_map (λ best. best.now.media) best.entry)) }
-{
-    if offers.is_empty() {
-        return Ok(());
-    }
-    match best {
-        Some(best) => push_row(report, "best ", best.as_str().as_bytes()),
-        None => push_row(report, "406 Not Acceptable", b""),
-    }
-}
-
-/// Whether an offer is acceptable, or there is none.
+/// Returns whether an offer is acceptable, or there is none.
 fn is_acceptable(offers: &[Mime], best: Option<&Mime>) -> bool
     ensures { result ≡ is_acceptable (map (λ offer. offer.media) offers.now) (option_map (λ best. best.now.media) best.entry) }
 {
     offers.is_empty() || best.is_some()
 }
 
-/// The verdict on values that are all good or not, and on the last choice.
-fn verdict_of(are_good: bool, choice: Option<bool>) -> Verdict
-    ensures { result ≡ verdict_of are_good choice }
+/// Returns the verdict on all heads.
+fn verdict_of(seen: Seen) -> Verdict
+    ensures { result ≡ verdict_of seen.are_good seen.choice }
 {
-    if are_good && choice.unwrap_or(true) {
+    if seen.are_good && seen.choice.unwrap_or(true) {
         Verdict::Acceptable
     } else {
         Verdict::NotAcceptable
     }
-}
-
-/// Adds a row: a label, bytes and a line feed.
-fn push_row(report: &mut Vec<u8>, label: &str, text: &[u8]) -> Result<(), AllocError>
-    ensures { OnOk result (vec_items report.new ≡ vec_items report.old ++ row label.now text.now) }
-{
-    push(report, label)?;
-    report.extend_from_slice(text)?;
-    push(report, "\n")
-}
-
-/// Adds a string.
-fn push(report: &mut Vec<u8>, text: &str) -> Result<(), AllocError>
-    ensures { OnOk result (vec_items report.new ≡ vec_items report.old ++ text.now) }
-{
-    report.extend_from_slice(text.as_bytes())
 }

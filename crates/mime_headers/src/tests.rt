@@ -6,166 +6,86 @@ use std::io;
 use std::io::{Read, Write};
 use std::process::Abort;
 
-/// What a read answers.
-#[derive(Clone, Copy)]
-enum Answer {
-    Gives(&'static [u8]),
-    Fails,
-}
-
-/// Answers each read with the next of these.
-#[derive(Drop)]
-struct Reader {
-    answers: &'static [Answer],
-    /// Whether a read came after the last of them.
-    is_called_again: bool,
-}
-
-impl Reader {
-    /// The next answer, if there is one.
-    fn next_answer(&mut self) -> Option<Answer> {
-        let (answer, others) = self.answers.split_first()?;
-        self.answers = others;
-        Some(*answer)
-    }
-}
-
-impl Read for Reader {
-    fn read(&mut self, buf: &mut [u8]) -> io::Result<usize> {
-        match self.next_answer() {
-            Some(Answer::Gives(mut bytes)) => bytes.read(buf),
-            Some(Answer::Fails) => Err(io::Error::from(io::ErrorKind::WouldBlock)),
-            None => {
-                self.is_called_again = true;
-                Ok(0)
-            }
-        }
-    }
-}
-
-/// A call of a writer.
-#[derive(Clone, Copy)]
-enum Call {
-    /// Writes these bytes at once.
-    Write(&'static [u8]),
-    Flush,
-    FailedWrite,
-    FailedFlush,
-}
-
-/// Takes these calls, one after another.
-#[derive(Drop)]
-struct Writer {
-    calls: &'static [Call],
-    /// Whether any other call was made.
-    has_other_calls: bool,
-}
-
-impl Writer {
-    /// The next call, if there is one.
-    fn next_call(&mut self) -> Option<Call> {
-        let (call, others) = self.calls.split_first()?;
-        self.calls = others;
-        Some(*call)
-    }
-}
-
-impl Write for Writer {
-    fn write(&mut self, buf: &[u8]) -> io::Result<usize> {
-        match self.next_call() {
-            Some(Call::Write(bytes)) if bytes == buf => return Ok(buf.len()),
-            Some(Call::FailedWrite) => {}
-            _ => self.has_other_calls = true,
-        }
-        Err(io::Error::from(io::ErrorKind::StorageFull))
-    }
-
-    fn flush(&mut self) -> io::Result<()> {
-        match self.next_call() {
-            Some(Call::Flush) => return Ok(()),
-            Some(Call::FailedFlush) => {}
-            _ => self.has_other_calls = true,
-        }
-        Err(io::Error::from(io::ErrorKind::BrokenPipe))
-    }
-}
-
-/// A run without offers: what its reads answer, the calls that it makes of its sink, and what it returns.
-struct Case {
-    reads: &'static [Answer],
-    calls: &'static [Call],
-    answer: Result<Verdict, RunError>,
-}
-
 const HEAD: &[u8] = b"Accept: a/b\n\n";
 
 const REPORT: &[u8] = b"no Content-Type\nAccept 1.000 a/b\n";
 
-const CASES: &[Case] = &[
-    Case {
-        reads: &[Answer::Gives(HEAD), Answer::Gives(b"")],
-        calls: &[Call::Write(REPORT), Call::Flush],
-        answer: Ok(Verdict::Acceptable),
-    },
-    // A short read isn't the end.
-    Case {
-        reads: &[
-            Answer::Gives(b"Acc"),
-            Answer::Gives(b"ept: a/b"),
-            Answer::Gives(b""),
-        ],
-        calls: &[Call::Write(REPORT), Call::Flush],
-        answer: Ok(Verdict::Acceptable),
-    },
-    Case {
-        reads: &[Answer::Fails],
-        calls: &[],
-        answer: Err(RunError::Read),
-    },
-    Case {
-        reads: &[Answer::Gives(HEAD), Answer::Fails],
-        calls: &[],
-        answer: Err(RunError::Read),
-    },
-    Case {
-        reads: &[Answer::Gives(HEAD), Answer::Gives(b"")],
-        calls: &[Call::FailedWrite],
-        answer: Err(RunError::Write),
-    },
-    Case {
-        reads: &[Answer::Gives(HEAD), Answer::Gives(b"")],
-        calls: &[Call::Write(REPORT), Call::FailedFlush],
-        answer: Err(RunError::Write),
-    },
-];
+/// Takes these calls, one after another: `r` is a read that gives the head, `e` one at the end, `w` a write of the report at once, `f` a
+/// flush, and `x` any call that fails.
+#[derive(Drop)]
+struct Calls {
+    left: &'static [u8],
+    /// Whether any other call was made.
+    has_others: bool,
+}
+
+impl Calls {
+    /// Takes the next call if it is this one.
+    fn take(&mut self, call: u8) -> io::Result<()> {
+        match self.left.split_first() {
+            Some((next, left)) if *next == call || *next == b'x' => {
+                self.left = left;
+                if *next == call {
+                    return Ok(());
+                }
+            }
+            _ => self.has_others = true,
+        }
+        Err(io::Error::from(io::ErrorKind::StorageFull))
+    }
+}
+
+impl Read for Calls {
+    fn read(&mut self, buf: &mut [u8]) -> io::Result<usize> {
+        if self.left.first() == Some(&b'e') {
+            return self.take(b'e').map(|()| 0);
+        }
+        self.take(b'r')?;
+        let mut head = HEAD;
+        head.read(buf)
+    }
+}
+
+impl Write for Calls {
+    fn write(&mut self, buf: &[u8]) -> io::Result<usize> {
+        self.has_others |= buf != REPORT;
+        self.take(b'w').map(|()| buf.len())
+    }
+
+    fn flush(&mut self) -> io::Result<()> {
+        self.take(b'f')
+    }
+}
+
+fn device(left: &'static [u8]) -> Device<Calls> {
+    Device {
+        inner: Calls {
+            left,
+            has_others: false,
+        },
+        failed: false,
+    }
+}
 
 #[test]
 fn makes_these_calls_alone(rt: HostRuntime) {
-    for (at, case) in CASES.iter().enumerate() {
-        let mut source = Device {
-            inner: Reader {
-                answers: case.reads,
-                is_called_again: false,
-            },
-            failed: false,
-        };
-        let mut sink = Device {
-            inner: Writer {
-                calls: case.calls,
-                has_other_calls: false,
-            },
-            failed: false,
-        };
+    let write_fails: Result<Verdict, RunError> = Err(RunError::Write);
+    let cases: [(&[u8], &[u8], Result<Verdict, RunError>); 5] = [
+        (b"re", b"wf", Ok(Verdict::Acceptable)),
+        (b"x", b"", Err(RunError::Read)),
+        (b"rx", b"", Err(RunError::Read)),
+        (b"re", b"x", write_fails),
+        (b"re", b"wx", write_fails),
+    ];
+    for (at, (reads, writes, answer)) in cases.iter().enumerate() {
+        let (mut source, mut sink) = (device(reads), device(writes));
         let got = run(rt.alloc(), &mut source, &mut sink, &[]);
-        let (reader, writer) = (&source.inner, &sink.inner);
-        assert!(rt; got == case.answer, "case {at}: {got:?}");
-        assert!(rt;
-            reader.answers.is_empty() && !reader.is_called_again,
-            "case {at}: other reads"
-        );
-        assert!(rt;
-            writer.calls.is_empty() && !writer.has_other_calls,
-            "case {at}: other writes or flushes"
-        );
+        assert!(rt; got == *answer, "case {at}: {got:?}");
+        for calls in [&source.inner, &sink.inner] {
+            assert!(rt;
+                calls.left.is_empty() && !calls.has_others,
+                "case {at}: other calls"
+            );
+        }
     }
 }

@@ -11,13 +11,16 @@ use crate::error::RunError;
 use mime_search::{Class, first_stop};
 use std::alloc::Global;
 
-/// The most bytes that an input may have.
-const LIMIT: usize = 1_048_576;
+/// The most bytes of an input.
+pub const LIMIT: usize = 1_048_576;
 
 /// The most bytes that one read asks for.
 const AT_ONCE: usize = 8192;
 
 /// Reads a source to its end, and no further than one byte past the limit.
+///
+/// # Errors
+/// `Read` if the source fails, `TooLong` if it gives more bytes than the limit, and `NoMemory` if memory runs out.
 pub fn read_to_limit<S: Source>(alloc: Global, source: &mut S) -> Result<Vec<u8>, RunError>
     // What was left is read to its end, within the limit.
     ensures bytes { IfOk result (λ input. Consumes (S.left source.old) (S.left source.new) input.items) }
@@ -32,9 +35,43 @@ pub fn read_to_limit<S: Source>(alloc: Global, source: &mut S) -> Result<Vec<u8>
     // The result is never `Write`.
     ensures no_write { result ≢ Err RunError.Write }
 {
+    read(alloc, source, LIMIT)
+}
+
+/// Reads a source to its end or to one byte past the limit, which is kept. So an input of more bytes than the limit isn't whole.
+///
+/// # Errors
+/// `Read` if the source fails, and `NoMemory` if memory runs out.
+pub fn read_past_limit<S: Source>(alloc: Global, source: &mut S) -> Result<Vec<u8>, RunError>
+    ensures bytes { IfOk result (λ input. Consumes (S.left source.old) (S.left source.new) input.items) }
+    ensures end { IfOk result (λ input. length input.items ≤ limit → IsAtEnd (S.left source.new)) }
+    ensures limit { IfOk result (λ input. length input.items ≤ limit + 1) }
+    // The source fails exactly if the result is `Read`.
+    ensures read { result ≡ Err RunError.Read → S.has_failed source.new ≡ true }
+    ensures unfailed { result ≢ Err RunError.Read → S.has_failed source.new ≡ S.has_failed source.old }
+    // The result is never `Write` or `TooLong`.
+    ensures no_write { result ≢ Err RunError.Write }
+    ensures no_too_long { result ≢ Err RunError.TooLong }
+{
+    read(alloc, source, LIMIT + 1)
+}
+
+/// Reads a source to its end or to one byte past the limit, and keeps at most so many bytes: the limit, or one more.
+fn read<S: Source>(alloc: Global, source: &mut S, most: usize) -> Result<Vec<u8>, RunError>
+    requires least { limit ≤ most }
+    requires greatest { most ≤ limit + 1 }
+    ensures bytes { IfOk result (λ input. Consumes (S.left source.old) (S.left source.new) input.items) }
+    ensures end { IfOk result (λ input. length input.items ≤ limit → IsAtEnd (S.left source.new)) }
+    ensures limit { IfOk result (λ input. length input.items ≤ most) }
+    ensures read { result ≡ Err RunError.Read → S.has_failed source.new ≡ true }
+    ensures unfailed { result ≢ Err RunError.Read → S.has_failed source.new ≡ S.has_failed source.old }
+    ensures too_long { result ≡ Err RunError.TooLong
+        → (most ≡ limit) × (bytes : List ℕ) × Consumes (S.left source.old) (S.left source.new) bytes × (length bytes ≡ limit + 1) }
+    ensures no_write { result ≢ Err RunError.Write }
+{
     let mut input = Vec::new(alloc);
     let mut block = [0u8; AT_ONCE];
-    loop {
+    while input.len() <= LIMIT {
         let room = (LIMIT + 1 - input.len()).min(AT_ONCE);
         let Ok(count) = source.read(&mut block[..room]) else {
             return Err(RunError::Read);
@@ -42,13 +79,14 @@ pub fn read_to_limit<S: Source>(alloc: Global, source: &mut S) -> Result<Vec<u8>
         if count == 0 {
             return Ok(input);
         }
-        if count > LIMIT - input.len() {
+        if count > most - input.len() {
             return Err(RunError::TooLong);
         }
         let Ok(()) = input.extend_from_slice(&block[..count]) else {
             return Err(RunError::NoMemory);
         };
     }
+    Ok(input)
 }
 
 /// Returns the position of an input's first line feed, or the input's length.

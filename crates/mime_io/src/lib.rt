@@ -10,5 +10,5 @@ mod output;
 
 pub use crate::device::{Device, Failed, Sink, Source};
 pub use crate::error::RunError;
-pub use crate::input::{first_line, read_to_limit};
+pub use crate::input::{LIMIT, first_line, read_past_limit, read_to_limit};
 pub use crate::output::{ended, write_report};
