@@ -1,8 +1,6 @@
 -- A value is a media type as HTTP writes it if it is so without the white space around it.
 use Rattle.mime_http.proofs.Common.{AreSpaces, HttpReads, IsUtf8, List, MediaType, [], ap, append-nil, append_assoc, cond_both, is_space, list_all, refl, subst, sym, trim_end, trim_start, trimmed, ℕ, ◌++◌, ◌∙◌, ◌∷◌, ◌≡◌, IsUtf8-append, IsUtf8-nil}
-use Rattle.mime_http.proofs.HttpText.{before_ascii, past_ascii, spaces_ascii, put_ascii}
-use Rattle.mime_http.proofs.Runs.{spaces-append}
-use Rattle.mime_http.proofs.Trims.{split_white}
+use Rattle.mime_http.proofs.{HttpText.before_ascii, HttpText.past_ascii, HttpText.spaces_ascii, HttpText.put_ascii, Runs.spaces-append, Trims.split_white}
 
 -- ---- the white space around a value
 

@@ -1,18 +1,9 @@
 -- What is printed of a value that the library reads: its essence if it has no parameters, else as many bytes as it has.
 use Rattle.mime_http.proofs.Common.{Err, HttpExplains, HttpReads, IfErr, IsAccepted, IsHttpMediaType, IsPrinted, IsUtf8, IsUtf8-nil, List, MediaType, NeedsMemory, Parameters, Ok, Parts, Reads, Result, SyntaxTree, Tail, [], anew, answer_of, ap, append-nil, arith, as_it_stands, blank, codes, essence_of, is_token_byte, final, inl, inr, kept_text, length, length-append, listed, lowered_list, lowered_tail, lowered_tree, media_of, more, no_list, pairs_of_tail, plain, quoted, read, subst, sym, refl, text_of, text_of_list, text_of_pairs, text_of_parts, trimmed, value_of, with_pairs, ℕ, ⊎_elim, ◌++◌, ◌+◌, ◌<◌, ◌≤◌, ◌∙◌, ◌∷◌, ◌≡◌, ◌⊎◌}
 use Rattle.std.specs.Prelude.{IsOk}
-use Rattle.mime_http.specs.declared.value.FieldError.{FieldError}
-use Rattle.mime_http.specs.declared.value.FieldError.TheVariants.{NotUtf8, Invalid}
+use Rattle.mime_http.specs.{declared.value.FieldError.FieldError, declared.value.FieldError.TheVariants.NotUtf8, declared.value.FieldError.TheVariants.Invalid}
 use Rattle.mime_http.specs.declared.value.FieldError.TheVariants as field
-use Rattle.mime_http.proofs.Around.{reads_around}
-use Rattle.mime_http.proofs.HttpText.{put_ascii}
-use Rattle.mime_http.proofs.HttpLaws.{one_printed_text}
-use Rattle.mime_http.proofs.ReadFaults.{no_fault}
-use Rattle.mime_http.proofs.PlainIsHttp.{plain_is_http}
-use Rattle.mime_http.proofs.ReadAnew.{written_length}
-use Rattle.mime_http.proofs.ReadBack.{answered_is_http}
-use Rattle.mime_http.proofs.ReadForth.{http_is_answered}
-use Rattle.mime_http.proofs.Written.{lengths}
+use Rattle.mime_http.proofs.{Around.reads_around, HttpText.put_ascii, HttpLaws.one_printed_text, ReadFaults.no_fault, PlainIsHttp.plain_is_http, ReadAnew.written_length, ReadBack.answered_is_http, ReadForth.http_is_answered, Written.lengths}
 
 -- ---- what the library keeps
 

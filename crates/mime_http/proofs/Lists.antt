@@ -1,16 +1,8 @@
 -- Lists as HTTP writes them are read as their elements, and what is read with nothing bad are such lists.
 use Rattle.mime_http.proofs.Common.{At, Outside, State, Parts, Option, MatchOption, MatchOption-at_some, MissingSlash, by_option, next, ends, after, answer_of, answer_from, answer_at_end, read, before_type, in_subtype, in_value, in_string, is_quoted_byte, ◌+◌, AreBetweenCommas, AreElements, AreSame, AreSorted, AreSpaces, BadIsAlone, BeginsPiece, HttpListsAreRead, HttpReads, IsAccepted, IsHttpMediaType, IsPiece, IsPrinted, List, MediaType, OneHeader, ReadAreHttpLists, [], a_bad, a_range, accepted_or_rejected, and_parts, anew, ap, append-nil, arith, as_it_stands, comma, element, false, is_space, is_token_byte, line_end, nat_tests, no_line, no_text, nothing, piece_byte, piece_end, refl, subst, sym, trimmed, with_pairs, without_kept, ℕ, ⊎_elim, ⊤, ◌++◌, ◌∙◌, ◌∷◌, ◌≡◌, Equals, Paired, awaits_after, awaits_after-append, cases_Bool, if◌then◌else◌}
-use Rattle.mime_http.specs.HttpList.{blank}
+use Rattle.mime_http.specs.{HttpList.blank, LineCut.Quoted}
 use Rattle.mime_http.specs.ListLaws.{no_text as no_element}
-use Rattle.mime_http.specs.LineCut.{Quoted}
-use Rattle.mime_http.proofs.Around.{reads_around, white_more}
-use Rattle.mime_http.proofs.HttpLaws.{one_printed_text, same_anew}
-use Rattle.mime_http.proofs.PlainIsHttp.{plain_is_http}
-use Rattle.mime_http.proofs.Takes.{sorted_both}
-use Rattle.mime_http.proofs.Cuts.{IsOutside, IsWhole, is_piece, only_cut, opens_none}
-use Rattle.mime_http.proofs.ReadFaults.{rejected_is_none}
-use Rattle.mime_http.proofs.ReadForth.{http_is_answered}
-use Rattle.mime_http.proofs.Runs.{keeps_before, over_white}
+use Rattle.mime_http.proofs.{Around.reads_around, Around.white_more, HttpLaws.one_printed_text, HttpLaws.same_anew, PlainIsHttp.plain_is_http, Takes.sorted_both, Cuts.IsOutside, Cuts.IsWhole, Cuts.is_piece, Cuts.only_cut, Cuts.opens_none, ReadFaults.rejected_is_none, ReadForth.http_is_answered, Runs.keeps_before, Runs.over_white}
 
 -- ---- what HTTP writes has no comma outside strings
 

@@ -1,10 +1,7 @@
 -- What is written of a value's parts is read as the media type that HTTP writes there, is in UTF-8 if the value is, and takes as many
 -- bytes as are kept of it.
 use Rattle.mime_http.proofs.Common.{AllByRecursion, AreTokenBytes-from_token, IsSafePair, IsToken, IsUtf8, IsUtf8-append, IsUtf8-nil, List, Parts, Reads, [], answer_of, arith, cond_both, is_token_value, length, media_of, quote_of, read, subst, text_of_pair, text_of_pairs, text_of_parts, ℕ, ◌∷◌, ◌≡◌}
-use Rattle.mime_http.proofs.HttpText.{put_ascii, put_one, token_bytes_ascii}
-use Rattle.mime_http.proofs.ReadBack.{answered_is_http}
-use Rattle.mime_http.proofs.ReadForth.{AreFound, AreUtf8, http_is_answered}
-use Rattle.mime_http.proofs.Written.{length-pairs, lengths, parts_are_read}
+use Rattle.mime_http.proofs.{HttpText.put_ascii, HttpText.put_one, HttpText.token_bytes_ascii, ReadBack.answered_is_http, ReadForth.AreFound, ReadForth.AreUtf8, ReadForth.http_is_answered, Written.length-pairs, Written.lengths, Written.parts_are_read}
 
 -- what is found of the parts
 are_found : (value : List ℕ) (parts : Parts) → answer_of value ≡ read parts → AreFound value parts

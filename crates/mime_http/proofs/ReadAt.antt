@@ -4,8 +4,7 @@ use Rattle.std.proofs.lemmas.Bool.{not-true}
 use Rattle.mime.proofs.HandedOut.{content-awaits}
 use Rattle.mime_search.specs.Classes.{is_stop}
 use Rattle.mime_http.specs.declared.reader.TheConstants.{TOKEN_STOPS, TEXT_STOPS}
-use Rattle.mime_http.proofs.ReadBack.{content_more}
-use Rattle.mime_http.proofs.Runs.{EndsToken, KeepsSpace, content_ends, name_begins, no_way, on_content, on_subtype, on_value, one_byte, over_white, subtype_ends, type_begins, value_ends}
+use Rattle.mime_http.proofs.{ReadBack.content_more, Runs.EndsToken, Runs.KeepsSpace, Runs.content_ends, Runs.name_begins, Runs.no_way, Runs.on_content, Runs.on_subtype, Runs.on_value, Runs.one_byte, Runs.over_white, Runs.subtype_ends, Runs.type_begins, Runs.value_ends}
 
 -- ---- a part of a value
 

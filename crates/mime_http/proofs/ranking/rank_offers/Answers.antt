@@ -1,9 +1,7 @@
 -- The next offer is put last; sorted, they are in order.
 use Rattle.mime_http.proofs.Common.{IfOk, IfOk-weaker, List, Rank, Reverse, arith, length, length-map, map, merit, refl, subst, sym, vec_items, ℕ, ◌+◌, ◌∙◌, ◌≡◌}
 use Rattle.mime_http.specs.Ranking.{IsRanking, ranked_as}
-use Rattle.mime_http.proofs.Highest.{value_at}
-use Rattle.mime_http.proofs.Order.{IsAny, Ranked, one_ranked, rank_at}
-use Rattle.mime_http.proofs.Rankings.{is_ranking}
+use Rattle.mime_http.proofs.{Highest.value_at, Order.IsAny, Order.Ranked, Order.one_ranked, Order.rank_at, Rankings.is_ranking}
 use Rattle.mime_http.proofs.ranking.rank_offers.Goals as goal
 
 pub loop-at-preserved : goal.loop-at-preserved

@@ -1,7 +1,6 @@
 -- Text and pairs go on the content, and another byte, or the end, is the string's fault.
 use Rattle.mime_http.proofs.Common.{IsContent, List, MissingQuote, Parts, [], answer_at, ap, arith, awaits_after, awaits_after-append, false, fault_at, in_string, is_quoted_byte, length, nat_tests, next, no_byte, refl, rejected, slice_index, subst, sym, true, ℕ, ◌++◌, ◌+◌, ◌<◌, ◌∙◌, ◌∷◌, ◌≡◌}
-use Rattle.mime_http.proofs.ReadAt.{at_byte, at_end, content_on, fault_after, no_part, no_text, over_byte, pair_content, stuck, text_content}
-use Rattle.mime_http.proofs.reader.string_end.Goals.{then-paired-value-via-then-paired-value, then-paired-value-via-else-paired-value+then-not-is_quoted_byte}
+use Rattle.mime_http.proofs.{ReadAt.at_byte, ReadAt.at_end, ReadAt.content_on, ReadAt.fault_after, ReadAt.no_part, ReadAt.no_text, ReadAt.over_byte, ReadAt.pair_content, ReadAt.stuck, ReadAt.text_content, reader.string_end.Goals.then-paired-value-via-then-paired-value, reader.string_end.Goals.then-paired-value-via-else-paired-value+then-not-is_quoted_byte}
 use Rattle.mime_http.proofs.reader.string_end.Goals as goal
 
 -- a byte that a backslash can't pair is the string's fault, and so is the end

@@ -1,8 +1,6 @@
 -- The pieces written one by one are the whole text.
 use Rattle.mime_http.proofs.Common.{FoldsTo, List, [], ap, append-nil, append_assoc, concat, sym, ℕ, ◌++◌, ◌∙◌, ◌∷◌, ◌≡◌}
-use Rattle.std.specs.Fmt.{WritesInCalls}
-use Rattle.std.specs.Fmt.InlineText.{inline_text, IsIntact, AppendsIfIntact}
-use Rattle.std.specs.declared.fmt.InlineText.{InlineText}
+use Rattle.std.specs.{Fmt.WritesInCalls, Fmt.InlineText.inline_text, Fmt.InlineText.IsIntact, Fmt.InlineText.AppendsIfIntact, declared.fmt.InlineText.InlineText}
 use Rattle.mime_http.specs.HttpPrinted.{not_utf8_text as printed}
 use Rattle.mime_http.proofs.value.not_utf8_text.Goals as goal
 
