@@ -1,6 +1,99 @@
--- A value is a media type as HTTP writes it if it is so without the white space around it.
-use Rattle.mime_http.proofs.Common.{AreSpaces, HttpReads, IsUtf8, List, MediaType, [], ap, append-nil, append_assoc, cond_both, is_space, list_all, refl, subst, sym, trim_end, trim_start, trimmed, ℕ, ◌++◌, ◌∙◌, ◌∷◌, ◌≡◌, IsUtf8-append, IsUtf8-nil}
-use Rattle.mime_http.proofs.{HttpText.before_ascii, HttpText.past_ascii, HttpText.spaces_ascii, HttpText.put_ascii, Runs.spaces-append, Trims.split_white}
+-- White space around a text, and ASCII bytes in a text in UTF-8.
+use Rattle.mime_http.proofs.Common.{AreSpaces, AreTokenBytes, IsAscii, IsAscii-cons, IsAscii-nil, IsCharBoundary-after_ascii, IsCharBoundary-before_ascii, IsUtf8, IsUtf8-append, IsUtf8-drop, IsUtf8-from_ascii, IsUtf8-take, List, [], and_parts, append-nil, arith, drop-append-add, get_or, get_or_from_slice_get, is_space, is_token_byte, length, length-append, nat_tests, refl, slice_get-prefix, subst, take-append_seam, ℕ, ⊤, ◌++◌, ◌+◌, ◌<◌, ◌∷◌, and_from, ap, cond_both, false, if◌then◌else◌, list_all-append, suc, take, take_all, take_more, trim_end, trim_start, trimmed, ◌-◌, ◌≡◌, ◌≤◌, HttpReads, MediaType, append_assoc, list_all, sym, ◌∙◌, IsUtf8-nil}
+use Rattle.mime_http.proofs.{Runs.spaces-append}
+
+-- ---- ASCII bytes
+
+-- each byte is ASCII
+abbrev pub AreAscii : List ℕ → Type 0
+AreAscii [] = ⊤
+AreAscii (b ∷ bytes) = (b < 128) × AreAscii bytes
+
+-- token bytes are,
+pub token_bytes_ascii : (bytes : List ℕ) → AreTokenBytes bytes → AreAscii bytes
+unfolding is_token_byte
+token_bytes_ascii [] all = tt
+token_bytes_ascii (b ∷ bytes) all =
+    let parts = and_parts (is_token_byte b) _ all in (grind (arith, nat_tests, parts.0), token_bytes_ascii bytes parts.1)
+
+-- and so is white space
+pub spaces_ascii : (bytes : List ℕ) → AreSpaces bytes → AreAscii bytes
+spaces_ascii [] all = tt
+spaces_ascii (b ∷ bytes) all =
+    let parts = and_parts (is_space b) _ all in (grind (arith, nat_tests, parts.0), spaces_ascii bytes parts.1)
+
+-- such a text is in UTF-8
+pub ascii_is_utf8 : (bytes : List ℕ) → IsAscii bytes → IsUtf8 bytes
+ascii_is_utf8 = IsUtf8-from_ascii
+
+-- an ASCII byte may be put before a text in UTF-8,
+pub put_one : (b : ℕ) (bytes : List ℕ) → b < 128 → IsUtf8 bytes → IsUtf8 (b ∷ bytes)
+put_one b bytes ascii is = IsUtf8-append (b ∷ []) bytes (IsUtf8-from_ascii (b ∷ []) (IsAscii-cons b [] ascii IsAscii-nil)) is
+
+-- and so may more of them
+pub put_ascii : (xs ys : List ℕ) → AreAscii xs → IsUtf8 ys → IsUtf8 (xs ++ ys)
+put_ascii [] ys all is = is
+put_ascii (b ∷ xs) ys all is = put_one b (xs ++ ys) all.0 (put_ascii xs ys all.1 is)
+
+-- a text in UTF-8 is so before and after one,
+pub around : (run : List ℕ) (b : ℕ) (bytes : List ℕ) → b < 128 → IsUtf8 (run ++ (b ∷ bytes)) → IsUtf8 run × IsUtf8 bytes
+around run b bytes ascii is =
+    let whole : List ℕ = run ++ (b ∷ bytes) in
+    let within : length run < length whole = omega (arith, length-append run (b ∷ bytes)) in
+    let there = get_or_from_slice_get whole (length run) b 0 (slice_get-prefix run b bytes (length run) refl) in
+    let below : get_or whole (length run) 0 < 128 = omega (arith, there, ascii) in (
+      subst IsUtf8 (take-append_seam run (b ∷ bytes))
+          (IsUtf8-take whole (length run) is (IsCharBoundary-before_ascii whole (length run) within below)),
+      subst IsUtf8 (drop-append-add run (b ∷ bytes) 1)
+          (IsUtf8-drop whole (length run + 1) is (IsCharBoundary-after_ascii whole (length run) is within below)),
+    )
+
+-- after more of them,
+pub past_ascii : (xs ys : List ℕ) → AreAscii xs → IsUtf8 (xs ++ ys) → IsUtf8 ys
+past_ascii [] ys all is = is
+past_ascii (b ∷ xs) ys all is = past_ascii xs ys all.1 (around [] b (xs ++ ys) all.0 is).1
+
+-- and before them
+pub before_ascii : (xs ys : List ℕ) → AreAscii ys → IsUtf8 (xs ++ ys) → IsUtf8 xs
+before_ascii xs [] all is = subst IsUtf8 (append-nil xs) is
+before_ascii xs (b ∷ ys) all is = (around xs b ys all.0 is).0
+
+-- ---- a piece without the white space around it
+
+-- Bytes are white space, and what is left without it.
+pub split_white : (bytes : List ℕ) → (white : List ℕ) × AreSpaces white × (bytes ≡ white ++ trim_start bytes)
+split_white [] = ([], refl, refl)
+split_white (b ∷ bytes) =
+    let rest = split_white bytes in
+    cond_both (is_space b) _ _ (λ left. (white : List ℕ) × AreSpaces white × (b ∷ bytes ≡ white ++ left))
+    (λ is. (b ∷ rest.0, and_from (is_space b) _ is rest.1, ap (λ x. b ∷ x) rest.2)) (λ other. ([], refl, refl))
+
+-- nothing is left of white space,
+trimmed_start : (piece : List ℕ) → AreSpaces piece → trim_start piece ≡ []
+trimmed_start [] all = refl
+trimmed_start (b ∷ piece) all = let parts = and_parts (is_space b) _ all in rw parts.0 (trimmed_start piece parts.1)
+
+-- on neither side
+pub trimmed_from_blank : (piece : List ℕ) → AreSpaces piece → trimmed piece ≡ []
+trimmed_from_blank piece all = ap trim_end (trimmed_start piece all)
+
+-- a byte at the end is left out if it is white space, and else all bytes stay
+trim_end-last : (bytes : List ℕ) (b : ℕ) → trim_end (bytes ++ (b ∷ [])) ≡ (if is_space b then trim_end bytes else bytes ++ (b ∷ []))
+trim_end-last [] b = grind arith
+trim_end-last (c ∷ bytes) b = grind (arith, trim_end-last bytes b, list_all-append is_space bytes (b ∷ []))
+
+-- the same, counted to the end
+pub last_trimmed : (piece : List ℕ) (end : ℕ) → 0 < end → end ≤ length piece → trim_end (take end piece)
+    ≡ (if is_space (get_or piece (end - 1) 0) then trim_end (take (end - 1) piece) else take end piece)
+last_trimmed piece end some within =
+    grind (arith, take_more piece (end - 1) 0, trim_end-last (take (end - 1) piece) (get_or piece (end - 1) 0))
+
+-- so nothing is left out of bytes of which the last is no white space
+pub nothing_after : (piece : List ℕ) → (0 < length piece → is_space (get_or piece (length piece - 1) 0) ≡ false) → trim_end piece ≡ piece
+nothing_after [] other = refl
+nothing_after (b ∷ bytes) other =
+    rw (take_all (length bytes) bytes (omega arith), other (omega arith))
+    at (last_trimmed (b ∷ bytes) (suc (length bytes)) (omega arith) (omega arith))
 
 -- ---- the white space around a value
 

@@ -8,16 +8,14 @@ pub use Rattle.mime_http.proofs.Cuts.{one_cut, only_cut, mark_found}
 pub use Rattle.mime_http.specs.LineCut.{is_mark}
 -- The highest of ranks and its first place, and which of all is the best.
 pub use Rattle.mime_http.proofs.Highest.{one_rank}
--- The laws of a header's value: it is one media type, of which one text is printed, which is read as it.
-pub use Rattle.mime_http.proofs.HttpLaws.{one_printed_text, printed_is_read, same_anew}
+-- The laws of a header's value: it is one media type, of which one text is printed, which is read as it, also what is written anew.
+pub use Rattle.mime_http.proofs.HttpLaws.{one_printed_text, printed_is_read, same_anew, written_reads}
 -- Lists as HTTP writes them are read as their elements, and what is read with nothing bad are such lists.
 pub use Rattle.mime_http.proofs.Lists.{one_header, http_is_not_blank}
 -- The offers that weigh more than 0, sorted, are in order.
 pub use Rattle.mime_http.proofs.Order.{weighs_within}
 -- What the library reads is what HTTP writes there.
 pub use Rattle.mime_http.proofs.PlainIsHttp.{plain_is_http}
--- What is written of a value's parts is read as the media type that HTTP writes there.
-pub use Rattle.mime_http.proofs.ReadAnew.{written_reads}
 -- What is read of a value is what HTTP writes: each state says what the bytes so far are.
 pub use Rattle.mime_http.proofs.ReadBack.{answered_is_http}
 -- The fault of a value that isn't read is the answer: where reading stops nothing helps, and at each byte before that something does.

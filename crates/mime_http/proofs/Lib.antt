@@ -1,6 +1,5 @@
 -- What the proofs of several functions cite.
 pub mod Around
-pub mod Bare
 pub mod Common
 pub mod Contents
 pub mod Cuts
@@ -8,7 +7,6 @@ pub mod Demanded
 pub mod Highest
 pub mod HttpFacts
 pub mod HttpLaws
-pub mod HttpText
 pub mod Lists
 pub mod NegotiationFacts
 pub mod Numbers
@@ -17,7 +15,6 @@ pub mod PlainIsHttp
 pub mod RangesFacts
 pub mod RankingFacts
 pub mod Rankings
-pub mod ReadAnew
 pub mod ReadAt
 pub mod ReadBack
 pub mod ReadFaults
@@ -25,6 +22,5 @@ pub mod ReadForth
 pub mod Runs
 pub mod Strangers
 pub mod Takes
-pub mod Trims
 pub mod Written
 pub mod HandedOut

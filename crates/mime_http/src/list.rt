@@ -158,7 +158,7 @@ pub(crate) fn is_short_ascii(line: &[u8]) -> bool
 
 /// Returns a piece without the white space after it. It isn't inlined: most pieces end in no white space.
 #[inline(never)]
-#[tactic(auto, using(crate::proofs::Trims::last_trimmed))]
+#[tactic(auto, using(crate::proofs::Around::last_trimmed))]
 fn trim_spaces_after(piece: &[u8]) -> &[u8]
     ensures { result.now ≡ trim_end piece.now }
 {
@@ -171,7 +171,7 @@ fn trim_spaces_after(piece: &[u8]) -> &[u8]
 
 /// Returns a piece without the white space after it.
 #[inline(always)]
-#[tactic(auto, using(crate::proofs::Trims::nothing_after))]
+#[tactic(auto, using(crate::proofs::Around::nothing_after))]
 pub(crate) fn trim_end(piece: &[u8]) -> &[u8]
     ensures { result.now ≡ trim_end piece.now }
 {

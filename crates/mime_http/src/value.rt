@@ -69,7 +69,7 @@ impl Error for FieldError {}
 /// Converts bytes to a string as `str::from_utf8` does, and faster for ASCII, which most values are. Those that are known to be ASCII
 /// aren't looked at again.
 #[inline(always)]
-#[tactic(auto, using(crate::proofs::HttpText::ascii_is_utf8))]
+#[tactic(auto, using(crate::proofs::Around::ascii_is_utf8))]
 pub(crate) fn text_of_piece(piece: &[u8], is_ascii: bool) -> Result<&str, Utf8Error>
     requires { is_ascii ≡ true → IsAscii piece.now }
     ensures cases { MatchResult result (λ text. (text.now ≡ piece.now) × IsUtf8 piece.now)

@@ -3,7 +3,7 @@ use Rattle.mime_http.proofs.Common.{Explains, HttpExplains, HttpReads, IfOk-weak
 use Rattle.std.proofs.lemmas.Result.{IfErr-weaker}
 use Rattle.mime.proofs.HandedOut.{rejected-from_fault}
 use Rattle.mime_http.specs.declared.value.FieldError.TheVariants as field
-use Rattle.mime_http.proofs.{Bare.anew_needs, Bare.printed_anew, Bare.stands_needs, Bare.stands_printed, ReadFaults.answered_fault, value.read_other.Goals.in_default-fault-2-via-in-NoMemory-fault+else-essence_str-len, value.read_other.Goals.in_default-fault-2-via-in_default-fault-2}
+use Rattle.mime_http.proofs.{HttpLaws.anew_needs, HttpLaws.printed_anew, HttpLaws.stands_needs, HttpLaws.stands_printed, ReadFaults.answered_fault, value.read_other.Goals.in_default-fault-2-via-in-NoMemory-fault+else-essence_str-len, value.read_other.Goals.in_default-fault-2-via-in_default-fault-2}
 use Rattle.mime_http.proofs.value.read_other.Goals as goal
 
 -- a fault of a text is of one that isn't accepted

@@ -1,6 +1,6 @@
 -- What is written anew of a value is a text that the library reads as the value's media type.
 use Rattle.mime_http.proofs.Common.{Explains, IsAccepted, IsUtf8, Reads, ap, arith, length, media_of, one_reading, refl, subst, sym, text_of_parts, ◌∙◌}
-use Rattle.mime_http.proofs.ReadAnew.{written_is_utf8, written_reads}
+use Rattle.mime_http.proofs.HttpLaws.{written_is_utf8, written_reads}
 use Rattle.mime_http.proofs.value.read_written.Goals as goal
 
 pub from_utf8_unchecked-text-requires : goal.from_utf8_unchecked-text-requires
