@@ -199,10 +199,9 @@ impl Accept {
         &self.bad
     }
 
-    /// Returns the weight of an offer, in thousandths: that of the most specific range that covers it (of two equally specific
-    /// ones, the higher weight), or 0 if none does (RFC 9110, 12.5.1). [`covers`](crate::covers) says what a range covers. It
-    /// allocates nothing. The offer `application/json` weighs 0 for the range `application/json; charset=utf-8`, which demands
-    /// the parameter.
+    /// Returns the weight of an offer, in thousandths: that of the most specific range that covers it (of two equally specific ones, the
+    /// higher weight), or 0 if none does (RFC 9110, 12.5.1). [`covers`](crate::covers) says what a range covers. It allocates nothing. The
+    /// offer `application/json` weighs 0 for the range `application/json; charset=utf-8`, which demands the parameter.
     pub fn weight(&self, offer: &Mime) -> u16
         ensures { result ≡ given_weight self.now.ranges offer.now.media }
     {

@@ -1,5 +1,4 @@
-//! The laws of the definitions and of `FieldError`, as functions: a caller that calls one can use its law in its own
-//! proof.
+//! The laws of the definitions and of `FieldError`, as functions: a caller that calls one can use its law in its own proof.
 
 ghost use Rattle.std.specs.Prelude.{◌≡◌};
 ghost use Rattle.mime_http.specs.HeaderLaws.{PlainIsHttp, OneHttpReading, OnePrintedText, PrintedIsRead, OneHttpFault};
@@ -31,8 +30,7 @@ pub fn printed_is_read()
     ensures { PrintedIsRead }
 {}
 
-/// A value that isn't a media type has exactly one fault: that of `   a/b c` is its byte at position 7, counted from 0
-/// (RFC 9110, 8.3.1).
+/// A value that isn't a media type has exactly one fault: that of `   a/b c` is its byte at position 7, counted from 0 (RFC 9110, 8.3.1).
 #[tactic(auto, using(crate::proofs::ReadFaults::one_http_fault))]
 pub fn one_http_fault()
     ensures { OneHttpFault }
@@ -44,8 +42,7 @@ pub fn one_cut()
     ensures { OneCut }
 {}
 
-/// A list that HTTP allows is read as its elements, and no entry is bad: `,a/b ,, c/d;q=0.5` has `a/b` and `c/d;q=0.5` (RFC 9110,
-/// 5.6.1.2).
+/// A list that HTTP allows is read as its elements, and no entry is bad: `,a/b ,, c/d;q=0.5` has `a/b` and `c/d;q=0.5` (RFC 9110, 5.6.1.2).
 #[tactic(auto, using(crate::proofs::Lists::http_lists_are_read))]
 pub fn http_lists_are_read()
     ensures { HttpListsAreRead }
@@ -62,8 +59,7 @@ pub fn one_header()
     ensures { OneHeader }
 {}
 
-/// A bad entry changes no other entry, wherever it is, and no offer's weight: `c/d, a b` and `c/d` have the same
-/// ranges.
+/// A bad entry changes no other entry, wherever it is, and no offer's weight: `c/d, a b` and `c/d` have the same ranges.
 #[tactic(auto, using(crate::proofs::Lists::bad_is_alone))]
 pub fn bad_is_alone()
     ensures { BadIsAlone }
@@ -75,8 +71,7 @@ pub fn closest_is_closest()
     ensures { ClosestIsClosest }
 {}
 
-/// A written value means the value that was passed; that of a `charset` means it in lowercase, as it is read (RFC 9110,
-/// 5.6.4).
+/// A written value means the value that was passed; that of a `charset` means it in lowercase, as it is read (RFC 9110, 5.6.4).
 #[tactic(auto, using(crate::proofs::Contents::written_is_meant))]
 pub fn written_is_meant()
     ensures { WrittenIsMeant }

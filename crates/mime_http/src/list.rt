@@ -73,8 +73,7 @@ pub(crate) fn is_empty_piece(line: &[u8], from: usize) -> bool
     from < line.len() && line[from] == b','
 }
 
-/// Returns the end of the piece of a line that begins at a position: the position of the first comma outside strings, or the
-/// length.
+/// Returns the end of the piece of a line that begins at a position: the position of the first comma outside strings, or the length.
 #[inline(always)]
 pub(crate) fn piece_end(line: &[u8], from: usize) -> usize
     requires { from ≤ length line.now }
@@ -96,8 +95,7 @@ pub(crate) fn is_space(byte: u8) -> bool
     byte == b' ' || byte == b'\t'
 }
 
-/// Returns a piece without the white space before it. It isn't inlined: most pieces begin with no white space, or with one
-/// space.
+/// Returns a piece without the white space before it. It isn't inlined: most pieces begin with no white space, or with one space.
 #[inline(never)]
 fn trim_spaces(piece: &[u8]) -> &[u8]
     ensures { result.now ≡ trim_start piece.now }

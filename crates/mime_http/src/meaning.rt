@@ -16,8 +16,7 @@ fn split_first(value: &[u8]) -> Option<(u8, &[u8])>
     }
 }
 
-/// Returns `true` if two values mean the same, byte by byte up to the first that differs. It isn't inlined: few ranges get so
-/// far.
+/// Returns `true` if two values mean the same, byte by byte up to the first that differs. It isn't inlined: few ranges get so far.
 #[inline(never)]
 fn mean_the_same_bytes(value: &[u8], other: &[u8]) -> bool
     ensures { result ≡ bytes_eq (unescaped value.now) (unescaped other.now) }

@@ -85,8 +85,7 @@ fn meant_boundary(alloc: Global, value: &str) -> Result<Option<Vec<u8>>, AllocEr
     Ok(is_boundary(&boundary).then_some(boundary))
 }
 
-/// Returns the boundary that the first parameter `boundary` means, if it means one. It isn't inlined: most media types aren't
-/// `multipart`.
+/// Returns the boundary that the first parameter `boundary` means, if it means one. It isn't inlined: most media types aren't `multipart`.
 #[inline(never)]
 fn first_boundary(alloc: Global, mime: &Mime) -> Result<Option<Vec<u8>>, AllocError>
     ensures meant { IfOk result (λ answer. MatchOption answer

@@ -124,8 +124,7 @@ fn kind_of(value: &[u8]) -> u8
     kind
 }
 
-/// Returns how a value is written, or `None` if no quoted string can mean it, since it has a control character other
-/// than the tab.
+/// Returns how a value is written, or `None` if no quoted string can mean it, since it has a control character other than the tab.
 #[tactic(auto, using(crate::proofs::Contents::token_from_kind))]
 pub(crate) fn form_of(value: &str) -> Option<Form>
     ensures { result ≡ (if list_all is_quoted_byte value.now then Some (form_of value.now) else None) }

@@ -54,14 +54,10 @@ fn weight_in(value: Option<&str>) -> u16
 pub fn weight_of(range: &Mime) -> u16
     ensures { result ≡ weight_of range.now.media }
 {
-    match first_value(range, "q") {
-        Some(weight) => thousandths(weight.text),
-        None => 1000,
-    }
+    weight_in(first_value(range, "q").map(|weight| weight.text))
 }
 
-/// Returns `true` if a range is `*/*`, whatever its parameters. It isn't inlined, so that a range of any other length isn't
-/// read.
+/// Returns `true` if a range is `*/*`, whatever its parameters. It isn't inlined, so that a range of any other length isn't read.
 #[inline(never)]
 fn is_star(range: &Mime) -> bool
     ensures { result ≡ bytes_eq range.now.media.essence (codes "*/*") }

@@ -122,9 +122,8 @@ fn read_in_block(alloc: Global, value: &str, len: usize) -> Result<Mime, FieldEr
     }
 }
 
-/// Returns the fault of a value, if it follows from the one for which `mime` rejects the value without the white space around it.
-/// Where `mime` stops, HTTP goes on only at white space and at a semicolon. At the end the same is missing, if no white space is
-/// there.
+/// Returns the fault of a value, if it follows from the one for which `mime` rejects the value without the white space around it. Where
+/// `mime` stops, HTTP goes on only at white space and at a semicolon. At the end the same is missing, if no white space is there.
 fn same_fault(value: &[u8], fault: ParseError) -> Option<ParseError>
     requires { Explains (trimmed value.now) fault }
     ensures { IfSome result (λ same. IsHttpFault value.now same) }
