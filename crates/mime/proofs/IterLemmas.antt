@@ -1,13 +1,12 @@
 -- One call of a `MimeIter`: pieces are read up to the first that is an item, which is yielded.
-use Rattle.std.proofs.Common.{◌≡◌, ◌≢◌, ℕ, ◌+◌, ◌-◌, ◌<◌, ◌≤◌, true, false, List, [], length, Option, Some, None, Result, Ok, Err, refl, sym, ap, ◌∙◌, subst, arith, Bor, ◌∷◌, ◌++◌, map}
+use Rattle.std.proofs.Common.{◌≡◌, ℕ, ◌<◌, ◌≤◌, true, false, List, [], length, Option, Some, None, Result, Ok, Err, refl, sym, ap, ◌∙◌, subst, arith, Bor, ◌∷◌, ◌++◌, map}
 use Rattle.std.specs.Prelude.{codes}
 use Rattle.std.proofs.lemmas.Bool.{true≢false}
-use Rattle.std.proofs.lemmas.List.{nil_from_length}
 use Rattle.std.proofs.lemmas.Option.{none-some}
 use Rattle.mime.specs.Values.{OwnedMedia, Reads}
 use Rattle.mime.specs.Cut.{TakesSteps, Cut, CutItem, good}
 use Rattle.mime.specs.Runs.{Iteration, GivesItem, IsNext}
-use Rattle.mime.specs.Inner.BetweenCalls.{IsUnderWay, PassesOn, IsFirstPiece, ReadsPiece, IsFound}
+use Rattle.mime.specs.Inner.BetweenCalls.{IsUnderWay, PassesOn, IsFound}
 use Rattle.mime.specs.declared.iter.Bad.{Bad}
 use Rattle.mime.specs.declared.iter.Bad.TheVariants.{Piece, NoMemory}
 use Rattle.mime.specs.declared.iter.MimeIter.TheInside.{Inside}
@@ -53,80 +52,6 @@ looking-first old = record {
   less = omega arith;
   more = omega arith;
 }
-
--- an iterator after a piece was read
-abbrev after_piece : Iteration → List ℕ → ℕ → Iteration
-after_piece now left steps = record now { left = left; steps = steps }
-
--- an iterator after a piece was read keeps what every iterator keeps
-pub sound-after_piece : (now : Iteration) (left : List ℕ) (steps : ℕ) → IsSound now → IsUnderWay now.left left false (steps - now.steps)
-    → now.steps ≤ steps → IsSound (after_piece now left steps)
-sound-after_piece now left steps sound passes counted = record {
-  few = omega (arith, sound.few, passes.few, counted);
-  exact = λ fed n takes.
-      subst (TakesSteps now.text) (omega (arith, counted)) (sound.exact fed (steps - now.steps + n) (passes.exact refl n takes));
-}
-
--- after an empty piece the search goes on
-pub looking-more : (old now : Iteration) (piece left : List ℕ) (positions : Option Positions) (steps : ℕ) → IsLooking old now × IsSound now
-    → 0 < length now.left → ReadsPiece now.left piece positions left (steps - now.steps) → now.steps ≤ steps → length piece ≡ 0
-    → IsLooking old (after_piece now left steps) × IsSound (after_piece now left steps)
-looking-more old now piece left positions steps (looking, sound) some passes counted none =
-    let still_some : now.left ≢ [] = λ e. absurd (omega (arith, ap length e, some)) in
-    let onward = passes.empty (nil_from_length piece none) in (
-      record {
-        passed = record {
-          carries = λ left_some items rest cut. looking.passed.carries still_some items rest (onward.carries left_some items rest cut);
-          ends = λ end. let item = onward.ends end in (item.0, looking.passed.carries still_some [] item.0 item.1);
-        };
-        out_of_memory = looking.out_of_memory;
-        text = looking.text;
-        still = λ ended. absurd (still_some (ap (λ (i : Iteration). i.left) (looking.still ended) ∙ ended));
-        less = omega (arith, looking.less, passes.less some);
-        more = omega (arith, looking.more, counted);
-      },
-      sound-after_piece now left steps sound passes.under_way counted,
-    )
-
--- where nothing is left no piece was found
-pub found-none : (old now : Iteration) → IsLooking old now × IsSound now → length now.left ≡ 0 → IsFound old None now
-found-none old now (looking, sound) none =
-    let end = nil_from_length now.left none in
-    record {
-      gives = (looking.passed.ends end, end);
-      out_of_memory = looking.out_of_memory;
-      text = looking.text;
-      still = λ ended. (refl, looking.still ended);
-      more = looking.more;
-      sound = sound;
-    }
-
--- the first piece of what is left is the first of the text
-first_piece-carries : (text now piece left : List ℕ) (positions : Option Positions) → now ≢ [] → PassesOn text now
-    → IsFirstPiece now piece positions left → IsFirstPiece text piece positions left
-first_piece-carries text now piece left None some passed first =
-    λ items rest cut. passed.carries some _ rest (first items rest cut)
-first_piece-carries text now piece left (Some positions) some passed (has, first) =
-    (has, λ value reads items rest cut. passed.carries some _ rest (first value reads items rest cut))
-
--- a piece that isn't empty was found
-pub found-some : (old now : Iteration) (piece : Bor (List ℕ)) (left : List ℕ) (positions : Option Positions) (steps : ℕ)
-    → IsLooking old now × IsSound now → 0 < length now.left → ReadsPiece now.left piece.now positions left (steps - now.steps)
-    → now.steps ≤ steps → 0 < length piece.now → IsFound old (Some (piece, positions)) (after_piece now left steps)
-found-some old now piece left positions steps (looking, sound) some passes counted item =
-    let still_some : now.left ≢ [] = λ e. absurd (omega (arith, ap length e, some)) in
-    let is_item : piece.now ≢ [] = λ e. absurd (omega (arith, ap length e, item)) in
-    record {
-      gives = (
-        first_piece-carries old.left now.left piece.now left positions still_some looking.passed (passes.item is_item),
-        omega (arith, looking.less, passes.less some),
-      );
-      out_of_memory = looking.out_of_memory;
-      text = looking.text;
-      still = λ ended. absurd (still_some (ap (λ (i : Iteration). i.left) (looking.still ended) ∙ ended));
-      more = omega (arith, looking.more, counted);
-      sound = sound-after_piece now left steps sound passes.under_way counted;
-    }
 
 -- ---- a whole call
 

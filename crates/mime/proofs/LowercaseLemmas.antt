@@ -1,8 +1,7 @@
 -- What lowercasing leaves as it is: lengths, cuts, classes of bytes, positions; and lowercasing twice is lowercasing once.
-use Rattle.std.proofs.Common.{◌≡◌, ℕ, ◌+◌, Bool, true, false, map, cond, List, [], ◌∷◌, ◌++◌, length, drop, refl, sym, ap, ◌∙◌, arith}
+use Rattle.std.proofs.Common.{◌≡◌, ℕ, ◌+◌, Bool, true, false, map, cond, List, [], ◌∷◌, ◌++◌, length, drop, refl, sym, ap, ◌∙◌, arith, rules}
 use Rattle.std.specs.Prelude.{◌==◌, IsTrue}
 use Rattle.std.specs.Char.{to_ascii_lowercase}
-use Rattle.std.proofs.lemmas.Bool.{cond-true}
 use Rattle.std.proofs.lemmas.Bool.Decides.{nat_tests}
 use Rattle.std.proofs.lemmas.List.{map-append, length-map}
 use Rattle.std.proofs.lemmas.List.Folds.{list_all-map}
@@ -85,10 +84,7 @@ lowered_value-lowered name value =
 -- the parts of a pair that is its own lowercased form
 pub low_pair-parts : (name value : List ℕ) → IsLowPair (name, value)
     → (lowered name ≡ name) × (IsTrue (is_charset name) → lowered value ≡ value)
-low_pair-parts name value low = (
-  ap (λ pair. pair.0) low,
-  λ charset. sym (cond-true (is_charset name) (lowered value) value charset) ∙ ap (λ pair. pair.1) low,
-)
+low_pair-parts name value low = search rules
 
 -- a lowercased parameter is its own lowercased form
 lowered_parameter-lowered : (p : Parameter) → lowered_parameter (lowered_parameter p) ≡ lowered_parameter p

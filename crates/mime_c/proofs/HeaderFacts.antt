@@ -1,5 +1,5 @@
 -- What the file HeaderAnswers says of some texts.
-use Rattle.std.proofs.Common.{◌≡◌, ℕ, true, false, List, [], ◌∷◌, ◌++◌, map, refl, arith, codes, None}
+use Rattle.std.proofs.Common.{◌≡◌, ℕ, true, false, List, [], ◌∷◌, ◌++◌, map, refl, arith, codes, None, rules}
 use Rattle.mime.specs.Values.{MediaType}
 use Rattle.mime.specs.declared.scan.fault.ParseError.TheVariants.{MissingSlash, InvalidToken}
 use Rattle.mime_http.specs.declared.value.FieldError.TheVariants.{NotUtf8, Invalid, NoMemory}
@@ -9,9 +9,8 @@ use Rattle.mime_c.specs.Answers.{found_at, nothing}
 use Rattle.mime_c.specs.HeaderAnswers.{number_of_error, found_of_error, HeaderReadsTo, value_has_no_room, four_digits, range_texts, AcceptsTo, ranges_have_no_room, lines_of, HaveNoEntry, BestIs, none_is_best, OrderIs, none_is_ordered}
 use Rattle.mime_c.specs.declared.MimeFound.{MimeFound}
 use Rattle.mime_c.specs.declared.TheConstants.{MIME_OK, MIME_NO_ROOM, MIME_NOT_ACCEPTABLE}
-use Rattle.mime_c.proofs.HeaderOutcome.{accepts_to_one, best_is_one}
+use Rattle.mime_c.proofs.HeaderOutcome.{best_is_one}
 use Rattle.mime_c.proofs.OrderOutcome.{order_is_one}
-use Rattle.mime_c.proofs.ValueOutcome.{header_reads_to_one}
 
 -- the numbers of the header, and what is found
 errors_numbered : (map number_of_error (NotUtf8 3 ∷ Invalid MissingSlash ∷ Invalid (InvalidToken 7 40) ∷ NoMemory ∷ []) ≡ 8 ∷ 1 ∷ 6 ∷ 7 ∷ [])
@@ -47,14 +46,10 @@ no_room_for_ranges = ranges_have_no_room (omega arith)
 
 -- no other answer is given then
 not_read : (new : List ℕ) (found : MimeFound) → ¬ (HeaderReadsTo (codes "A/B") (codes "----------") MIME_OK new found)
-not_read new found is =
-    let only = (header_reads_to_one (codes "A/B") (codes "----------")).4 in
-    absurd (omega (arith, (only MIME_OK (new, found) (λ no. omega (arith, no)) is).0, (only MIME_NO_ROOM _ (λ no. omega (arith, no)) no_room).0))
+not_read new found is = search rules
 
 not_listed : (new : List ℕ) (size bad : ℕ) → ¬ (AcceptsTo (codes "A/B") (codes "-----------") MIME_OK new size bad)
-not_listed new size bad is =
-    let only = (accepts_to_one (codes "A/B") (codes "-----------")).4 in
-    absurd (omega (arith, (only MIME_OK (new, size, bad) (λ no. omega (arith, no)) is).0, (only MIME_NO_ROOM _ (λ no. omega (arith, no)) no_room_for_ranges).0))
+not_listed new size bad is = search rules
 
 -- an empty line has no entry, so of no offers none is acceptable, and nothing else is answered
 empty : HaveNoEntry ([] ∷ [])

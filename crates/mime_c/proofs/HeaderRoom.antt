@@ -1,5 +1,5 @@
 -- How many bytes the strings of a header's value are, and that they come back.
-use Rattle.std.proofs.Common.{◌≡◌, ℕ, ◌+◌, ◌*◌, ◌<◌, ◌≤◌, Bool, true, false, List, [], ◌∷◌, ◌++◌, length, filter, refl, sym, subst, ap, ◌∙◌, arith, length-append}
+use Rattle.std.proofs.Common.{◌≡◌, ℕ, ◌+◌, ◌*◌, ◌<◌, ◌≤◌, Bool, true, false, List, [], ◌∷◌, ◌++◌, length, filter, refl, sym, subst, ap, ◌∙◌, arith, length-append, rules}
 use Rattle.std.specs.List.{AllByRecursion}
 use Rattle.std.specs.Prelude.{if◌then◌else◌}
 use Rattle.std.proofs.lemmas.Bool.Decides.{nat_tests}
@@ -11,7 +11,7 @@ use Rattle.mime.proofs.HandedOut.{length-lowered, essence_is_read, kept_is_safe,
 use Rattle.mime_http.specs.HttpMediaType.{IsHttpParameter, with_token, with_string, AreHttpParameters, no_more, semicolon, semicolon_and, HttpReads}
 use Rattle.mime_http.specs.HttpList.{trimmed, IsPrinted, as_it_stands, anew, AreBetweenCommas, no_line, line_end, comma, AreSorted, no_text, blank, a_range, a_bad, Header, IsHeader}
 use Rattle.mime_http.proofs.HandedOut.{text_of_parts, white_around, written_reads, http_is_answered, length-lowered_value}
-use Rattle.mime_http.specs.Written.{is_token_value, quote_of, text_of_pair, text_of_pairs, with_pairs}
+use Rattle.mime_http.specs.Written.{quote_of, text_of_pair, text_of_pairs, with_pairs}
 use Rattle.mime_c.specs.Strings.{string_of, strings, ComeBack, pair_texts, parts_of, texts_of}
 use Rattle.mime_c.specs.HeaderAnswers.{range_texts, ranges_texts}
 use Rattle.mime_c.proofs.NoZero.{HasNoZero, come_back, no_zero-read, no_zero-pairs}
@@ -21,11 +21,7 @@ use Rattle.mime_c.proofs.Writing.{strings_of_texts, strings_of_range, strings_of
 -- ---- parameters
 
 length-quote_of : (value : List ℕ) → length (quote_of value) ≤ 1
-length-quote_of value = by_test (is_token_value value)
-  where
-    by_test : (token : Bool) → length (if◌then◌else◌ {A = List ℕ} token [] (34 ∷ [])) ≤ 1
-    by_test true = omega arith
-    by_test false = omega arith
+length-quote_of value = search rules
 
 -- a parameter has at most five bytes more than its name and its value
 pub length-pair : (name value : List ℕ) → length (text_of_pair (name, value)) ≤ length name + length value + 5

@@ -1,9 +1,9 @@
 -- `mime_order` has one outcome, unless memory runs out: offers have one order.
-use Rattle.std.proofs.Common.{◌≡◌, ◌≢◌, ℕ, ◌<◌, ◌⊎◌, inl, inr, Bool, true, zero, suc, List, [], ◌∷◌, length, map, refl, sym, ap, ◌∙◌, subst, arith, ⊎_elim}
+use Rattle.std.proofs.Common.{◌≡◌, ◌≢◌, ℕ, ◌<◌, ◌⊎◌, inl, inr, Bool, true, zero, suc, List, [], ◌∷◌, length, map, refl, sym, ap, ◌∙◌, subst, arith, ⊎_elim, rules}
 use Rattle.std.specs.Prelude.{Contains, ◌↔◌}
 use Rattle.std.specs.List.{All, AllPairs}
 use Rattle.std.specs.Ordering.{is_gt}
-use Rattle.std.proofs.lemmas.Bool.{cases_lt, cases_Bool}
+use Rattle.std.proofs.lemmas.Bool.{cases_lt}
 use Rattle.std.proofs.lemmas.Bool.Decides.{nat_tests}
 use Rattle.std.proofs.lemmas.List.{length-map}
 use Rattle.std.proofs.lemmas.List.Elements.{All-contains, All-cons, All-head, All-nil, All-tail, All-weaker, Contains-get_or}
@@ -11,7 +11,7 @@ use Rattle.std.proofs.lemmas.List.Kept.{AllPairs-cons}
 use Rattle.mime.specs.Values.{MediaType}
 use Rattle.mime_http.specs.HttpList.{Header, IsHeader}
 use Rattle.mime_http.specs.Ranges.{Rank, rank_cmp, merit, merit_at, AreInOrder}
-use Rattle.mime_http.proofs.HandedOut.{one_rank, weighs_within}
+use Rattle.mime_http.proofs.HandedOut.{weighs_within}
 use Rattle.mime_c.specs.Strings.{written}
 use Rattle.mime_c.specs.HeaderAnswers.{lines_of, OrderIs, order_is, none_is_ordered, order_has_no_room, an_ordered_is_bad, order_has_no_memory}
 use Rattle.mime_c.specs.Laws.{OrderIsOne}
@@ -119,10 +119,7 @@ goes_on_higher x y z i j k (inr (same, less)) (inl on) = inl (subst (λ (r : Ran
 goes_on_higher x y z i j k (inr (same, less)) (inr (again, more)) = inr (same ∙ again, omega (arith, less, more))
 
 one_is_higher : (x y : Rank) (i j : ℕ) → j < i → Higher x i y j ⊎ Higher y j x i
-one_is_higher x y i j less = ⊎_elim (λ above. inl (inl above))
-    (λ low. ⊎_elim (λ above. inr (inl above))
-    (λ lower. let same = one_rank y x (grind (arith, nat_tests, low, lower)) in inr (inr (same, less))) (cases_Bool (is_gt (rank_cmp y x))))
-    (cases_Bool (is_gt (rank_cmp x y)))
+one_is_higher x y i j less = search rules
 
 module _ (ranges offers : List MediaType) where
   abbrev Before : ℕ → ℕ → Type 0

@@ -1,22 +1,17 @@
 -- What the file ParameterAnswers says of some texts.
-use Rattle.std.proofs.Common.{◌≡◌, ℕ, List, [], ◌∷◌, ◌++◌, refl, sym, ap, ◌∙◌, arith, codes, None}
+use Rattle.std.proofs.Common.{◌≡◌, ℕ, List, [], ◌∷◌, ◌++◌, refl, sym, arith, codes, None, rules}
 use Rattle.std.proofs.lemmas.Bool.{true≢false}
 use Rattle.mime.specs.Bytes.{is_token_byte, is_quoted_byte}
 use Rattle.mime.specs.Values.{MediaType}
 use Rattle.mime_c.specs.ParameterAnswers.{BoundaryIs, boundary_has_no_room, UnescapesTo, is_unescaped, room_with, IsParameter, with_parameter, SetsTo, set_has_no_room}
 use Rattle.mime_c.specs.declared.TheConstants.{MIME_OK, MIME_NO_ROOM}
-use Rattle.mime_c.proofs.HeaderOutcome.{unescapes_to_one}
-use Rattle.mime_c.proofs.ValueOutcome.{boundary_is_one, sets_to_one}
 
 -- `a\"b` means three bytes, and nothing else is answered
 escaped_quote : UnescapesTo (codes "a\\\"b") (codes "-----") MIME_OK (codes "a\"b" ++ 0 ∷ codes "-") 3
 escaped_quote = is_unescaped (omega arith)
 
 not_four : (new : List ℕ) → ¬ (UnescapesTo (codes "a\\\"b") (codes "-----") MIME_OK new 4)
-not_four new is =
-    let only = (unescapes_to_one (codes "a\\\"b") (codes "-----")).4 MIME_OK in
-    let same = ap (λ (it : List ℕ × ℕ). it.1) ((only (new, 4) (λ no. omega (arith, no)) is).1 ∙ sym (only _ (λ no. omega (arith, no)) escaped_quote).1) in
-    absurd (omega (arith, same))
+not_four new is = search rules
 
 -- how many bytes are asked for, and what is written
 asked : room_with (codes "a/b") (codes "p") (codes "xy") ≡ 17
@@ -42,11 +37,7 @@ no_room : BoundaryIs [] (codes "-") MIME_NO_ROOM (codes "-") 0 × SetsTo [] [] [
 no_room = (boundary_has_no_room (omega arith), set_has_no_room (omega arith))
 
 no_boundary_there : (new : List ℕ) (size : ℕ) → ¬ (BoundaryIs [] (codes "-") MIME_OK new size)
-no_boundary_there new size is =
-    let only = (boundary_is_one [] (codes "-")).4 in
-    absurd (omega (arith, (only MIME_OK (new, size) (λ no. omega (arith, no)) is).0, (only MIME_NO_ROOM _ (λ no. omega (arith, no)) no_room.0).0))
+no_boundary_there new size is = search rules
 
 no_type_there : (new : List ℕ) (size : ℕ) → ¬ (SetsTo [] [] [] (codes "-----") MIME_OK new size)
-no_type_there new size is =
-    let only = (sets_to_one [] [] [] (codes "-----")).4 in
-    absurd (omega (arith, (only MIME_OK (new, size) (λ no. omega (arith, no)) is).0, (only MIME_NO_ROOM _ (λ no. omega (arith, no)) no_room.1).0))
+no_type_there new size is = search rules

@@ -1,6 +1,6 @@
 -- Each call for one value has one outcome, unless memory runs out.
-use Rattle.std.proofs.Common.{◌≡◌, ◌≢◌, ℕ, ◌+◌, ◌*◌, ◌-◌, ◌⊎◌, inl, inr, true, false, List, [], ◌∷◌, Option, Some, None, length, refl, sym, ap, ◌∙◌, subst, arith, ⊎_elim, codes}
-use Rattle.std.specs.Prelude.{◌==◌, slice_get, bytes_eq, IsSomeAnd}
+use Rattle.std.proofs.Common.{◌≡◌, ◌≢◌, ℕ, ◌+◌, ◌*◌, ◌⊎◌, inl, inr, true, false, List, [], ◌∷◌, Option, Some, None, length, refl, sym, ap, ◌∙◌, subst, arith, ⊎_elim, codes, rules}
+use Rattle.std.specs.Prelude.{◌==◌, bytes_eq, IsSomeAnd}
 use Rattle.std.specs.List.{list_all}
 use Rattle.std.specs.Option.{option_map}
 use Rattle.std.specs.Str.{IsUtf8}
@@ -15,7 +15,7 @@ use Rattle.mime.specs.Values.{MediaType, type_of}
 use Rattle.mime.specs.declared.scan.fault.ParseError.{ParseError}
 use Rattle.mime.specs.declared.scan.fault.ParseError.TheVariants.{NoMemory}
 use Rattle.mime.proofs.HandedOut.{kept_is_safe, kept_is_read}
-use Rattle.mime_http.specs.Boundary.{is_bchar, IsBoundary, IsBoundaryOf}
+use Rattle.mime_http.specs.Boundary.{IsBoundary, IsBoundaryOf}
 use Rattle.mime_http.specs.HttpMediaType.{HttpReads, IsHttpMediaType}
 use Rattle.mime_http.specs.HttpList.{IsPrinted}
 use Rattle.mime_http.specs.HttpFaults.{IsHttpFault, HttpExplains}
@@ -108,20 +108,8 @@ header_reads_to_one value old =
 
 -- ---- boundaries: bytes are one or aren't, and a media type has one or none
 
-end_or_not : (found : Option ℕ) → IsSomeAnd found (λ last. last ≢ 32) ⊎ ¬ (IsSomeAnd found (λ last. last ≢ 32))
-end_or_not None = inr (λ is. is)
-end_or_not (Some b) = ⊎_elim
-    (λ (space : (b == 32) ≡ true). let same : b ≡ 32 = grind (arith, nat_tests, space) in inr (λ other. other same))
-    (λ (other : (b == 32) ≡ false). inl (λ same. absurd (grind (arith, nat_tests, other, same)))) (cases_Bool (b == 32))
-
 is_boundary_or_not : (bytes : List ℕ) → IsBoundary bytes ⊎ ¬ (IsBoundary bytes)
-is_boundary_or_not bytes = ⊎_elim
-    (λ more. inr (λ is. absurd (omega (arith, more, is.most))))
-    (λ most. ⊎_elim
-    (λ all. ⊎_elim (λ end. inl (record { most = most; all = all; end = end })) (λ no. inr (λ is. no is.end))
-    (end_or_not (slice_get bytes (length bytes - 1))))
-    (λ no. inr (λ is. true≢false (sym is.all ∙ no))) (cases_Bool (list_all is_bchar bytes)))
-    (cases_lt 70 (length bytes))
+is_boundary_or_not bytes = search rules
 
 boundary_or_not : (media : MediaType) → ((boundary : List ℕ) × IsBoundaryOf media boundary) ⊎ ((other : List ℕ) → ¬ (IsBoundaryOf media other))
 boundary_or_not media =

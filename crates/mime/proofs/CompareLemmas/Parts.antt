@@ -1,5 +1,6 @@
 -- A text against a value: what a text has that is equal to the value, and what suffices.
-use Rattle.std.proofs.Common.{◌≡◌, ℕ, ◌+◌, true, arith, List, [], ◌∷◌, ◌++◌, length, take, drop, Some, map, refl, sym, ap, ◌∙◌, subst, ◌↔◌, append-nil}
+use Rattle.std.proofs.lemmas.Grind.{common_steps}
+use Rattle.std.proofs.Common.{◌≡◌, ℕ, ◌+◌, true, arith, List, [], ◌∷◌, ◌++◌, length, take, drop, Some, map, refl, sym, ap, ◌∙◌, subst, ◌↔◌}
 use Rattle.std.specs.Prelude.{◌≢◌, ◌==◌, not, codes}
 use Rattle.std.proofs.lemmas.Bool.Decides.{nat_tests}
 use Rattle.std.proofs.lemmas.List.{nil_from_length, take-append-drop}
@@ -7,7 +8,7 @@ use Rattle.std.proofs.lemmas.Option.{same_Some}
 use Rattle.std.specs.List.{list_all}
 use Rattle.std.proofs.lemmas.List.Folds.{list_all-append}
 use Rattle.mime.specs.Bytes.{slash_byte, semicolon_byte}
-use Rattle.mime.specs.Grammar.{Tail, no_list, listed, SyntaxTree, text_of, text_of_tail, text_of_list, IsToken, IsWellFormed}
+use Rattle.mime.specs.Grammar.{Tail, no_list, listed, SyntaxTree, text_of, IsToken, IsWellFormed}
 use Rattle.mime.specs.Values.{MediaType, Reads, value_of, essence_of, lowered, lowered_tail, pairs_of_list, pairs_of_tail, is_charset}
 use Rattle.mime.specs.Comparison.{TextIs, HasNoSemicolon}
 use Rattle.mime.specs.Inner.Pairs.{cut_of, pairs_within}
@@ -15,10 +16,10 @@ use Rattle.mime.specs.Inner.Scanning.{positions_of, semicolon_of}
 use Rattle.mime.specs.Inner.KeptText.{lowered_pair}
 use Rattle.mime.specs.Inner.ComparedText.{StartsWithEssence, IsAcceptedAt, IsLoneCharset}
 use Rattle.mime.specs.declared.scan.Positions.{Positions}
-use Rattle.mime.proofs.BytesLemmas.{list_all-parts, AreTokenBytes-from_token, are_other-token, semicolon_is_no_token}
+use Rattle.mime.proofs.BytesLemmas.{AreTokenBytes-from_token, are_other-token, semicolon_is_no_token}
 use Rattle.mime.proofs.ValueLemmas.Pairs.{cut_of-name}
 use Rattle.mime.proofs.ValueLemmas.Parts.{kept-essence, read-low_essence}
-use Rattle.mime.proofs.ValueLemmas.KeptText.{text_of-essence, take-essence, length-essence_of, slice_get-semicolon, kept_is_read, pairs_within-text_of}
+use Rattle.mime.proofs.ValueLemmas.KeptText.{take-essence, length-essence_of, slice_get-semicolon, kept_is_read, pairs_within-text_of}
 use Rattle.mime.proofs.LowercaseLemmas.{lowered-append, length-tail_lowered, pairs_of_tail-lowered, list_all-lowered}
 use Rattle.mime_search.proofs.IgnoringCase.{length-lowered}
 use Rattle.mime.proofs.GrammarLemmas.Readings.{one_reading}
@@ -172,13 +173,7 @@ HasNoSemicolon-lowered = list_all-lowered (λ b. not (b == semicolon_byte)) (λ 
 
 -- an accepted text without a semicolon is an essence
 text_of-bare : (tree : SyntaxTree) → HasNoSemicolon (text_of tree) → text_of tree ≡ essence_of tree
-text_of-bare tree bare = go tree.tail (subst HasNoSemicolon (text_of-essence tree) bare)
-  where
-    go : (tail : Tail) → HasNoSemicolon (essence_of tree ++ text_of_tail tail)
-        → tree.top ++ (slash_byte ∷ (tree.sub ++ text_of_tail tail)) ≡ essence_of tree
-    go no_list none = ap (λ x. tree.top ++ (slash_byte ∷ x)) (append-nil tree.sub)
-    go (listed list) none =
-        absurd (let parts = list_all-parts _ (essence_of tree) (semicolon_byte ∷ text_of_list list) none in cc)
+text_of-bare tree bare = grind (arith, common_steps)
 
 -- a text that, lowercased, is the essence of a value without pairs is equal to the value
 pub text_is-from_lowered : (text kept : List ℕ) (value : MediaType) → Reads kept value → value.pairs ≡ [] → lowered text ≡ value.essence

@@ -1,5 +1,6 @@
 -- A text has one cut, and what a cut makes of its text.
-use Rattle.std.proofs.Common.{◌≡◌, ℕ, zero, suc, ◌+◌, ◌<◌, Bool, true, false, List, [], ◌∷◌, ◌++◌, length, take, drop, Some, None, refl, sym, ap, ◌∙◌, subst, arith, ◌⊎◌, inl, inr, ⊎_elim, length-append}
+use Rattle.std.proofs.lemmas.Grind.{common_steps}
+use Rattle.std.proofs.Common.{◌≡◌, ℕ, zero, suc, ◌+◌, ◌<◌, Bool, true, false, List, [], ◌∷◌, ◌++◌, length, take, drop, Some, None, refl, sym, ap, ◌∙◌, subst, arith, ◌⊎◌, inl, inr, ⊎_elim}
 use Rattle.std.proofs.Math.Seq.{take-append_seam, drop-append_seam, take-length}
 use Rattle.std.proofs.lemmas.Bool.{and_parts}
 use Rattle.std.specs.Prelude.{IsTrue, ◌&&◌}
@@ -77,10 +78,7 @@ split_unique text p c l q d m one two =
 -- piece, character and what is left make up the text
 pub split-size : (text p c l : List ℕ) → IsSplit text p c l
     → (length text ≡ length p + (length c + length l)) × (0 < length c)
-split-size text p c l split = (
-  ap length split.spelled ∙ length-append p (c ++ l) ∙ ap (λ n. length p + n) (length-append c l),
-  omega (arith, character_len c l split.is_character),
-)
+split-size text p c l split = grind (arith, common_steps)
 
 -- a split text begins with its piece
 pub split-piece : (text p c l : List ℕ) → IsSplit text p c l → take (length p) text ≡ p

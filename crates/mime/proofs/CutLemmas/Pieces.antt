@@ -1,8 +1,9 @@
 -- How a text begins: its first character, and its first piece.
-use Rattle.std.proofs.Common.{◌≡◌, ◌≢◌, ℕ, zero, suc, ◌+◌, ◌-◌, ◌<◌, ◌≤◌, false, inl, inr, length-append, IsAscii, List, [], ◌∷◌, ◌++◌, length, take, drop, Option, Some, None, MatchOption, refl, sym, ap, ◌∙◌, subst, arith, ⊎_elim, length-drop}
+use Rattle.std.proofs.lemmas.Grind.{common_steps}
+use Rattle.std.proofs.Common.{◌≡◌, ◌≢◌, ℕ, zero, suc, ◌+◌, ◌-◌, ◌<◌, ◌≤◌, false, inl, inr, length-append, IsAscii, List, [], ◌∷◌, ◌++◌, length, take, drop, Option, Some, None, MatchOption, refl, sym, ap, ◌∙◌, subst, arith, ⊎_elim, length-drop, rules}
 use Rattle.std.proofs.lemmas.Bool.{cases_Bool, cases_lt, and_parts, not-true, cond-false}
 use Rattle.std.proofs.lemmas.Bool.Decides.{nat_tests}
-use Rattle.std.proofs.lemmas.List.{take-append-drop, length-take-le, drop-drop, get_or-drop, take_at, drop_at}
+use Rattle.std.proofs.lemmas.List.{take-append-drop, length-take-le, drop-drop, take_at, drop_at}
 use Rattle.std.proofs.lemmas.Option.{slice_get_within}
 use Rattle.std.proofs.lemmas.Str.{IsCharBoundary-from_rest, IsCharBoundary-from_take, IsUtf8-from_ascii}
 use Rattle.std.proofs.lemmas.Str.Ascii.{IsAscii-cons, IsAscii-nil}
@@ -21,7 +22,7 @@ use Rattle.mime.specs.declared.scan.fault.ParseError.{ParseError}
 use Rattle.mime.specs.declared.scan.Positions.{Positions}
 use Rattle.mime.specs.declared.scan.Scanned.{Scanned}
 use Rattle.mime.specs.declared.scan.Scanned.TheVariants.{Accepted, Unfinished}
-use Rattle.mime.proofs.GrammarLemmas.Characters.{following-low, prefix_ends_between_characters}
+use Rattle.mime.proofs.GrammarLemmas.Characters.{prefix_ends_between_characters}
 use Rattle.mime.proofs.CutLemmas.Cuts.{empty-rejected, empty-cut, split-size, split-from_dead, cut_unique, takes-split, takes-viable, takes_unique}
 use Rattle.mime.proofs.GrammarLemmas.Begun.{in_type}
 use Rattle.mime.proofs.ValueLemmas.Reading.{accepted-from_positions, rejected-from_fault}
@@ -35,9 +36,7 @@ IsAfterCharacter text left = (character : List ℕ) × (text ≡ character ++ le
 
 -- a byte that follows is none before which a text may be cut
 not_following : (b : ℕ) (bytes : List ℕ) → IsCharBoundary (b ∷ bytes) 0 → IsFalse (is_following_byte b)
-not_following b bytes border =
-    ⊎_elim (λ follows. let low = following-low b follows in absurd (omega (arith, border.1 (omega arith) low.0, low.1))) (λ is. is)
-    (cases_Bool (is_following_byte b))
+not_following b bytes border = search rules
 
 -- up to the first position where a text may be cut all bytes follow
 follow_to : (bytes : List ℕ) (n : ℕ) → IsCharBoundary bytes n → ((j : ℕ) → j < n → ¬ (IsCharBoundary bytes j))
@@ -151,10 +150,7 @@ passes-split text piece character left positions split is =
 
 -- a text may be cut in what follows a position where it may be cut after that position
 border_in_rest : (text : List ℕ) (at n : ℕ) → IsCharBoundary text (at + n) → IsCharBoundary (drop at text) n
-border_in_rest text at n border =
-    let byte = get_or-drop at text n 0 in
-    let size = length-drop at text in
-    (omega (arith, border.0), λ within high. let lead = border.1 (omega arith) (omega arith) in omega arith)
+border_in_rest text at n border = grind (arith, common_steps)
 
 -- the text from the first position after a given one where it may be cut is the rest after the character there
 after_position : (text : List ℕ) (at end : ℕ) → at < length text → at + 1 ≤ end → IsCharBoundary text end

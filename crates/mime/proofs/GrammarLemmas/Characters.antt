@@ -1,5 +1,5 @@
 -- Characters: the longest viable prefix ends between two, and what is passed after it is one.
-use Rattle.std.proofs.Common.{◌≡◌, ℕ, Bool, false, List, [], ◌∷◌, ◌++◌, Option, Some, None, refl, sym, ◌∙◌, subst, ◌+◌, ◌<◌, ◌≤◌, true, length, get_or, drop, ap, arith, ◌⊎◌, inl, inr, ⊎_elim, length-drop, zero, suc, take, append-nil, length-append}
+use Rattle.std.proofs.Common.{◌≡◌, ℕ, Bool, false, List, [], ◌∷◌, ◌++◌, Option, Some, None, refl, sym, ◌∙◌, subst, ◌+◌, ◌<◌, ◌≤◌, true, length, get_or, drop, ap, arith, ◌⊎◌, inl, inr, ⊎_elim, length-drop, zero, suc, take, append-nil, length-append, rules}
 use Rattle.std.proofs.lemmas.Bool.{cond_both, cond-false, cases_lt, and_parts}
 use Rattle.std.specs.Prelude.{IsFalse, MatchOption, if◌then◌else◌, ◌==◌, IsTrue, ◌&&◌, ◌||◌, nat_le}
 use Rattle.std.specs.Option.{option_map}
@@ -88,14 +88,7 @@ grow-foreign (in_list top sub list) b foreign =
 -- a byte that is no tab and isn't from the space to the tilde is no token byte, no space and no delimiter
 pub IsForeign-outside : (b : ℕ) → IsFalse (b == tab_byte || nat_le space_byte b && nat_le b 126) → IsForeign b
 unfolding is_token_byte
-IsForeign-outside b outside = record {
-  token = grind (arith, nat_tests);
-  space = grind (arith, nat_tests);
-  slash = grind (arith, nat_tests);
-  semicolon = grind (arith, nat_tests);
-  equals = grind (arith, nat_tests);
-  quote = grind (arith, nat_tests);
-}
+IsForeign-outside b outside = search rules
 
 -- a byte past ASCII is foreign, too
 pub foreign-from_high : (b : ℕ) → 128 ≤ b → IsForeign b

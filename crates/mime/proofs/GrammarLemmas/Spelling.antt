@@ -1,6 +1,6 @@
 -- A walk spells what it walked: the text of a begun tree, and of the tree of a text that ends there.
-use Rattle.std.proofs.Common.{◌≡◌, ℕ, Bool, true, List, [], ◌∷◌, ◌++◌, Some, None, refl, sym, ap, ◌∙◌, subst, append_assoc, append-nil}
-use Rattle.std.proofs.lemmas.Bool.{and_from, cond_both, eqb-true}
+use Rattle.std.proofs.Common.{◌≡◌, ℕ, Bool, true, List, [], ◌∷◌, ◌++◌, Some, None, refl, sym, ap, ◌∙◌, subst, append_assoc, append-nil, rules}
+use Rattle.std.proofs.lemmas.Bool.{and_from, cond_both}
 use Rattle.std.proofs.lemmas.List.Folds.{list_all-append}
 use Rattle.std.proofs.lemmas.Option.{same_Some, option_and_then_some, MatchOption-at_some}
 use Rattle.std.specs.Prelude.{IsTrue, IsFalse, MatchOption, if◌then◌else◌, ◌==◌}
@@ -90,12 +90,7 @@ ruleset regroup = (append_assoc, append-nil, cons-append)
 pub by_class : {X : Type 0} (P : ℕ → X → Type 0) (class : ℕ → Bool) (other b : ℕ) (x y : X)
     → (IsTrue (class b) → P b x) → (IsFalse (class other) → P other y)
     → MatchOption (if class b then Some x else (if b == other then Some y else None)) (Unit {0}) (P b)
-by_class P class other b x y passes stops =
-    cond_both (class b) _ _ (λ o. MatchOption o (Unit {0}) (P b)) passes
-    (λ fails. cond_both (b == other) _ _ (λ o. MatchOption o (Unit {0}) (P b))
-    (λ same. let is = eqb-true b other same in
-    subst (λ c. P c y) (sym is) (stops (subst (λ c. IsFalse (class c)) is fails)))
-    (λ other. tt))
+by_class P class other b x y passes stops = search rules
 
 -- what one more byte makes of a begun list
 abbrev Lengthens : List ℕ → ℕ → BegunList → Type 0

@@ -1,14 +1,14 @@
 -- Which texts may still become a media type, and what such a text lacks, read off the begun tree that it is walked to.
-use Rattle.std.proofs.Common.{◌≡◌, ℕ, false, Bool, suc, ◌+◌, ◌-◌, ◌<◌, List, [], ◌∷◌, ◌++◌, length, take, Option, Some, None, refl, sym, ap, ◌∙◌, subst, arith, append_assoc, append-nil, length-append, codes}
+use Rattle.std.proofs.Common.{◌≡◌, ℕ, false, Bool, suc, ◌+◌, ◌-◌, ◌<◌, List, [], ◌∷◌, ◌++◌, length, take, Option, Some, None, refl, sym, ap, ◌∙◌, subst, arith, append_assoc, append-nil, length-append, codes, rules}
 use Rattle.std.proofs.Math.Seq.{take-append_seam, take-append-add, take-length}
 use Rattle.std.proofs.lemmas.Bool.{cond-false, false≢true}
 use Rattle.std.proofs.lemmas.Option.{none-some, option_and_then_some, slice_get_within}
-use Rattle.std.specs.Prelude.{IsTrue, MatchOption, is_some}
+use Rattle.std.specs.Prelude.{IsTrue, is_some}
 use Rattle.std.specs.Option.{option_and_then, option_map}
 use Rattle.mime.specs.Bytes.{is_token_byte, is_quoted_byte, quote_byte}
 use Rattle.mime.specs.Grammar.{SyntaxTree}
 use Rattle.mime.specs.Values.{value_of, IsAccepted, IsRejected}
-use Rattle.mime.specs.Faults.{IsViable, IsLongestPrefix, completion_of, Lacks, IsDeadAt, IsFault}
+use Rattle.mime.specs.Faults.{IsViable, IsLongestPrefix, Lacks, IsDeadAt, IsFault}
 use Rattle.mime.proofs.GrammarLemmas.Begun.{Closed, Begun, in_type, in_subtype, in_list, ListState, in_name, in_value, in_quotes, list_at, grow, walk, walk_from, tree_of, lacking, lacking_list, walk_by-step, walk_by-append, walk_by-append_some, walk_from-in_list, walk_list-open}
 use Rattle.mime.specs.Laws.{EmptyIsViable, PrefixOfViableIsViable, AcceptedIsViable}
 use Rattle.mime.specs.declared.scan.fault.ParseError.{ParseError}
@@ -111,9 +111,7 @@ lacks-from_walk text (in_list top sub list) walked unfinished = at list.position
 
 -- a text with a completion is viable
 pub viable-from_lacks : (text : List ℕ) (fault : ParseError) → Lacks text fault → IsViable text
-viable-from_lacks text fault lacks =
-    (elim (completion_of fault) as (λ o. MatchOption o ⊥ (λ more. IsAccepted (text ++ more)) → IsViable text)
-    [ None ↦ λ completed. absurd completed | Some more ↦ λ completed. (more, completed) ]) lacks.0
+viable-from_lacks text fault lacks = search rules
 
 -- an accepted text is viable
 pub accepted_is_viable : AcceptedIsViable

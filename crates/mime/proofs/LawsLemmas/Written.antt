@@ -1,8 +1,9 @@
 -- The essence of a value and its parts, and what is written into a header.
+use Rattle.std.proofs.lemmas.Grind.{common_steps}
 use Rattle.std.proofs.Common.{◌≡◌, ℕ, ◌+◌, List, ◌∷◌, ◌++◌, length, drop, Option, Some, None, sym, ap, ◌∙◌, subst, refl, arith, zero, suc, ◌-◌, ◌<◌, Bool, true, false, [], take, append_assoc, append-nil}
 use Rattle.std.specs.Prelude.{slice_get, slice_range, unwrap_or, IsFalse, MatchOption, ◌==◌, ◌&&◌, not}
 use Rattle.std.specs.Option.{option_map, IfSome}
-use Rattle.std.proofs.lemmas.List.{take-append-drop, take_at, drop_more, drop_all, length-drop}
+use Rattle.std.proofs.lemmas.List.{take-append-drop, drop_more, drop_all, length-drop}
 use Rattle.std.proofs.lemmas.List.Folds.{drop_split}
 use Rattle.std.proofs.lemmas.Option.{slice_get_within, get_or_from_slice_get, none-some, option_and_then_some}
 use Rattle.mime.specs.Bytes.{slash_byte, plus_byte, is_token_byte, is_quoted_byte, is_quoted_text_byte, quote_byte}
@@ -45,10 +46,7 @@ drop-from bytes p b there =
 
 -- the type is the tree's, and what follows the slash is its subtype
 type_of-read : (text : List ℕ) (value : MediaType) (reads : Reads text value) → type_of value ≡ lowered reads.tree.top
-type_of-read text value reads =
-    let top = lowered reads.tree.top in
-    subst (λ (v : MediaType). type_of v ≡ top) reads.valued
-    (take_at top (slash_byte ∷ lowered reads.tree.sub) _ (length-lowered reads.tree.top))
+type_of-read text value reads = grind (arith, common_steps)
 
 after_slash-read : (text : List ℕ) (value : MediaType) (reads : Reads text value)
     → drop (value.slash + 1) value.essence ≡ lowered reads.tree.sub

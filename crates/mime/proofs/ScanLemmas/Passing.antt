@@ -1,8 +1,9 @@
 -- What a pass over a reader's bytes has given so far, one byte or one run more, and at its end.
-use Rattle.std.proofs.Common.{◌≡◌, ℕ, zero, suc, get_or, ◌+◌, ◌-◌, ◌<◌, Bool, true, false, cond, eqb, List, [], ◌∷◌, ◌++◌, length, Option, Some, None, refl, sym, ap, ◌∙◌, subst, arith, append_assoc, append-nil, length-append, take, drop, ◌≤◌}
+use Rattle.std.proofs.lemmas.Grind.{common_steps}
+use Rattle.std.proofs.Common.{◌≡◌, ℕ, zero, suc, get_or, ◌+◌, ◌-◌, ◌<◌, Bool, true, false, cond, eqb, List, [], ◌∷◌, ◌++◌, length, Option, Some, None, refl, sym, ap, ◌∙◌, subst, arith, append_assoc, append-nil, length-append, take, drop, ◌≤◌, rules}
 use Rattle.std.specs.Prelude.{IsTrue, IsFalse, not, ◌&&◌, MatchOption}
 use Rattle.std.specs.List.{list_all, prefix_len}
-use Rattle.std.specs.Option.{option_eq, option_to_list}
+use Rattle.std.specs.Option.{option_eq}
 use Rattle.std.proofs.lemmas.Bool.{and_from, and_parts, eqb-true, true≢false, not-true, false_from_ne_true}
 use Rattle.std.proofs.lemmas.List.Folds.{list_all-append}
 use Rattle.std.proofs.lemmas.List.Sums.{prefix_len-le-length}
@@ -20,17 +21,11 @@ use Rattle.mime.proofs.GrammarLemmas.Content.{takes-backslash, takes_all-text, a
 -- a run, and what was given from where it ended
 pub given_then : {old mid new : Remaining} {xs ys : List ℕ} {stop : Option ℕ}
     → Given old mid xs None → Given mid new ys stop → Given old new (xs ++ ys) stop
-given_then {new} {xs} {ys} {stop} g h = record {
-  bytes = g.bytes ∙ ap (λ rest. xs ++ rest) h.bytes ∙ sym (append_assoc xs ys (option_to_list stop ++ new.left));
-  counted = omega (arith, g.counted, h.counted, length-append xs ys);
-}
+given_then {new} {xs} {ys} {stop} g h = grind (arith, common_steps)
 
 -- a run with the byte that ended it is a run
 pub given_whole : {old new : Remaining} {xs : List ℕ} {b : ℕ} → Given old new xs (Some b) → Given old new (xs ++ b ∷ []) None
-given_whole {new} {xs} {b} g = record {
-  bytes = g.bytes ∙ sym (append_assoc xs (b ∷ []) new.left);
-  counted = omega (arith, g.counted, length-append xs (b ∷ []));
-}
+given_whole {new} {xs} {b} g = grind (arith, common_steps)
 
 -- a run, and the byte that ended it, or the end of the text
 given_stop : {old mid new : Remaining} {xs : List ℕ} {stop : Option ℕ} → Given old mid xs None → GivesFirst mid new stop
@@ -204,12 +199,7 @@ taking_paired {b} p g fits = taking_run p (given_whole g.0) (and_from (is_quoted
 -- the text ended after a backslash, or a byte came that it doesn't pair
 pub content_pair : {old mid new : Remaining} {stop : Option ℕ} → Taking true old mid → GivesFirst mid new stop
     → MatchOption stop (new.left ≡ []) (λ b. IsFalse (is_quoted_byte b)) → PassesContent old new stop
-content_pair p g stopped = record {
-  run = p.run;
-  of_class = p.of_class;
-  given = given_stop p.given g;
-  stopped = rw p.awaits stopped;
-}
+content_pair p g stopped = search rules
 
 -- quoted text up to the end, or to a byte that is no backslash
 pub content_text : {old mid new : Remaining} (stop : Option ℕ) → Taking false old mid → Passes is_quoted_text_byte mid new stop

@@ -1,4 +1,5 @@
 -- What a value feeds a hasher: the last word of a part, and that what is fed is prefix-free.
+use Rattle.std.proofs.lemmas.Grind.{common_steps}
 use Rattle.std.proofs.Common.{◌≡◌, ℕ, zero, suc, ◌+◌, ◌-◌, ◌*◌, ◌/◌, ◌%◌, ◌^◌, ◌<◌, get_or, List, [], ◌∷◌, ◌++◌, length, take, drop, replicate, refl, sym, ap, ◌∙◌, arith, true, subst, append-nil, append_assoc, ⊎_elim}
 use Rattle.std.specs.Int.{byte_at, bytes_low_first, to_le_bytes, w64}
 use Rattle.std.proofs.Math.Nat.{pow-suc, mul_comm, div-div-eq-div-mul}
@@ -195,10 +196,7 @@ media_bytes media after =
 more_bytes : (pair : List ℕ × List ℕ) (pairs : List (List ℕ × List ℕ)) (after : List ℕ)
     → flat_map pair_bytes (pair ∷ pairs) ++ after
     ≡ pair.0 ++ (255 ∷ (zeros_after pair.0 ++ (pair.1 ++ (255 ∷ (zeros_after pair.1 ++ (flat_map pair_bytes pairs ++ after))))))
-more_bytes pair pairs after =
-    ap (λ xs. xs ++ after) (flat_map-cons pair_bytes pair pairs) ∙ append_assoc (pair_bytes pair) (flat_map pair_bytes pairs) after
-    ∙ append_assoc (part_bytes pair.0) (part_bytes pair.1) _ ∙ append_assoc pair.0 (255 ∷ zeros_after pair.0) _
-    ∙ ap (λ xs. pair.0 ++ (255 ∷ (zeros_after pair.0 ++ xs))) (append_assoc pair.1 (255 ∷ zeros_after pair.1) _)
+more_bytes pair pairs after = grind (arith, common_steps)
 
 -- two runs that begin with a part and its end: the parts are the same, and so is what follows
 first_part : (x y m n : List ℕ) → AreTextBytes x → AreTextBytes y → x ++ (255 ∷ (zeros_after x ++ m)) ≡ y ++ (255 ∷ (zeros_after y ++ n))

@@ -1,5 +1,6 @@
 -- The pairs cut from the text of a well-formed parameter list are its pairs, and lowercasing them lowercases the list.
-use Rattle.std.proofs.Common.{◌≡◌, ℕ, suc, ◌+◌, ◌-◌, Bool, true, false, List, [], ◌∷◌, ◌++◌, length, drop, refl, sym, ap, ◌∙◌, subst, arith, append-nil, append_assoc, length-append}
+use Rattle.std.proofs.lemmas.Grind.{common_steps}
+use Rattle.std.proofs.Common.{◌≡◌, ℕ, suc, ◌+◌, ◌-◌, Bool, true, false, List, [], ◌∷◌, ◌++◌, length, drop, refl, sym, ap, ◌∙◌, subst, arith, append-nil, append_assoc}
 use Rattle.std.specs.Prelude.{◌==◌}
 use Rattle.std.specs.List.{list_all, prefix_len}
 use Rattle.std.specs.Char.{to_ascii_lowercase}
@@ -123,11 +124,7 @@ text_of_parameter-parts (quoted name content n) after = simp append_assoc
 -- where a value begins, counted from the list's end
 head_counted : (n name opening after : List ℕ)
     → length (n ++ (name ++ (opening ++ after))) - length after ≡ length (n ++ (name ++ opening))
-head_counted n name opening after =
-    let whole : length (n ++ (name ++ (opening ++ after))) ≡ length n + (length name + (length opening + length after)) =
-    simp length-append in
-    let head : length (n ++ (name ++ opening)) ≡ length n + (length name + length opening) = simp length-append in
-    omega (arith, whole, head)
+head_counted n name opening after = grind (arith, common_steps)
 
 -- the first pair cut from the text of a parameter and what follows it
 cut_of-parameter : (n : List ℕ) (p : Parameter) (follow rest : List ℕ) → AreSpaces n → IsParameter p

@@ -1,4 +1,5 @@
 -- A text lowercased from its start on, range by range and pair by pair.
+use Rattle.std.proofs.lemmas.Grind.{common_steps}
 use Rattle.std.proofs.Common.{◌≡◌, ℕ, suc, ◌+◌, ◌-◌, ◌<◌, ◌≤◌, Bool, true, false, cond, List, [], ◌++◌, length, drop, refl, sym, ap, ◌∙◌, arith, append-nil, append_assoc, length-append, take, slice_range, length-drop}
 use Rattle.std.proofs.lemmas.Bool.{cond_both}
 use Rattle.std.proofs.lemmas.List.{take_at, drop_at, drop-drop, drop_all, take-append-drop, take_rest, length-take-le}
@@ -68,10 +69,7 @@ lowered_start-end text list at k end =
 -- a list is lowercased up to where its first part ends
 lowered_part : (list prefix back : List ℕ) (k : ℕ) → list ≡ prefix ++ back → length prefix ≡ k
     → lowered (take k list) ++ drop k list ≡ lowered prefix ++ back
-lowered_part list prefix back k parts size =
-    let before : take k list ≡ prefix = ap (take k) parts ∙ take_at prefix back k size in
-    let after : drop k list ≡ back = ap (drop k) parts ∙ drop_at prefix back k size in
-    cc
+lowered_part list prefix back k parts size = grind (arith, common_steps)
 
 -- a first value ends within a list
 pub low_within : (list value : List ℕ) (start low : ℕ) (charset : Bool) → start ≡ (cut_of list).value_start → value ≡ (cut_of list).value
@@ -170,11 +168,3 @@ lowered_to-more bytes left part rest from low count next whole so_far counts low
           ∙ so_far.comes;
       none = λ _. refl;
     }
-
--- all is done
-pub lowered_to-all : (bytes left : List ℕ) (from count : ℕ) (whole : List ℕ) → IsLoweredTo bytes left from count whole → count ≡ 0
-    → bytes ≡ whole
-lowered_to-all bytes left from count whole so_far ends =
-    let none = so_far.none ends in
-    so_far.parts ∙ (λ i. so_far.done ++ (none i ++ left))
-    ∙ sym (λ i. so_far.done ++ (lowered (none i) ++ lowered_within (ends i) left)) ∙ so_far.comes

@@ -1,4 +1,5 @@
 -- What a cut of a list is, and where its quoted content ends.
+use Rattle.std.proofs.lemmas.Grind.{common_steps}
 use Rattle.std.proofs.Common.{⊎_elim, ◌≡◌, ◌≢◌, ℕ, zero, suc, ◌+◌, ◌<◌, ◌≤◌, Bool, true, false, List, [], ◌∷◌, ◌++◌, length, get_or, drop, refl, sym, ap, ◌∙◌, ne_eqb, arith, ◌-◌, take, subst, append-nil, append_assoc, length-append}
 use Rattle.std.specs.Prelude.{IsTrue, ◌==◌, ◌&&◌, not, Option, Some, codes}
 use Rattle.std.specs.List.{position_or_len}
@@ -19,7 +20,7 @@ use Rattle.mime.specs.Values.{lowered, lowered_value}
 use Rattle.mime.specs.Inner.Pairs.{PairCut, cut_after_equals, leading_spaces, without_spaces, cut_of, pairs_within, has_equals, lowered_first, lowered_within}
 use Rattle.mime.specs.Items.{items_of, IsFirstAccepted}
 use Rattle.mime.proofs.LowercaseLemmas.{lowered_value-either, length-lowered}
-use Rattle.mime.proofs.ValueLemmas.Utf8.{IsLoweredInPart, same, lowercase, in_parts, length-in_part}
+use Rattle.mime.proofs.ValueLemmas.Utf8.{IsLoweredInPart, same, lowercase, in_parts}
 
 -- ---- the spaces with which a list begins
 
@@ -183,13 +184,7 @@ first_lowered-in_part list lies =
 -- lowercasing the first pair keeps the position of the rest
 length-first_lowered : (list : List ℕ) (lies : LiesIn list (cut_of list))
     → length (first_lowered list lies) + length (cut_of list).rest ≡ length list
-length-first_lowered list lies =
-    omega (
-      arith,
-      length-in_part _ _ (first_lowered-in_part list lies),
-      ap length (before_rest-joined list lies),
-      length-append (before_rest list lies) (cut_of list).rest,
-    )
+length-first_lowered list lies = grind (arith, common_steps)
 
 -- the list with its first pairs lowercased: the first, and then the others
 pub lowered_within-first : (count : ℕ) (list : List ℕ) (lies : LiesIn list (cut_of list))

@@ -1,11 +1,11 @@
 -- The parts of a value that was read: its plus, where its essence may be cut, what is lowercase, and how many pairs it has.
-use Rattle.std.proofs.Common.{◌≡◌, ◌≢◌, ℕ, Bool, suc, ◌+◌, ◌-◌, ◌<◌, List, map, [], ◌∷◌, ◌++◌, length, drop, Option, Some, None, refl, sym, ap, ◌∙◌, subst, arith, ⊎_elim, zero, ◌≤◌, true, lit<}
+use Rattle.std.proofs.Common.{◌≡◌, ◌≢◌, ℕ, Bool, suc, ◌+◌, ◌-◌, ◌<◌, List, map, [], ◌∷◌, ◌++◌, length, drop, Option, Some, None, refl, sym, ap, ◌∙◌, subst, arith, ⊎_elim, zero, ◌≤◌, true, lit<, rules}
 use Rattle.std.specs.Prelude.{slice_get, MatchOption, if◌then◌else◌, ◌==◌, unwrap_or, IsUtf8, codes}
 use Rattle.std.specs.Option.{option_or}
 use Rattle.std.proofs.lemmas.Bool.{cond_both, cases_lt, eqb-true, eqb-false}
 use Rattle.std.proofs.lemmas.Option.{same_Some, none-some, slice_get_within, get_or_from_slice_get, MatchOption-at_some}
 use Rattle.mime.specs.Bytes.{slash_byte, plus_byte, equals_byte}
-use Rattle.mime.specs.Values.{lowered, last_plus, MediaType, Reads, pairs_of_tail, lowered_tree, kept_text, essence_of}
+use Rattle.mime.specs.Values.{lowered, last_plus, MediaType, Reads}
 use Rattle.mime.specs.Laws.{HasNoPlusFrom, PlusIsLast}
 use Rattle.mime.proofs.BytesLemmas.{slice_get-after, slice_get-prefix, boundary_after}
 use Rattle.mime.proofs.LowercaseLemmas.{lowered-lowered, lowered-append, lowered_value-lowered, low_pair-parts, length-tail_lowered, pairs_of_tail-lowered}
@@ -177,16 +177,4 @@ same_from_text text other x y reads also is =
 
 -- without pairs the kept text is the essence
 pub kept-essence : (x : MediaType) (text : List ℕ) → Reads text x → length x.pairs ≡ 0 → x.kept ≡ x.essence
-kept-essence x text reads none =
-    subst (λ (value : MediaType). length value.pairs ≡ 0 → value.kept ≡ value.essence) reads.valued
-    (go (pairs_of_tail (lowered_tree reads.tree).tail)) none
-  where
-    go : (pairs : List (List ℕ × List ℕ)) → length pairs ≡ 0
-        → kept_text pairs (lowered_tree reads.tree) ≡ essence_of (lowered_tree reads.tree)
-    go [] none = refl
-    go (pair ∷ pairs) none = absurd (omega arith)
-
--- so equal ones without pairs have one kept text
-pub kept-bare : (text other : List ℕ) (x y : MediaType) → Reads text x → Reads other y → length x.pairs ≡ 0 → Same x y → x.kept ≡ y.kept
-kept-bare text other x y reads also none (essence, pairs) =
-    kept-essence x text reads none ∙ essence ∙ sym (kept-essence y other also (sym (ap length pairs) ∙ none))
+kept-essence x text reads none = search rules

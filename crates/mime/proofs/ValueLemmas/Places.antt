@@ -1,25 +1,18 @@
 -- A word says where the plus is, since that is never at position 0, and one where the essence ends, since a kept text has a semicolon
 -- exactly if it has a pair. And a text that is read as a value with a parameter has its parts where that value has them.
 use Rattle.std.proofs.Common.{◌≡◌, ℕ, zero, suc, ◌+◌, ◌≤◌, List, [], ◌∷◌, length, drop, Option, Some, None, refl, ap, sym, ◌∙◌, subst, arith}
-use Rattle.std.specs.Prelude.{◌≢◌, IfSome, if◌then◌else◌, ◌==◌, unwrap_or}
+use Rattle.std.specs.Prelude.{◌≢◌, IfSome, if◌then◌else◌, ◌==◌}
 use Rattle.std.specs.Option.{option_or}
 use Rattle.std.proofs.lemmas.Bool.{cond_both}
 use Rattle.mime.specs.Bytes.{plus_byte}
-use Rattle.mime.specs.Grammar.{blank, final, more, Tail, no_list, listed, text_of}
+use Rattle.mime.specs.Grammar.{Tail, no_list, listed, text_of}
 use Rattle.mime.specs.Values.{MediaType, Reads, kept_text, lowered_tree, last_plus, pairs_of_tail}
-use Rattle.mime.specs.Inner.Scanning.{HasPositions, positions_of, semicolon_of}
-use Rattle.mime.specs.Inner.KeptPlaces.{unless_zero}
-use Rattle.mime.specs.Inner.KeptText.{IsKept, kept_positions, kept_semicolon}
+use Rattle.mime.specs.Inner.Scanning.{HasPositions, positions_of}
+use Rattle.mime.specs.Inner.KeptText.{IsKept, kept_positions}
 use Rattle.mime.specs.declared.scan.Positions.{Positions}
 use Rattle.mime.proofs.LowercaseLemmas.{positions_of-lowered_tree, IsWellFormed-lowered_tree}
 use Rattle.mime.proofs.GrammarLemmas.Readings.{one_tree}
 use Rattle.mime.proofs.ValueLemmas.KeptText.{value_of_low, value_of-lowering, length-essence_of}
-
--- a position that isn't 0 comes back from its word
-pub unless_zero-unwrap_or : (position : Option ℕ) → position ≢ Some 0 → unless_zero (unwrap_or position 0) ≡ position
-unless_zero-unwrap_or None above = refl
-unless_zero-unwrap_or (Some zero) above = absurd (above refl)
-unless_zero-unwrap_or (Some (suc n)) above = refl
 
 -- the last plus is none of the bytes before those that are searched
 last_plus-from : (at : ℕ) (bytes : List ℕ) → IfSome (last_plus at bytes) (λ plus. at ≤ plus)
@@ -42,22 +35,6 @@ plus-not_zero text positions has =
     let top = length has.tree.top in
     subst (λ (p : Positions). p.plus ≢ Some 0) has.same_positions
     (not_zero (top + 2) _ (omega arith) (last_plus-from (top + 2) (drop 1 has.tree.sub)))
-
--- a kept text has a semicolon if it has a pair, and only then
-pub semicolon-kept : (text : List ℕ) (positions : Positions) (len : ℕ) → IsKept text positions
-    → kept_semicolon positions.pair_count (Some (unwrap_or positions.semicolon len)) ≡ positions.semicolon
-semicolon-kept text positions len is_kept =
-    let tree = is_kept.has.tree in
-    let same = is_kept.has.same_positions in
-    subst (λ (p : Positions). kept_semicolon p.pair_count (Some (unwrap_or p.semicolon len)) ≡ p.semicolon) same
-    (go tree.tail _ (ap (λ (p : Positions). p.semicolon) (subst (λ p. kept_positions p ≡ p) (sym same) is_kept.kept)))
-  where
-    go : (tail : Tail) (at : ℕ) → kept_semicolon (length (pairs_of_tail tail)) (semicolon_of at tail) ≡ semicolon_of at tail
-        → kept_semicolon (length (pairs_of_tail tail)) (Some (unwrap_or (semicolon_of at tail) len)) ≡ semicolon_of at tail
-    go no_list at kept = refl
-    go (listed (blank n)) at kept = absurd cc
-    go (listed (final n p)) at kept = refl
-    go (listed (more n p rest)) at kept = refl
 
 -- the positions in a text that is read as a value with a parameter
 pub read-positions : (text : List ℕ) (value : MediaType) → Reads text value → length value.pairs ≢ 0

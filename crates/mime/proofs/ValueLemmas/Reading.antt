@@ -1,5 +1,5 @@
 -- What reading a text answers, and that the constant media types are stored with their positions.
-use Rattle.std.proofs.Common.{arith, ◌≡◌, ℕ, List, [], ◌∷◌, refl, sym, ap, ◌∙◌, subst, ◌+◌, length, take, drop, Option, Some, None, codes}
+use Rattle.std.proofs.Common.{◌≡◌, ℕ, List, [], ◌∷◌, refl, sym, ap, ◌∙◌, subst, ◌+◌, length, take, drop, Option, Some, None, codes}
 use Rattle.std.specs.Prelude.{◌≤◌, Result, Ok, Err, IfErr, IsOk, codes, unwrap_or}
 use Rattle.std.proofs.Math.Nat.{lt_of_not-le}
 use Rattle.std.proofs.lemmas.Bool.{false≢true}
@@ -80,11 +80,6 @@ pub kept_atom : (atom : Atom) → IsKept (atom_text atom) (positions_in (atom_te
 unfolding is_token_byte
 kept_atom STAR_STAR = kept_by (atom_text STAR_STAR) refl refl refl refl refl refl
 kept_atom atom = kept_by (atom_text atom) refl refl refl refl refl refl
-
--- each constant's text is short enough to be stored in the value
-pub short_atom : (atom : Atom) → length (atom_text atom) ≤ 40
-short_atom STAR_STAR = omega arith
-short_atom atom = omega arith
 
 -- each part of an accepted text has one position
 pub one_positions : (text : List ℕ) (first second : Positions) → HasPositions text first → HasPositions text second → first ≡ second

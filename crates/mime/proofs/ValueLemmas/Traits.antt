@@ -1,4 +1,5 @@
 -- The order of values, with the laws of `Before` and `Same`, and two iterators that std's `eq` compares.
+use Rattle.std.proofs.lemmas.Grind.{common_steps}
 use Rattle.std.proofs.Common.{arith, length, slice_index, take, zero, suc, ℕ, ◌≡◌, ◌<◌, ◌⊎◌, inl, inr, ⊎_elim, Bool, true, false, IsTrue, ◌↔◌, List, [], ◌∷◌, refl, sym, ap, ◌∙◌, subst, true≢false, Option, None, Some}
 use Rattle.std.specs.declared.cmp.Ordering.{Ordering}
 use Rattle.std.specs.declared.cmp.Ordering.TheVariants.{Less, Equal, Greater}
@@ -17,7 +18,6 @@ use Rattle.std.specs.List.{AllZip}
 use Rattle.std.proofs.lemmas.Bool.{true≢false}
 use Rattle.std.proofs.lemmas.Bool.Decides.{same_from_decides}
 use Rattle.mime.proofs.BytesLemmas.{cons_parts}
-use Rattle.std.proofs.lemmas.List.{get_or-take}
 use Rattle.mime_search.specs.Differences.{DifferAt}
 
 -- an order finds one thing less than a second one exactly if the first is before it, and finds them equal exactly if they are the same
@@ -145,12 +145,7 @@ ordered_by_difference (x ∷ xs) (y ∷ ys) (suc k) within also differ =
 -- beginnings that have the bytes at which two texts differ differ there, too
 pub differ_in_beginnings : (text other : List ℕ) (n m at : ℕ) → at < n → at < m → DifferAt text other 0 at
     → DifferAt (take n text) (take m other) 0 at
-differ_in_beginnings text other n m at within also differ = record {
-  least = differ.least;
-  equal_before = λ k least before. get_or-take n text k 0 (omega (arith, within, before)) ∙ differ.equal_before k least before
-      ∙ sym (get_or-take m other k 0 (omega (arith, also, before)));
-  differ = λ same. differ.differ (sym (get_or-take n text at 0 within) ∙ same ∙ get_or-take m other at 0 also);
-}
+differ_in_beginnings text other n m at within also differ = grind (arith, common_steps)
 
 -- values whose essences differ are ordered by the bytes at which these first differ
 pub ordered_by_essence : (x y : MediaType) (at : ℕ) → at < length x.essence → at < length y.essence → DifferAt x.essence y.essence 0 at

@@ -1,5 +1,5 @@
 -- A text of which parts are lowercased: what holds of it, and that it keeps UTF-8.
-use Rattle.std.proofs.Common.{◌≡◌, ℕ, ◌<◌, ◌≤◌, Bool, true, List, [], ◌∷◌, ◌++◌, length, take, drop, refl, sym, ap, ◌∙◌, subst, arith, ⊎_elim}
+use Rattle.std.proofs.Common.{◌≡◌, ℕ, ◌<◌, ◌≤◌, Bool, true, List, [], ◌∷◌, ◌++◌, length, take, drop, refl, sym, ap, ◌∙◌, subst, arith, ⊎_elim, rules}
 use Rattle.std.specs.Prelude.{IsUtf8}
 use Rattle.std.specs.Char.{to_ascii_lowercase}
 use Rattle.std.proofs.lemmas.Bool.{and_parts, cases_lt}
@@ -12,10 +12,9 @@ use Rattle.mime.proofs.LowercaseLemmas.{lowered-lowered, lowered-append}
 use Rattle.mime_search.proofs.IgnoringCase.{length-lowered, lowered-take, lowered-drop}
 use Rattle.std.specs.Prelude.{◌&&◌, ◌||◌, nat_le, nat_lt}
 use Rattle.std.specs.List.{list_all}
-use Rattle.std.proofs.lemmas.Bool.{cond_both}
 use Rattle.mime.proofs.BytesLemmas.{list_all-wider}
-use lib.Dec.{T, ltb, ltb→lt}
-use lib.Utf8.{scalars, scalar, encodes, encode, scalar_cases}
+use lib.Dec.{ltb}
+use lib.Utf8.{scalars, scalar, encodes, encode}
 
 -- the second text is the first with some of its parts lowercased
 pub data IsLoweredInPart : List ℕ → List ℕ → Type 0 where
@@ -77,13 +76,7 @@ stays text partly none is = absurd cc
 -- the bytes of a character past ASCII are past ASCII, and below 248
 pub high_bytes : (c : ℕ) → scalar c ≡ true → 128 ≤ c → list_all (λ b. nat_le 128 b && nat_lt b 248) (encode c) ≡ true
 unfolding encode
-high_bytes c is above =
-    let below : c < 1114112 = ⊎_elim (λ under. omega (arith, under)) (λ over. over.1) (scalar_cases c is) in
-    let P : List ℕ → Type 0 = λ bytes. list_all (λ b. nat_le 128 b && nat_lt b 248) bytes ≡ true in
-    let under = λ (m : ℕ) (is : ltb c m ≡ true). ltb→lt c m (subst T (sym is) tt) in
-    cond_both (ltb c 128) _ _ P (λ yes. absurd (omega (arith, above, under 128 yes)))
-    (λ _. cond_both (ltb c 2048) _ _ P (λ yes. grind (arith, nat_tests, under 2048 yes))
-    (λ _. cond_both (ltb c 65536) _ _ P (λ yes. grind (arith, nat_tests, under 65536 yes)) (λ _. grind (arith, nat_tests))))
+high_bytes c is above = search rules
 
 -- a text with the lowercased form of an ASCII character is in UTF-8
 of_ascii : (c : ℕ) (partly : List ℕ) → c < 128 → lowered partly ≡ lowered (c ∷ []) → IsUtf8 partly

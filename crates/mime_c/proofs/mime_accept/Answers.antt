@@ -5,7 +5,7 @@ use Rattle.std.proofs.lemmas.List.{length-map, drop_more, drop_all}
 use Rattle.mime.specs.Values.{OwnedMedia}
 use Rattle.mime_c.specs.Strings.{strings}
 use Rattle.mime_c.specs.HeaderAnswers.{range_texts, ranges_texts, are_ranges, ranges_have_no_memory, ranges_have_no_room}
-use Rattle.mime_c.proofs.Writing.{Leaves, leaves-first, leaves-holds, leaves-next, leaves-last, strings_of_ranges}
+use Rattle.mime_c.proofs.Writing.{Leaves, leaves-holds, leaves-last, strings_of_ranges}
 use Rattle.mime_c.proofs.HeaderRoom.{ranges_fit, ranges_come_back}
 use Rattle.mime_c.proofs.mime_accept.Goals as goal
 
@@ -26,9 +26,6 @@ pub returns-in_default : goal.returns-in_default
 returns-in_default c =
     ranges_have_no_memory (omega (arith, c.if-out-text.false)) (λ none. true≢false (sym (subst IsOk c.in_default.is (c.from_lines.ensures.nothing none))))
 
-pub loop-range-init : goal.loop-range-init
-loop-range-init c = leaves-first _ _ 0 (omega arith)
-
 pub put_range-at-requires : goal.put_range-at-requires
 put_range-at-requires c =
     let ranges = c.ranges-range-items.ensures in
@@ -37,12 +34,6 @@ put_range-at-requires c =
     omega (arith, fit, ap (λ all. length (strings (ranges_texts all))) ranges, c.if-out-text.false) in
     leaves-holds c.loop-range.invariant (strings (range_texts c.range-item.result.media)) _
     (first_of c.ranges-range-items.result.now c.loop-range.range-index c.range-item.result c.loop-range-test.true c.range-item.is) room
-
-pub loop-range-preserved : goal.loop-range-preserved
-loop-range-preserved c =
-    leaves-next c.loop-range.invariant (strings (range_texts c.range-item.result.media)) _ _ _
-    (first_of c.ranges-range-items.result.now c.loop-range.range-index c.range-item.result c.loop-range-test.true c.range-item.is)
-    c.put_range-at.ensures
 
 pub returns : goal.returns
 returns c =

@@ -1,11 +1,8 @@
 -- String after string is written.
-use Rattle.std.proofs.Common.{ℕ, refl, ap, ◌∙◌, arith, length, length-append}
+use Rattle.std.proofs.Common.{refl, ap, ◌∙◌, arith}
 use Rattle.mime_c.proofs.Writing.{given_texts, leaves-first, leaves-room, leaves-fits, leaves-next, writes-all, given-first, given-next}
 use Rattle.mime_c.specs.Strings.{strings}
 use Rattle.mime_c.proofs.put_parts.Goals as goal
-
-pub put-end-requires : goal.put-end-requires
-put-end-requires c = omega (arith, c.requires, ap length c.essence_str.ensures, length-append {A = ℕ})
 
 pub loop-name-init : goal.loop-name-init
 loop-name-init c =

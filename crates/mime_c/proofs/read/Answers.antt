@@ -1,12 +1,8 @@
 -- An error is what it says.
 use Rattle.std.proofs.Common.{subst, rules}
 use Rattle.mime.specs.Faults.{Explains}
-use Rattle.mime_c.specs.Answers.{is_rejected, is_not_text}
+use Rattle.mime_c.specs.Answers.{is_rejected}
 use Rattle.mime_c.proofs.read.Goals as goal
-
-pub returns-in-Err-clause-fails : goal.returns-in-Err-clause-fails
-returns-in-Err-clause-fails c =
-    rw c.valid_up_to-pos.ensures (is_not_text _ c.in-Err.ensures.cases.0 c.in-Err.ensures.cases.1)
 
 pub returns-in-Err-from_str-clause-fails : goal.returns-in-Err-from_str-clause-fails
 returns-in-Err-from_str-clause-fails c =
