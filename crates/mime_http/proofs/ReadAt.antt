@@ -1,10 +1,10 @@
 -- Reading on from a position of a value: over a byte, a run, and quoted content; and where nothing goes on.
-use Rattle.mime_http.proofs.Common.{Bool, InvalidToken, IsClosedAt, IsContent, List, None, ParseError, Some, State, [], IsStringFault, IsToken, Parts, after_semicolon, and_from, and_parts, answer_at, answer_at_end, answer_from, ap, append-nil, append_assoc, ap₂, arith, awaits_after, awaits_after-append, before_semicolon, before_type, cases_lt, drop, drop-drop, drop_more, drop_of_length-le, drop_split, false, fault_at, flat_map-append, get_or-drop, if◌then◌else◌, in_name, in_ranges, in_string, in_subtype, in_type, in_value, is_quoted_byte, is_quoted_text_byte, is_space, is_token_byte, is_token_value, length, length-drop, length-take-le, nat_tests, list_all, list_all-append, list_all-wider, next, no_byte, not, prefix_len, option_map, prefix_len_stops, quoted_pair, refl, rejected, slice_index, slice_range, subst, suc, sym, take, take-add, text_byte, text_of_pair, text_of_pairs, text_of_parts, true, unwrap_or, with_parameter, ℕ, ⊎_elim, ◌++◌, ◌+◌, ◌-◌, ◌<◌, ◌∙◌, ◌∷◌, ◌≡◌, ◌≢◌, ◌≤◌}
+use Rattle.mime_http.proofs.Common.{Bool, InvalidToken, IsClosedAt, IsContent, List, None, ParseError, Some, State, [], IsStringFault, IsToken, Parts, after_semicolon, and_from, and_parts, answer_at, answer_at_end, answer_from, ap, append-nil, append_assoc, ap₂, arith, awaits_after, awaits_after-append, before_semicolon, cases_lt, drop, drop-drop, drop_more, drop_of_length-le, drop_split, false, fault_at, flat_map-append, get_or-drop, if◌then◌else◌, in_name, in_ranges, in_string, in_subtype, in_value, is_quoted_byte, is_quoted_text_byte, is_space, is_token_byte, is_token_value, length, length-drop, length-take-le, nat_tests, list_all, list_all-append, list_all-wider, next, no_byte, not, prefix_len, option_map, prefix_len_stops, quoted_pair, refl, rejected, slice_index, slice_range, subst, suc, sym, take, take-add, text_byte, text_of_pair, text_of_pairs, text_of_parts, true, unwrap_or, with_parameter, ℕ, ⊎_elim, ◌++◌, ◌+◌, ◌-◌, ◌<◌, ◌∙◌, ◌∷◌, ◌≡◌, ◌≢◌, ◌≤◌}
 use Rattle.std.proofs.lemmas.Bool.{not-true}
 use Rattle.mime.proofs.HandedOut.{content-awaits}
 use Rattle.mime_search.specs.Classes.{is_stop}
 use Rattle.mime_http.specs.declared.reader.TheConstants.{TOKEN_STOPS, TEXT_STOPS}
-use Rattle.mime_http.proofs.{ReadBack.content_more, Runs.EndsToken, Runs.KeepsSpace, Runs.content_ends, Runs.name_begins, Runs.no_way, Runs.on_content, Runs.on_subtype, Runs.on_value, Runs.one_byte, Runs.over_white, Runs.subtype_ends, Runs.type_begins, Runs.value_ends}
+use Rattle.mime_http.proofs.{ReadBack.content_more, Runs.EndsToken, Runs.KeepsSpace, Runs.content_ends, Runs.name_begins, Runs.no_way, Runs.on_content, Runs.on_subtype, Runs.on_value, Runs.one_byte, Runs.over_white, Runs.subtype_ends, Runs.value_ends}
 
 -- ---- a part of a value
 
@@ -239,14 +239,7 @@ no_token_value value from plain to run most within other = ⊎_elim
     ap (λ n. is_token_value (slice_range value n to)) here ∙ ap is_token_value (no_part value to)) (cases_lt from plain))
     (cases_lt plain to)
 
--- a type,
-pub over_type : (value : List ℕ) (from to : ℕ) → from < to → to ≤ length value → IsRun is_token_byte value from to
-    → answer_at value before_type from ≡ answer_at value (in_type (slice_range value from to)) to
-over_type value from to some within run =
-    over value from to before_type (in_type (slice_range value from to)) run.least within
-    (type_begins _ (token_part value from to some within run) from (drop to value))
-
--- a subtype,
+-- reading goes on over a subtype,
 pub over_subtype : (value top : List ℕ) (from to : ℕ) → from < to → to ≤ length value → IsRun is_token_byte value from to
     → answer_at value (in_subtype top []) from
     ≡ answer_at value (before_semicolon (record { top = top; sub = slice_range value from to; pairs = [] })) to
@@ -279,12 +272,6 @@ pub over_white_at : (state : State) → KeepsSpace state → (value : List ℕ) 
     → answer_at value state from ≡ answer_at value state to
 over_white_at state keeps value from to run within =
     over value from to state state run.least within (over_white state keeps _ run.all from (drop to value))
-
--- a semicolon after the parts so far
-pub over_semicolon : (parts : Parts) (value : List ℕ) (at : ℕ) → at < length value → slice_index value at ≡ 59
-    → answer_at value (before_semicolon parts) at ≡ answer_at value (after_semicolon parts) (at + 1)
-over_semicolon parts value at within is =
-    over_byte value at (before_semicolon parts) (after_semicolon parts) within (ap (next (before_semicolon parts)) is)
 
 -- where no parameter begins after a semicolon, reading goes on as before one
 pub nothing_between : (parts : Parts) (value : List ℕ) (at : ℕ) → (at < length value → is_space (slice_index value at) ≡ false)

@@ -72,12 +72,7 @@ over_white state keeps white all at bytes = goes_on is_space (λ done. state) (�
 
 -- ---- tokens
 
--- Token bytes go on the type,
-pub on_type : (run : List ℕ) → AreTokenBytes run → (top : List ℕ) (at : ℕ) (bytes : List ℕ)
-    → answer_from (in_type top) at (run ++ bytes) ≡ answer_from (in_type (top ++ run)) (at + length run) bytes
-on_type = goes_on is_token_byte in_type (λ done b is. rw is refl)
-
--- the subtype,
+-- Token bytes go on the subtype,
 pub on_subtype : (top run : List ℕ) → AreTokenBytes run → (sub : List ℕ) (at : ℕ) (bytes : List ℕ)
     → answer_from (in_subtype top sub) at (run ++ bytes) ≡ answer_from (in_subtype top (sub ++ run)) (at + length run) bytes
 on_subtype top = goes_on is_token_byte (in_subtype top) goes
@@ -86,12 +81,7 @@ on_subtype top = goes_on is_token_byte (in_subtype top) goes
     goes [] b is = rw is refl
     goes (s ∷ sub) b is = rw is refl
 
--- a parameter's name,
-pub on_name : (parts : Parts) (run : List ℕ) → AreTokenBytes run → (name : List ℕ) (at : ℕ) (bytes : List ℕ)
-    → answer_from (in_name parts name) at (run ++ bytes) ≡ answer_from (in_name parts (name ++ run)) (at + length run) bytes
-on_name parts = goes_on is_token_byte (in_name parts) (λ done b is. rw is refl)
-
--- and its value.
+-- and a parameter's value.
 pub on_value : (parts : Parts) (name run : List ℕ) → AreTokenBytes run → (value : List ℕ) (at : ℕ) (bytes : List ℕ)
     → answer_from (in_value parts name value) at (run ++ bytes) ≡ answer_from (in_value parts name (value ++ run)) (at + length run) bytes
 on_value parts name = goes_on is_token_byte (in_value parts name) goes
@@ -108,7 +98,7 @@ type_begins [] is at bytes = absurd is
 type_begins (b ∷ token) is at bytes =
     let parts = and_parts (is_token_byte b) _ is in
     one_byte before_type (in_type (b ∷ [])) at b (token ++ bytes) (rw parts.0 refl)
-    ∙ on_type token parts.1 (b ∷ []) (at + 1) bytes ∙ same_from bytes refl (omega arith)
+    ∙ goes_on is_token_byte in_type (λ done b is. rw is refl) token parts.1 (b ∷ []) (at + 1) bytes ∙ same_from bytes refl (omega arith)
 
 -- and a parameter's name.
 pub name_begins : (parts : Parts) (token : List ℕ) → IsToken token → (at : ℕ) (bytes : List ℕ)
@@ -117,7 +107,7 @@ name_begins parts [] is at bytes = absurd is
 name_begins parts (b ∷ token) is at bytes =
     let here = and_parts (is_token_byte b) _ is in
     one_byte (after_semicolon parts) (in_name parts (b ∷ [])) at b (token ++ bytes) (rw (token_is_no_space b here.0, here.0) refl)
-    ∙ on_name parts token here.1 (b ∷ []) (at + 1) bytes ∙ same_from bytes refl (omega arith)
+    ∙ goes_on is_token_byte (in_name parts) (λ done b is. rw is refl) token here.1 (b ∷ []) (at + 1) bytes ∙ same_from bytes refl (omega arith)
 
 -- ---- the end of a token
 

@@ -1,13 +1,15 @@
 -- White space, a token, a slash and another token are read one after the other.
-use Rattle.mime_http.proofs.Common.{List, MissingSlash, MissingSubtype, None, Some, answer_at, answer_of, ap, arith, before_type, if◌then◌else◌, in_subtype, in_type, is_space, is_token_byte, length, ne_eqb, next, refl, rejected, slice_index, slice_range, sym, [], ℕ, ◌+◌, ◌++◌, ◌<◌, ◌==◌, ◌∙◌, ◌∷◌, ◌≡◌, ◌≤◌}
-use Rattle.mime_http.proofs.{ReadAt.IsRun, ReadAt.neither, ReadAt.one_part, ReadAt.over_byte, ReadAt.over_subtype, ReadAt.over_type, ReadAt.over_white_at, ReadAt.parts_joined, ReadAt.run_is, ReadAt.stuck, Runs.keeps_before}
+use Rattle.mime_http.proofs.Common.{List, MissingSlash, MissingSubtype, None, Some, answer_at, answer_of, ap, arith, before_type, drop, if◌then◌else◌, in_subtype, in_type, is_space, is_token_byte, length, ne_eqb, next, refl, rejected, slice_index, slice_range, sym, [], ℕ, ◌+◌, ◌++◌, ◌<◌, ◌==◌, ◌∙◌, ◌∷◌, ◌≡◌, ◌≤◌}
+use Rattle.mime_http.proofs.{ReadAt.IsRun, ReadAt.neither, ReadAt.one_part, ReadAt.over, ReadAt.over_byte, ReadAt.over_subtype, ReadAt.over_white_at, ReadAt.parts_joined, ReadAt.run_is, ReadAt.stuck, ReadAt.token_part, Runs.keeps_before, Runs.type_begins}
 use Rattle.mime_http.proofs.reader.essence.Goals as goal
 
 -- up to the slash
 to_slash : (value : List ℕ) (top slash : ℕ) → IsRun is_space value 0 top → top < slash → slash ≤ length value
     → IsRun is_token_byte value top slash → answer_of value ≡ answer_at value (in_type (slice_range value top slash)) slash
 to_slash value top slash white some within run =
-    over_white_at before_type keeps_before value 0 top white (omega (arith, some, within)) ∙ over_type value top slash some within run
+    over_white_at before_type keeps_before value 0 top white (omega (arith, some, within))
+    ∙ over value top slash before_type (in_type (slice_range value top slash)) run.least within
+    (type_begins _ (token_part value top slash some within run) top (drop slash value))
 
 -- over it
 over_slash : (value top : List ℕ) (slash : ℕ) → slash < length value → slice_index value slash ≡ 47

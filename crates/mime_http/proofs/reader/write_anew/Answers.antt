@@ -1,15 +1,15 @@
 -- The essence is written, and then each parameter that is read, up to a fault or the end.
-use Rattle.mime_http.proofs.Common.{Holds, IsEssenceAt, List, Parts, after_semicolon, answer_at, answer_of, ap, ap₂, append_assoc, codes, append-nil, arith, before_semicolon, is_space, length, refl, slice_index, slice_range, subst, sym, text_of_parts, with_parameter, [], ℕ, ◌+◌, ◌++◌, ◌<◌, ◌∙◌, ◌∷◌, ◌≡◌, ◌≤◌}
-use Rattle.mime_http.proofs.{ReadAt.length-part, ReadAt.nothing_between, ReadAt.one_written, ReadAt.over_semicolon, ReadAt.over_white_at, ReadAt.run_end, ReadAt.run_is, Runs.keeps_after, Runs.keeps_inside}
+use Rattle.mime_http.proofs.Common.{Holds, IsEssenceAt, List, Parts, after_semicolon, answer_at, answer_of, ap, ap₂, append_assoc, codes, append-nil, arith, before_semicolon, is_space, length, next, refl, slice_index, slice_range, subst, sym, text_of_parts, with_parameter, [], ℕ, ◌+◌, ◌++◌, ◌<◌, ◌∙◌, ◌∷◌, ◌≡◌, ◌≤◌}
+use Rattle.mime_http.proofs.{ReadAt.length-part, ReadAt.nothing_between, ReadAt.one_written, ReadAt.over_byte, ReadAt.over_white_at, ReadAt.run_end, ReadAt.run_is, Runs.keeps_after, Runs.keeps_inside}
 use Rattle.mime_http.proofs.reader.write_anew.Goals as goal
 
 -- up to what follows the white space after a semicolon
-to_next : (parts : Parts) (value : List ℕ) (at next : ℕ) → answer_of value ≡ answer_at value (before_semicolon parts) at
-    → at < length value → slice_index value at ≡ 59 → next ≡ run_end is_space value (at + 1) → next ≤ length value
-    → answer_of value ≡ answer_at value (after_semicolon parts) next
-to_next parts value at next so_far within is end most =
-    so_far ∙ over_semicolon parts value at within is
-    ∙ over_white_at (after_semicolon parts) (keeps_inside parts) value (at + 1) next (run_is is_space value (at + 1) next end) most
+to_next : (parts : Parts) (value : List ℕ) (at to : ℕ) → answer_of value ≡ answer_at value (before_semicolon parts) at
+    → at < length value → slice_index value at ≡ 59 → to ≡ run_end is_space value (at + 1) → to ≤ length value
+    → answer_of value ≡ answer_at value (after_semicolon parts) to
+to_next parts value at to so_far within is end most =
+    so_far ∙ over_byte value at (before_semicolon parts) (after_semicolon parts) within (ap (next (before_semicolon parts)) is)
+    ∙ over_white_at (after_semicolon parts) (keeps_inside parts) value (at + 1) to (run_is is_space value (at + 1) to end) most
 
 pub loop-at-init : goal.loop-at-init
 loop-at-init c =
