@@ -27,8 +27,8 @@ macro_rules! sum {
     }};
 }
 
-/// Repeats an operation on each line of a string, or on its media type, with the line of the other string beside it, and
-/// returns the sum of its results. The operation is a position in the list of bench/driver.rs.
+/// Repeats an operation on each line of `texts`, or on its media type, and returns the sum of its results. Some operations
+/// also use the same line of `others`. The operation is a position in the list of bench/driver.rs.
 #[unsafe(no_mangle)]
 pub extern "C" fn mime_bench(
     alloc: Global,

@@ -68,7 +68,7 @@ fn status(rt: &impl Eprint, outcome: Result<Verdict, RunError>) -> ExitCode
     }
 }
 
-/// The exit status if the arguments can't be taken in, which is said on standard error.
+/// Returns the exit status if the arguments can't be read, and prints the reason on standard error.
 fn unread(rt: &impl Eprint, error: io::Error) -> ExitCode
     ensures { exit_status result ≡ 2 }
 {
@@ -79,7 +79,7 @@ fn unread(rt: &impl Eprint, error: io::Error) -> ExitCode
     status(rt, Err(RunError::NoMemory))
 }
 
-/// The exit status if the arguments aren't offers, which is said on standard error.
+/// Returns the exit status if the arguments aren't offers, and prints the reason on standard error.
 fn refused(rt: &impl Eprint, error: BadOffer) -> ExitCode
     ensures { exit_status result ≡ 2 }
 {

@@ -113,7 +113,7 @@ impl Rows {
         }
     }
 
-    /// Adds the rows of lines that would be headers without their white space.
+    /// Adds a row for each line with white space between the name `Content-Type` or `Accept` and its colon.
     fn push_spaced(&mut self, head: &[&[u8]]) -> Result<(), AllocError>
         ensures { OnOk result (vec_items self.new.text ≡ vec_items self.old.text ++ flat_map spaced_row (map (λ line. line.now) head.now)) }
     {
@@ -123,7 +123,7 @@ impl Rows {
         Ok(())
     }
 
-    /// Adds the row of a line that would be a header without its white space, if it is one.
+    /// Adds a row if a line has white space between the name `Content-Type` or `Accept` and its colon.
     fn push_if_spaced(&mut self, line: &[u8]) -> Result<(), AllocError>
         ensures { OnOk result (vec_items self.new.text ≡ vec_items self.old.text ++ spaced_row line.now) }
     {
@@ -145,8 +145,8 @@ impl Rows {
         }
     }
 
-    /// Adds the rows of the lines of `Accept` and of offers, if they are chosen here. Returns whether one was acceptable in the last
-    /// choice.
+    /// Adds the rows of the `Accept` lines and of the offers, if offers are chosen under this head. Returns whether the last choice, here
+    /// or before, found an acceptable offer.
     fn push_choice(
         &mut self,
         lines: &[Vec<u8>],
@@ -306,7 +306,7 @@ impl Rows {
         Ok(())
     }
 
-    /// Adds the rows of a line's entries, and takes its ranges.
+    /// Adds the rows of a line's entries, and pushes its ranges to `ranges`.
     fn push_line(&mut self, ranges: &mut Vec<Mime>, line: &[u8]) -> Result<(), AllocError>
         ensures { (lines : List (List ℕ)) (text : List ℕ) (all : List MediaType) → OnOk result
             (AddsLines lines (vec_items self.new.text) (map (λ range. range.media) (vec_items ranges.new)) text all
@@ -321,7 +321,7 @@ impl Rows {
         Ok(())
     }
 
-    /// Adds the rows of an entry, and takes it if it is a range.
+    /// Adds the rows of an entry, and pushes it to `ranges` if it is a range.
     fn push_entry(&mut self, ranges: &mut Vec<Mime>, entry: &[u8]) -> Result<(), AllocError>
         ensures { OnOk result (AddsEntry entry.now (vec_items self.old.text)
             (map (λ range. range.media) (vec_items ranges.old)) (vec_items self.new.text) (map (λ range. range.media) (vec_items ranges.new))) }

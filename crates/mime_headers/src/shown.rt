@@ -8,7 +8,7 @@ ghost use Rattle.mime_headers.specs.Shown.{control_len, without_controls};
 
 use std::alloc::{AllocError, Global};
 
-/// The number of bytes of the control character that bytes begin with, or 0.
+/// Returns the number of bytes of the control character at the start of these bytes, or 0 if there is none.
 fn control_len(bytes: &[u8]) -> usize
     ensures { result ≡ control_len bytes.now }
 {
@@ -21,7 +21,7 @@ fn control_len(bytes: &[u8]) -> usize
     }
 }
 
-/// Whether some bytes have one that a control character may begin with. Without an early exit, several are tested at a time.
+/// Returns `true` if some of these bytes may begin a control character. Without an early exit, several are tested at a time.
 fn may_have_controls(bytes: &[u8]) -> bool
     ensures { result ≡ list_any begins_control bytes.now }
 {

@@ -23,7 +23,7 @@
 //!     }
 //! }
 //!
-//! /// Returns the offer to send, given the lines of `Accept`, or the status if none is acceptable.
+//! /// Returns the offer to send, given the lines of `Accept`, or 406 if none is acceptable, or 503 if memory runs out.
 //! pub fn chosen<'o>(alloc: Global, lines: &[&[u8]], offers: &'o [Mime]) -> Result<&'o Mime, u16> {
 //!     let accept = Accept::from_lines(alloc, lines).map_err(|_| 503_u16)?;
 //!     let best = accept.best(offers).ok_or(406_u16)?;

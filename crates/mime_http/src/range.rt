@@ -81,8 +81,8 @@ fn is_same(range: &Mime, essence: &str) -> bool
     range.essence_str() == essence
 }
 
-/// Returns how many parts of an offer's essence a range names: 0 for `*/*`, 1 for `text/*`, and 2 for `text/html`; `None` if it doesn't
-/// cover it. `type_` is the offer's type.
+/// Returns how many parts of an offer's essence a range names: 0 for `*/*`, 1 for `text/*`, and 2 for `text/html`. Returns `None` if the
+/// range is for other essences. `type_` is the offer's type.
 #[inline(always)]
 pub(crate) fn named_parts(range: &Mime, essence: &str, type_: &str) -> Option<u8>
     ensures { result ≡ (if bytes_eq range.now.media.essence (codes "*/*") then Some 0 else

@@ -147,8 +147,8 @@ fn same_fault(value: &[u8], fault: ParseError) -> Option<ParseError>
     }
 }
 
-/// Reads a value that `mime` rejects for this fault without the white space around it, or for which memory ran out. The result is taken
-/// apart, so that reading a value that `mime` accepts makes no room for it.
+/// Reads a value, given the fault or `NoMemory` that `mime` returns for it without the white space around it. The result is matched and
+/// made anew, so that the caller reserves no stack for it if `mime` accepts the value.
 #[inline(always)]
 pub(crate) fn read_rejected(
     alloc: Global,

@@ -46,7 +46,7 @@ fn count_up(letters: &mut [u8]) {
 }
 
 impl Text {
-    /// Returns a pattern with a mark in place of `#`, and digits in place of each `@`.
+    /// Returns a pattern with a mark in place of `#`, and a random digit in place of each `@`.
     pub(crate) fn of(
         alloc: Global,
         pattern: &str,

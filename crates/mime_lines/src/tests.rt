@@ -48,8 +48,9 @@ const PLAIN: Scenario = Scenario {
     cases: CASES,
 };
 
-/// A reader of a byte `repeats` times, and then of bytes, at most `most` a read. After `reads` reads it is interrupted,
-/// once or for ever, which is a failure like any other. A read after its end returns more, as one from a terminal may.
+/// A reader that returns `byte` `repeats` times, and then the bytes `left`, at most `most` in a read. After `reads` reads
+/// it fails, once or always, with `Interrupted`, which is a failure like any other. After its end, another read returns
+/// `after_end`, as a read from a terminal may return more.
 #[derive(Drop)]
 struct Reader<'a> {
     byte: u8,
@@ -363,7 +364,8 @@ fn run_into(
     answer
 }
 
-/// Returns `true` if a run into a slice of bytes writes all of its report, or nothing if memory runs out. It prints which.
+/// Returns `true` if a run into a slice of bytes succeeds and writes all of its report, or runs out of memory and writes
+/// nothing. It prints what the run returned.
 fn fills_slice(rt: &HostRuntime, case: &Case<'_>) -> bool {
     let mut room = [0u8; 256];
     let mut sink = Device {

@@ -98,7 +98,8 @@ impl<'a> Model for ByteReader<'a> {
 
 impl<'a> ByteReader<'a> {
     /// Returns a reader of all bytes of `text`, whose count begins at `count`. It looks only at bytes that it has counted, and at the
-    /// next one, so that its count is the number of steps of a `MimeIter`. `near` is how many bytes of a run its caller's loop reads.
+    /// next one, so that its count is the number of steps of a `MimeIter`. The loop of its caller reads at most `near` bytes of a run;
+    /// a call reads the others.
     #[inline(always)]
     pub(crate) fn new(text: &'a str, count: u128, near: usize) -> ByteReader<'a>
         requires { count + length text.now < 2 ^ 128 }

@@ -15,7 +15,7 @@ use std::marker::Model;
 /// The most bytes that a short text has.
 pub(crate) const SHORT: usize = 40;
 
-/// The number of bytes in which a short text is made: a multiple of 16, so that whole vectors are lowercased.
+/// The size of the buffer in which a short text is lowercased: a multiple of 16, so that whole vectors are lowercased.
 const PADDED: usize = 48;
 
 /// A text of at most `SHORT` bytes. Zeros follow it.
