@@ -1,7 +1,7 @@
 -- What HTTP writes is read, byte by byte, as the media type that it is; what is read is safe in a header, and in UTF-8.
 use Rattle.mime_http.proofs.Common.{AllByRecursion, AreHttpParameters, AreSpaces, AreTokenBytes-from_token, HttpReads, IsHttpParameter, IsSafePair, IsToken, IsUtf8, IsUtf8-nil, List, MediaType, Parts, Some, State, [], after_semicolon, and_parts, answer_at_end, answer_from, answer_of, ap, append-nil, append_assoc, arith, before_semicolon, content-from_token, in_name, in_string, in_subtype, in_type, in_value, is_quoted_byte, is_space, is_token_byte, length, map, media_of, next, no_more, read, refl, semicolon, semicolon_and, subst, sym, with_pairs, with_parameter, with_string, with_token, ℕ, ◌++◌, ◌+◌, ◌∙◌, ◌∷◌, ◌≡◌, before_type}
-use Rattle.mime.proofs.HandedOut.{lowered_pair}
-use Rattle.mime_http.proofs.{Around.around, Around.past_ascii, Around.put_ascii, Around.spaces_ascii, Around.token_bytes_ascii, Runs.EndsToken, Runs.content_ends, Runs.name_begins, Runs.on_content, Runs.on_subtype, Runs.on_value, Runs.one_byte, Runs.regrouping, Runs.space_is_no_token, Runs.subtype_ends, Runs.type_begins, Runs.value_ends, Runs.keeps_after, Runs.keeps_before, Runs.keeps_inside, Runs.over_white}
+use Rattle.mime.proofs.HandedOut.{lowered_pair, regroup}
+use Rattle.mime_http.proofs.{Around.around, Around.past_ascii, Around.put_ascii, Around.spaces_ascii, Around.token_bytes_ascii, Runs.EndsToken, Runs.content_ends, Runs.name_begins, Runs.on_content, Runs.on_subtype, Runs.on_value, Runs.one_byte, Runs.space_is_no_token, Runs.subtype_ends, Runs.type_begins, Runs.value_ends, Runs.keeps_after, Runs.keeps_before, Runs.keeps_inside, Runs.over_white}
 
 -- ---- a parameter
 
@@ -29,7 +29,7 @@ reads_one : {text : List ℕ} {pair : List ℕ × List ℕ} → IsHttpParameter 
     → ReadsOne text bytes pair
 unfolding is_token_byte is_quoted_byte
 reads_one (with_token name value named valued) bytes ends =
-    let grouped : (name ++ (61 ∷ value)) ++ bytes ≡ name ++ (61 ∷ (value ++ bytes)) = simp regrouping in record {
+    let grouped : (name ++ (61 ∷ value)) ++ bytes ≡ name ++ (61 ∷ (value ++ bytes)) = simp regroup in record {
       found = (name, value);
       same = refl;
       safe = (named, content-from_token value valued);
@@ -45,7 +45,7 @@ reads_one (with_token name value named valued) bytes ends =
     }
 reads_one (with_string name content named is) bytes ends =
     let grouped : (name ++ (61 ∷ 34 ∷ (content ++ (34 ∷ [])))) ++ bytes ≡ name ++ (61 ∷ 34 ∷ (content ++ (34 ∷ bytes))) =
-    simp regrouping in record {
+    simp regroup in record {
       found = (name, content);
       same = refl;
       safe = (named, is);
@@ -135,7 +135,7 @@ reads_on no_more after white = record {
 }
 reads_on (semicolon b a rest pairs first second is) after white =
     let from = reads_on is after white in
-    subst (λ bytes. ReadsOn bytes pairs) (simp regrouping) (record {
+    subst (λ bytes. ReadsOn bytes pairs) (simp regroup) (record {
       ends = white_ends b (59 ∷ (a ++ (rest ++ after))) first refl;
       found = from.found;
       same = from.same;
@@ -148,7 +148,7 @@ reads_on (semicolon b a rest pairs first second is) after white =
 reads_on (semicolon_and b a parameter rest pair pairs first second is_one is) after white =
     let from = reads_on is after white in
     let one = reads_one is_one (rest ++ after) from.ends in
-    subst (λ bytes. ReadsOn bytes (pair ∷ pairs)) (simp regrouping) (record {
+    subst (λ bytes. ReadsOn bytes (pair ∷ pairs)) (simp regroup) (record {
       ends = white_ends b (59 ∷ (a ++ (parameter ++ (rest ++ after)))) first refl;
       found = one.found ∷ from.found;
       same = λ i. one.same i ∷ from.same i;

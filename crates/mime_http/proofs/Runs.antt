@@ -2,12 +2,6 @@
 use Rattle.mime_http.proofs.Common.{AreSpaces, AreTokenBytes, Bool, InvalidToken, IsContent, IsToken, List, None, Parts, Some, State, [], after_semicolon, and_from, and_parts, ap, append-nil, awaits_after, awaits_after-append, continues, takes_all, append_assoc, ap₂, answer_from, arith, before_semicolon, before_type, in_name, in_string, in_subtype, in_type, in_value, is_quoted_byte, is_space, is_token_byte, length, list_all, list_all-append, nat_tests, next, no_byte, quoted_pair, refl, rejected, subst, sym, text_byte, true, false, with_parameter, ℕ, ⊤, ◌++◌, ◌+◌, ◌∙◌, ◌∷◌, ◌≡◌}
 use Rattle.mime.proofs.HandedOut.{content-closed, content-taken}
 
--- how joined lists are grouped, for `simp`, which doesn't compute a list with a first byte
-pub regrouping-cons : (b : ℕ) (xs ys : List ℕ) → (b ∷ xs) ++ ys ≡ b ∷ (xs ++ ys)
-regrouping-cons b xs ys = refl
-
-pub ruleset regrouping = (append_assoc, append-nil, regrouping-cons)
-
 -- white space after white space is white space
 pub spaces-append : (n m : List ℕ) → AreSpaces n → AreSpaces m → AreSpaces (n ++ m)
 spaces-append n m first second = list_all-append is_space n m ∙ and_from _ _ first second

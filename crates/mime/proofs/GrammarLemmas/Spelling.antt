@@ -80,11 +80,11 @@ IsToken-push [] b token passes = absurd token
 IsToken-push (c ∷ name) b token passes = list_all-push is_token_byte (c ∷ name) b token passes
 
 -- how a list with a first byte is joined, for `simp`, which doesn't compute it
-cons-append : (b : ℕ) (xs ys : List ℕ) → (b ∷ xs) ++ ys ≡ b ∷ (xs ++ ys)
+pub cons-append : (b : ℕ) (xs ys : List ℕ) → (b ∷ xs) ++ ys ≡ b ∷ (xs ++ ys)
 cons-append b xs ys = refl
 
 -- to group joined lists anew
-ruleset regroup = (append_assoc, append-nil, cons-append)
+pub ruleset regroup = (append_assoc, append-nil, cons-append)
 
 -- a byte of a class leads on one way, a delimiter another
 pub by_class : {X : Type 0} (P : ℕ → X → Type 0) (class : ℕ → Bool) (other b : ℕ) (x y : X)
