@@ -1,7 +1,6 @@
 -- Heads, rows and verdicts for which each definition is true, and others for which it is false, so that a page that says less or more
 -- doesn't check.
-use Rattle.std.proofs.Common.{◌≡◌, ℕ, true, false, List, [], ◌∷◌, ◌++◌, length, map, refl, codes}
-use Rattle.std.specs.Prelude.{◌≢◌, Some, None, String, string_bytes}
+use Rattle.std.proofs.Common.{◌≡◌, ℕ, true, false, List, [], ◌∷◌, ◌++◌, length, map, refl, codes, ◌≢◌, Ok, Err, Some, None, String, string_bytes}
 use Rattle.std.specs.Fmt.{decimal}
 use Rattle.std.specs.Global.{Global}
 use Rattle.mime.specs.Values.{MediaType}
@@ -12,12 +11,10 @@ use Rattle.mime_http.specs.declared.value.FieldError.{FieldError}
 use Rattle.mime_http.specs.declared.value.FieldError.TheVariants.{NotUtf8, Invalid}
 use Rattle.mime_http.specs.HttpList.{trimmed}
 use Rattle.mime_headers.specs.Head.{without_mark, bare_lines, head_of, next_head, is_counted, goes_on, continued, begins, values_of}
-use Rattle.mime_headers.specs.Program.{AreOffers, AreRefused}
-use Rattle.mime_headers.specs.Program.AreRefused.{at_word, no_memory, after_word}
 use Rattle.mime_headers.specs.declared.offers.BadOffer.{BadOffer}
 use Rattle.mime_headers.specs.declared.offers.BadOffer.TheVariants.{Fault}
-use Rattle.mime_headers.specs.Program.AreOffers.{no_word, a_word}
-use Rattle.mime_headers.specs.Report.{ReadsAs, shown, media_rows, fault_at, fault_remark, fault_rows, none_row, count_row, spaced_row, weight_text, range_row, place_text, by_text, lacking_remark, offer_rows, best_of, best_rows, is_acceptable, verdict_of, chooses, title_row, cut_row, is_cut}
+use Rattle.mime_headers.specs.Program.{AreOffers, a_word, bad_word, no_memory, no_word}
+use Rattle.mime_headers.specs.Report.{ReadsAs, shown, media_rows, fault_place, fault_rows, none_row, count_row, spaced_row, weight_text, range_row, place_text, by_text, lacking_remark, offer_rows, best_of, best_rows, is_acceptable, verdict_of, chooses, title_row, cut_row, is_cut}
 use Rattle.mime_headers.specs.Shown.{control_len, without_controls}
 use Rattle.mime_headers.specs.declared.verdict.Verdict.{Verdict}
 
@@ -89,8 +86,8 @@ rows_of_media = refl
 
 -- a fault at a byte, and one at the end
 places :
-    (fault_at (codes "a b") (Invalid (InvalidToken 2 98)) ≡ 2) × (fault_at (codes "a/") (Invalid MissingSubtype) ≡ 2)
-    × (fault_at (codes "a/b") (NotUtf8 1) ≡ 1)
+    (fault_place (codes "a b") (Invalid (InvalidToken 2 98)) ≡ (2, [])) × (fault_place (codes "a/") (Invalid MissingSubtype) ≡ (2, []))
+    × (fault_place (codes "a/b") (NotUtf8 1) ≡ (1, []))
 places = (refl, refl, refl)
 
 rows_of_fault :
@@ -113,7 +110,7 @@ spaced = (refl, refl, refl, refl, refl, refl)
 
 -- a comment, as mails have it
 comments :
-    (fault_remark (Invalid (InvalidToken 1 40)) ≡ codes " (HTTP has no comments)") × (fault_remark (Invalid (InvalidToken 1 41)) ≡ [])
+    (fault_place [] (Invalid (InvalidToken 1 40)) ≡ (1, codes " (HTTP has no comments)")) × (fault_place [] (Invalid (InvalidToken 1 41)) ≡ (1, []))
 comments = (refl, refl)
 
 -- weights of three decimals
@@ -205,21 +202,21 @@ cut_inputs bytes = (λ len. rw len refl, λ len. rw len refl)
 
 -- each word that is a media type names an offer, in its order
 offers_of_words : (word other : List ℕ) (offer second : MediaType) → ReadsAs word offer → ReadsAs other second
-    → AreOffers (word ∷ other ∷ []) (offer ∷ second ∷ [])
+    → AreOffers (word ∷ other ∷ []) [] (Ok (offer ∷ second ∷ []))
 offers_of_words word other offer second reads also = a_word reads (a_word also no_word)
 
 -- a word that isn't one has none
-no_offer_of_a_fault : (word : List ℕ) (words : List (List ℕ)) (offers : List MediaType) → ¬ (IsHttpMediaType word)
-    → ¬ (AreOffers (word ∷ words) offers)
-no_offer_of_a_fault word words offers isnt (a_word reads others) = isnt (_, reads.0)
+no_offer_of_a_fault : (word : List ℕ) (words : List (List ℕ)) (offers all : List MediaType) → ¬ (IsHttpMediaType word)
+    → ¬ (AreOffers (word ∷ words) offers (Ok all))
+no_offer_of_a_fault word words offers all isnt (a_word reads others) = isnt (_, reads.0)
 
 -- but is refused by its fault, after one that is
 refused_words : (word : List ℕ) (offer : MediaType) (other : String Global) (error : FieldError) → ReadsAs word offer
-    → error ≢ FieldError.NoMemory → HttpExplains (string_bytes other) error → AreRefused (word ∷ string_bytes other ∷ []) (Fault other error)
-refused_words word offer other error reads some explains = after_word reads (at_word other error some explains)
+    → error ≢ FieldError.NoMemory → HttpExplains (string_bytes other) error → AreOffers (word ∷ string_bytes other ∷ []) [] (Err (Fault other error))
+refused_words word offer other error reads some explains = a_word reads (bad_word other error some explains)
 
 -- no words aren't refused, for want of memory neither
-some_refused : (words : List (List ℕ)) (error : BadOffer) → AreRefused words error → words ≢ []
-some_refused words error (at_word word fault some explains) none = absurd (cc)
-some_refused words error no_memory none = absurd (cc)
-some_refused words error (after_word reads rest) none = absurd (cc)
+some_refused : (words : List (List ℕ)) (offers : List MediaType) (error : BadOffer) → AreOffers words offers (Err error) → words ≢ []
+some_refused words offers error (a_word reads rest) none = absurd (cc)
+some_refused words offers error (bad_word word fault some explains) none = absurd (cc)
+some_refused words offers error no_memory none = absurd (cc)

@@ -33,35 +33,24 @@ shown_byte b = if b == 32 || is_ascii_graphic b then b else 46
 abbrev pub shown : List ℕ → List ℕ
 shown bytes = map shown_byte bytes
 
--- the position of the byte at fault, or the value's end if something is missing there
-abbrev pub invalid_at : List ℕ → ParseError → ℕ
-invalid_at value (InvalidToken pos byte) = pos
-invalid_at value fault = length value
+-- the position of the byte at fault, or the value's end if something is missing there; and a word on a comment, which mails have, and HTTP
+-- doesn't
+abbrev pub invalid_place : List ℕ → ParseError → ℕ × List ℕ
+invalid_place value (InvalidToken pos byte) = (pos, if byte == 40 then codes " (HTTP has no comments)" else [])
+invalid_place value fault = (length value, [])
 
-abbrev pub fault_at : List ℕ → FieldError → ℕ
-fault_at value (NotUtf8 pos) = pos
-fault_at value (Invalid fault) = invalid_at value fault
-fault_at value NoMemory = length value
-
--- a word on a comment, which mails have, and HTTP doesn't
-abbrev pub invalid_remark : ParseError → List ℕ
-invalid_remark (InvalidToken pos byte) = if byte == 40 then codes " (HTTP has no comments)" else []
-invalid_remark fault = []
-
-abbrev pub fault_remark : FieldError → List ℕ
-fault_remark (NotUtf8 pos) = []
-fault_remark (Invalid fault) = invalid_remark fault
-fault_remark NoMemory = []
+abbrev pub fault_place : List ℕ → FieldError → ℕ × List ℕ
+fault_place value (NotUtf8 pos) = (pos, [])
+fault_place value (Invalid fault) = invalid_place value fault
+fault_place value NoMemory = (length value, [])
 
 -- the rows of a rejected value of a field: its fault, and the value over a caret at the byte at fault
-abbrev pub caret_row : ℕ → List ℕ → List ℕ
-caret_row at remark = codes "    " ++ (replicate at 32 ++ (codes "^" ++ (remark ++ codes "\n")))
+abbrev pub caret_row : ℕ × List ℕ → List ℕ
+caret_row (at, remark) = codes "    " ++ (replicate at 32 ++ (codes "^" ++ (remark ++ codes "\n")))
 
 abbrev pub fault_rows : List ℕ → List ℕ → FieldError → List ℕ
 fault_rows label value error =
-    row label (field_error_text error)
-    ++ (row (codes "    ") (shown value)
-    ++ caret_row (fault_at value error) (fault_remark error))
+    row label (field_error_text error) ++ (row (codes "    ") (shown value) ++ caret_row (fault_place value error))
 
 -- what is read of a value, with the kept text that is printed of it
 abbrev pub ReadsAs : List ℕ → MediaType → Type 0

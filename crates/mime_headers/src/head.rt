@@ -5,12 +5,12 @@ ghost use Rattle.std.specs.Str.Lines.{strip_carriage_return};
 ghost use Rattle.std.specs.Vec.{vec_items};
 ghost use Rattle.mime.specs.Grammar.{is_space};
 ghost use Rattle.mime_http.specs.HttpList.{trim_start, trim_end, trimmed};
-ghost use Rattle.mime_headers.specs.Head.{without_space, without_mark, bare_lines, is_indented, without_indent, until_end, after_end, head_of, after_head, from_status, is_counted, next_head, title_of, is_colon_first, is_spaced, goes_on, continued, begins, values_of};
+ghost use Rattle.mime_headers.specs.Head.{without_mark, bare_lines, is_indented, without_indent, until_end, after_end, head_of, after_head, from_status, is_counted, next_head, title_of, is_colon_first, is_spaced, goes_on, continued, begins, values_of};
 
 use mime_io::first_line;
 use std::alloc::{AllocError, Global};
 
-/// A line without the carriage return of its end.
+/// Returns a line without the carriage return of its end.
 fn unreturned(line: &[u8]) -> &[u8]
     ensures { result.now ≡ strip_carriage_return line.now }
 {
@@ -20,27 +20,18 @@ fn unreturned(line: &[u8]) -> &[u8]
     }
 }
 
-/// A line without one space before it.
-fn unspaced(line: &[u8]) -> &[u8]
-    ensures { result.now ≡ without_space line.now }
-{
-    match line.split_first() {
-        Some((b' ', rest)) => rest,
-        _ => line,
-    }
-}
-
-/// A line without the mark that `curl -v` writes before it.
+/// Returns a line without the mark that `curl -v` writes before it.
 fn unmarked(line: &[u8]) -> &[u8]
     ensures { result.now ≡ without_mark line.now }
 {
-    match line.split_first() {
-        Some((b'<' | b'>', rest)) => unspaced(rest),
+    match line {
+        [b'<' | b'>', b' ', rest @ ..] => rest,
+        [b'<' | b'>', rest @ ..] => rest,
         _ => line,
     }
 }
 
-/// The first line of an input, without its end and its mark, and the rest.
+/// Returns the first line of an input, without its end and its mark, and the rest.
 fn bare_line(input: &[u8]) -> Option<(&[u8], &[u8])>
     ensures lines { MatchOption result (bare_lines input.now ≡ []) (λ cut. bare_lines input.now ≡ cut.0.now ∷ bare_lines cut.1.now) }
     ensures shorter { IfSome result (λ cut. length cut.1.now < length input.now) }
@@ -49,14 +40,14 @@ fn bare_line(input: &[u8]) -> Option<(&[u8], &[u8])>
     Some((unmarked(unreturned(line)), rest))
 }
 
-/// Whether a byte is white space.
+/// Returns whether a byte is white space.
 fn is_space(byte: u8) -> bool
     ensures { result ≡ is_space byte }
 {
     byte == b' ' || byte == b'\t'
 }
 
-/// Bytes without the white space before them.
+/// Returns bytes without the white space before them.
 fn trim_start(bytes: &[u8]) -> &[u8]
     ensures { result.now ≡ trim_start bytes.now }
 {
@@ -70,7 +61,7 @@ fn trim_start(bytes: &[u8]) -> &[u8]
     text
 }
 
-/// Bytes without the white space after them.
+/// Returns bytes without the white space after them.
 fn trim_end(bytes: &[u8]) -> &[u8]
     ensures { result.now ≡ trim_end bytes.now }
 {
@@ -84,31 +75,28 @@ fn trim_end(bytes: &[u8]) -> &[u8]
     text
 }
 
-/// Bytes without the white space around them.
+/// Returns bytes without the white space around them.
 pub(crate) fn trimmed(bytes: &[u8]) -> &[u8]
     ensures { result.now ≡ trimmed bytes.now }
 {
     trim_end(trim_start(bytes))
 }
 
-/// Whether a line goes on with the field before it.
+/// Returns whether a line goes on with the field before it.
 fn goes_on(line: &[u8]) -> bool
     ensures { result ≡ goes_on line.now }
 {
-    match line.first() {
-        Some(&first) => is_space(first),
-        None => false,
-    }
+    matches!(line, [b' ' | b'\t', ..])
 }
 
-/// Whether a line begins with a label, in any case.
+/// Returns whether a line begins with a label, in any case.
 fn begins(label: &[u8], line: &[u8]) -> bool
     ensures { result ≡ begins label.now line.now }
 {
     line.len() >= label.len() && line[..label.len()].eq_ignore_ascii_case(label)
 }
 
-/// What the lines after a field's add to its value, after what it has.
+/// Adds to a field's value what the lines after it add.
 fn push_continued(value: &mut Vec<u8>, lines: &[&[u8]]) -> Result<(), AllocError>
     ensures { OnOk result (vec_items value.new ≡ vec_items value.old ++ continued (map (λ line. line.now) lines.now)) }
 {
@@ -122,7 +110,7 @@ fn push_continued(value: &mut Vec<u8>, lines: &[&[u8]]) -> Result<(), AllocError
     Ok(())
 }
 
-/// A field's value, which begins in its line and goes on in those after it.
+/// Returns a field's value, which begins in its line and goes on in those after it.
 fn whole_value(alloc: Global, begin: &[u8], after: &[&[u8]]) -> Result<Vec<u8>, AllocError>
     ensures { IfOk result (λ value. vec_items value ≡ trimmed begin.now ++ continued (map (λ line. line.now) after.now)) }
 {
@@ -131,7 +119,7 @@ fn whole_value(alloc: Global, begin: &[u8], after: &[&[u8]]) -> Result<Vec<u8>, 
     Ok(value)
 }
 
-/// The values of a field in a head, in their order. A label is a field's name and a colon.
+/// Returns the values of a field in a head, in their order. A label is a field's name and a colon.
 pub(crate) fn values_of(
     alloc: Global,
     label: &[u8],
@@ -148,14 +136,14 @@ pub(crate) fn values_of(
     Ok(values)
 }
 
-/// Whether a line begins a head that is indented, as `wget -S` prints it.
+/// Returns whether a line begins a head that is indented, as `wget -S` prints it.
 fn is_indented(line: &[u8]) -> bool
     ensures { result ≡ is_indented line.now }
 {
     begins(b"  http/", line)
 }
 
-/// A line of a head without the spaces by which the head is indented, if it is.
+/// Returns a line of a head without the spaces by which the head is indented, if it is.
 fn unindented(indented: bool, line: &[u8]) -> &[u8]
     ensures { result.now ≡ without_indent indented line.now }
 {
@@ -271,7 +259,7 @@ pub(crate) fn next_head<'a>(
     }
 }
 
-/// An input from its first line on that begins a head, if there is one.
+/// Returns an input from its first line on that begins a head, if there is one.
 fn from_status(input: &[u8]) -> Option<&[u8]>
     ensures lines { MatchOption result (from_status (bare_lines input.now) ≡ [])
         (λ next. (from_status (bare_lines input.now) ≡ bare_lines next.now) × (bare_lines next.now ≢ [])) }
@@ -287,7 +275,7 @@ fn from_status(input: &[u8]) -> Option<&[u8]>
     None
 }
 
-/// What a head is called.
+/// Returns what a head is called.
 pub(crate) fn title_of<'a>(head: &[&'a [u8]]) -> &'a [u8]
     ensures { result.now ≡ title_of (map (λ line. line.now) head.now) }
 {
@@ -299,17 +287,14 @@ pub(crate) fn title_of<'a>(head: &[&'a [u8]]) -> &'a [u8]
     &[]
 }
 
-/// Whether bytes begin with a colon.
+/// Returns whether bytes begin with a colon.
 fn is_colon_first(bytes: &[u8]) -> bool
     ensures { result ≡ is_colon_first bytes.now }
 {
-    match bytes.first() {
-        Some(&first) => first == b':',
-        None => false,
-    }
+    matches!(bytes, [b':', ..])
 }
 
-/// Whether a line has a field's name and then white space before a colon.
+/// Returns whether a line has a field's name and then white space before a colon.
 pub(crate) fn is_spaced(name: &[u8], line: &[u8]) -> bool
     ensures { result ≡ is_spaced name.now line.now }
 {

@@ -1,9 +1,10 @@
 //! The offers that the arguments name.
 
-ghost use Rattle.std.specs.Prelude.{◌∷◌, ℕ, List, drop, take, map, string_bytes, IfOk, IfErr, MatchResult};
+ghost use Rattle.std.specs.Prelude.{[], ◌∷◌, ℕ, List, Ok, Err, drop, take, map, string_bytes, IfOk, IfErr, MatchResult};
 ghost use Rattle.std.specs.Vec.{vec_items};
 ghost use Rattle.std.specs.Vec.Iter.{into_iter_items, into_iter_len};
-ghost use Rattle.mime_headers.specs.Program.{AreOffers, AreRefused};
+ghost use Rattle.mime.specs.Values.{MediaType};
+ghost use Rattle.mime_headers.specs.Program.{AreOffers};
 ghost use Rattle.mime_headers.specs.Report.{ReadsAs};
 
 use mime::Mime;
@@ -20,21 +21,22 @@ pub(crate) enum BadOffer {
     Fault(String, FieldError),
 }
 
-/// The offers that the arguments name, each a media type as a header has it. The first argument is the program's name.
+/// Returns the offers that the arguments name, each a media type as a header has it. The first argument is the program's name.
 pub(crate) fn read_offers(alloc: Global, mut arguments: Args) -> Result<Vec<Mime>, BadOffer>
     ensures { MatchResult result
-        (λ offers. AreOffers (map string_bytes (drop 1 (take (into_iter_len arguments) (into_iter_items arguments)))) (map (λ offer. offer.media) (vec_items offers)))
-        (λ error. AreRefused (map string_bytes (drop 1 (take (into_iter_len arguments) (into_iter_items arguments)))) error) }
+        (λ offers. AreOffers (map string_bytes (drop 1 (take (into_iter_len arguments) (into_iter_items arguments)))) []
+            (Ok (map (λ offer. offer.media) (vec_items offers))))
+        (λ error. AreOffers (map string_bytes (drop 1 (take (into_iter_len arguments) (into_iter_items arguments)))) [] (Err error)) }
 {
     let _program = arguments.next();
     offers_of(alloc, arguments)
 }
 
-/// The offers that words name.
+/// Returns the offers that words name.
 fn offers_of(alloc: Global, mut words: Args) -> Result<Vec<Mime>, BadOffer>
     ensures { MatchResult result
-        (λ offers. AreOffers (map string_bytes (take (into_iter_len words) (into_iter_items words))) (map (λ offer. offer.media) (vec_items offers)))
-        (λ error. AreRefused (map string_bytes (take (into_iter_len words) (into_iter_items words))) error) }
+        (λ offers. AreOffers (map string_bytes (take (into_iter_len words) (into_iter_items words))) [] (Ok (map (λ offer. offer.media) (vec_items offers))))
+        (λ error. AreOffers (map string_bytes (take (into_iter_len words) (into_iter_items words))) [] (Err error)) }
 {
     let mut offers = Vec::new(alloc);
     while let Some(word) = words.next() {
@@ -49,10 +51,10 @@ fn offers_of(alloc: Global, mut words: Args) -> Result<Vec<Mime>, BadOffer>
     Ok(offers)
 }
 
-/// The offer that a word names.
+/// Returns the offer that a word names.
 fn offer_of(alloc: Global, word: String) -> Result<Mime, BadOffer>
     ensures read { IfOk result (λ offer. ReadsAs (string_bytes word) offer.media) }
-    ensures refused { (others : List (List ℕ)) → IfErr result (λ error. AreRefused (string_bytes word ∷ others) error) }
+    ensures refused { (words : List (List ℕ)) (offers : List MediaType) → IfErr result (λ error. AreOffers (string_bytes word ∷ words) offers (Err error)) }
 {
     match content_type(alloc, word.as_bytes()) {
         Ok(offer) => Ok(offer),

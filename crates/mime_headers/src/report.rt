@@ -7,7 +7,7 @@ ghost use Rattle.mime_http.specs.HttpList.{lines_or_any};
 ghost use Rattle.mime_io.specs.Inner.{Adds};
 ghost use Rattle.mime_io.specs.Lines.{row, suffix_row};
 ghost use Rattle.mime_headers.specs.Head.{bare_lines, head_of, is_counted};
-ghost use Rattle.mime_headers.specs.Report.{shown_byte, shown, param_row, media_rows, ReportsBoundary, fault_at, fault_remark, caret_row, fault_rows, AddsType, AddsTypes, none_row, count_row, spaced_row, digit, weight_text};
+ghost use Rattle.mime_headers.specs.Report.{shown_byte, shown, param_row, media_rows, ReportsBoundary, fault_place, caret_row, fault_rows, AddsType, AddsTypes, none_row, count_row, spaced_row, digit, weight_text};
 ghost use Rattle.mime_headers.specs.Report.{weighed_text, weight_remark, range_row, AddsEntry, AddsLines, place_text, by_text, lacking_remark, offer_row, offer_rows, best_of, best_rows, is_acceptable, verdict_of, chooses, title_row, AddsChoice, AddsHead, cut_row, IsReport};
 
 use crate::head::{Head, is_spaced, next_head, read_head, title_of, trimmed, values_of};
@@ -256,12 +256,13 @@ impl Rows {
         let text = format!(in self.alloc; "{error}")?;
         self.push_row(label, text.as_bytes())?;
         self.push_shown("    ", value)?;
-        self.push_caret(fault_at(value, error), fault_remark(error))
+        let (at, remark) = fault_place(value, error);
+        self.push_caret(at, remark)
     }
 
     /// Adds a row with a caret so many bytes after its margin, and a remark.
     fn push_caret(&mut self, at: usize, remark: &str) -> Result<(), AllocError>
-        ensures { OnOk result (vec_items self.new.text ≡ vec_items self.old.text ++ caret_row at remark.now) }
+        ensures { OnOk result (vec_items self.new.text ≡ vec_items self.old.text ++ caret_row (at, remark.now)) }
     {
         self.push("    ")?;
         self.push_spaces(at)?;
@@ -489,27 +490,18 @@ fn chooses(lines: &[Vec<u8>], before: Option<bool>, is_last: bool) -> bool
     !lines.is_empty() || (is_last && before.is_none())
 }
 
-/// Returns the position of the byte at fault, or the value's length if something is missing at its end.
-fn fault_at(value: &[u8], error: FieldError) -> usize
-    ensures { result ≡ fault_at value.now error }
+/// Returns the position of the byte at fault, or the value's length if something is missing at its end, and a remark if that byte begins a
+/// comment.
+fn fault_place(value: &[u8], error: FieldError) -> (usize, &'static str)
+    ensures { (result.0, result.1.now) ≡ fault_place value.now error }
 {
     match error {
-        FieldError::NotUtf8 { pos } | FieldError::Invalid(ParseError::InvalidToken { pos, .. }) => {
-            pos
+        FieldError::NotUtf8 { pos } => (pos, ""),
+        FieldError::Invalid(ParseError::InvalidToken { pos, byte: b'(' }) => {
+            (pos, " (HTTP has no comments)")
         }
-        _ => value.len(),
-    }
-}
-
-/// Returns a remark on a comment, if the byte at fault begins one.
-fn fault_remark(error: FieldError) -> &'static str
-    ensures { result.now ≡ fault_remark error }
-{
-    match error {
-        FieldError::Invalid(ParseError::InvalidToken { byte: b'(', .. }) => {
-            " (HTTP has no comments)"
-        }
-        _ => "",
+        FieldError::Invalid(ParseError::InvalidToken { pos, .. }) => (pos, ""),
+        _ => (value.len(), ""),
     }
 }
 

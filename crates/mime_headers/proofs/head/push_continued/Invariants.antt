@@ -1,6 +1,5 @@
 -- What is added, and what is left to add, make up what the lines add.
-use Rattle.std.proofs.Common.{◌≡◌, ◌++◌, drop, map}
-use Rattle.std.specs.Vec.{vec_items}
+use Rattle.std.proofs.Common.{◌≡◌, ◌++◌, drop, map, vec_items}
 use Rattle.mime_headers.specs.Head.{continued}
 use Rattle.mime_headers.proofs.head.push_continued.Given as goal
 

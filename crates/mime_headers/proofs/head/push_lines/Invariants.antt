@@ -1,6 +1,5 @@
 -- The lines that were added, and those that are left to add, are all.
-use Rattle.std.proofs.Common.{◌≡◌, ◌≤◌, ◌++◌, length, map}
-use Rattle.std.specs.Vec.{vec_items}
+use Rattle.std.proofs.Common.{◌≡◌, ◌≤◌, ◌++◌, length, map, vec_items}
 use Rattle.mime_headers.specs.Head.{after_end, bare_lines, until_end, without_indent}
 use Rattle.mime_headers.proofs.head.push_lines.Given as goal
 

@@ -1,6 +1,5 @@
 -- The values that were found, and those that are left to find, are all.
-use Rattle.std.proofs.Common.{◌≡◌, ◌++◌, drop, map}
-use Rattle.std.specs.Vec.{vec_items}
+use Rattle.std.proofs.Common.{◌≡◌, ◌++◌, drop, map, vec_items}
 use Rattle.mime_headers.specs.Head.{values_of}
 use Rattle.mime_headers.proofs.head.values_of.Given as goal
 

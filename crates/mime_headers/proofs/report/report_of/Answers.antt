@@ -1,6 +1,5 @@
 -- Each head is added after the one before it.
-use Rattle.std.proofs.Common.{[], true, None, ap, length, map, not, rules, subst, subst₂, sym, ◌≡◌, ◌∙◌, ◌==◌}
-use Rattle.std.specs.Vec.{vec_items}
+use Rattle.std.proofs.Common.{[], true, None, ap, length, map, not, rules, subst, subst₂, sym, ◌≡◌, ◌∙◌, ◌==◌, vec_items}
 use Rattle.mime_headers.specs.Head.{bare_lines, is_counted, next_head}
 use Rattle.mime_headers.specs.Report.{AddsHeads, State, a_head, last_head}
 use Rattle.mime_headers.specs.Shown.{without_controls}

@@ -1,7 +1,5 @@
 -- What adding the heads that are left adds, adding all does.
-use Rattle.std.proofs.Common.{[], true, None, ◌≡◌, ◌+◌, length, map, MatchOption}
-use Rattle.std.specs.Prelude.{◌≢◌, option_map, unwrap_or}
-use Rattle.std.specs.Vec.{vec_items}
+use Rattle.std.proofs.Common.{[], true, None, ◌≡◌, ◌+◌, length, map, MatchOption, vec_items, ◌≢◌, option_map, unwrap_or}
 use Rattle.mime_headers.specs.Head.{bare_lines, next_head}
 use Rattle.mime_headers.specs.Report.{AddsHeads, State}
 use Rattle.mime_headers.proofs.report.report_of.Given as goal

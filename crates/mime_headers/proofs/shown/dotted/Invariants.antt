@@ -1,6 +1,5 @@
 -- What is added, and what is left to show, make up what is shown.
-use Rattle.std.proofs.Common.{◌≡◌, ◌++◌, drop}
-use Rattle.std.specs.Vec.{vec_items}
+use Rattle.std.proofs.Common.{◌≡◌, ◌++◌, drop, vec_items}
 use Rattle.mime_headers.specs.Shown.{shown_after, without_controls}
 use Rattle.mime_headers.proofs.shown.dotted.Given as goal
 

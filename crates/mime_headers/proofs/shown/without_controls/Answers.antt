@@ -1,6 +1,5 @@
 -- Bytes that no control character begins with stay.
-use Rattle.std.proofs.Common.{sym, ◌∙◌}
-use Rattle.std.specs.Vec.{vec_items}
+use Rattle.std.proofs.Common.{sym, ◌∙◌, vec_items}
 use Rattle.mime_headers.proofs.Rows.{none_shown}
 use Rattle.mime_headers.proofs.shown.without_controls.Goals as goal
 

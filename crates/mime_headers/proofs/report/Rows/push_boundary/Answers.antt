@@ -1,6 +1,5 @@
 -- A boundary has a row, and no boundary has none.
-use Rattle.std.proofs.Common.{rules, [], sym, subst, append-nil, codes}
-use Rattle.std.specs.Vec.{vec_items}
+use Rattle.std.proofs.Common.{rules, [], sym, subst, append-nil, codes, vec_items}
 use Rattle.mime_http.specs.Boundary.{IsBoundaryOf}
 use Rattle.mime_io.specs.Lines.{row}
 use Rattle.mime_headers.specs.Report.{ReportsBoundary}

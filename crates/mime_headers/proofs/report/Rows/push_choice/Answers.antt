@@ -1,6 +1,5 @@
 -- Each part is added after the one before it.
-use Rattle.std.proofs.Common.{Some, ap, false, map, rules, subst₂, sym, true, ◌≡◌, ◌∙◌}
-use Rattle.std.specs.Vec.{vec_items}
+use Rattle.std.proofs.Common.{Some, ap, false, map, rules, subst₂, sym, true, ◌≡◌, ◌∙◌, vec_items}
 use Rattle.mime_headers.specs.Report.{AddsChoice, best_rows, elsewhere, here, is_acceptable}
 use Rattle.mime_headers.proofs.Rows.{same_as, then}
 use Rattle.mime_headers.proofs.report.Rows.push_choice.Goals as goal

@@ -1,6 +1,5 @@
 -- An entry is nothing, a range or bad.
-use Rattle.std.proofs.Common.{[], ◌∷◌, rules, sym, subst₂, ◌<◌, ◌≡◌, ◌≢◌, ◌∙◌, ap, map, length, arith}
-use Rattle.std.specs.Vec.{vec_items}
+use Rattle.std.proofs.Common.{[], ◌∷◌, rules, sym, subst₂, ◌<◌, ◌≡◌, ◌≢◌, ◌∙◌, ap, map, length, arith, vec_items}
 use Rattle.std.proofs.lemmas.List.{map-append, nil_from_length}
 use borrow.Author.Tests.{tests}
 use Rattle.mime_http.specs.declared.value.FieldError.{FieldError}

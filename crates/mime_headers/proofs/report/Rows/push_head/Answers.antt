@@ -1,7 +1,5 @@
 -- Each part is added after the one before it.
-use Rattle.std.proofs.Common.{codes, map, ◌≡◌, ◌++◌}
-use Rattle.std.specs.Prelude.{flat_map}
-use Rattle.std.specs.Vec.{vec_items}
+use Rattle.std.proofs.Common.{codes, map, ◌≡◌, ◌++◌, vec_items, flat_map}
 use Rattle.mime_headers.specs.Head.{bare_lines, head_of, values_of}
 use Rattle.mime_headers.specs.Report.{count_row, spaced_row, title_row}
 use Rattle.mime_headers.proofs.Rows.{then}

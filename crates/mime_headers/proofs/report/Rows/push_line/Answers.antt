@@ -1,11 +1,7 @@
 -- The next entry is added.
-use Rattle.std.proofs.Common.{map}
-use Rattle.std.specs.Vec.{vec_items}
+use Rattle.std.proofs.Common.{map, vec_items}
 use Rattle.mime_headers.proofs.Rows.{entry-next}
 use Rattle.mime_headers.proofs.report.Rows.push_line.Goals as goal
-
-pub loop-left-init : goal.loop-left-init
-loop-left-init c lines text all adds = adds
 
 pub loop-left-preserved : goal.loop-left-preserved
 loop-left-preserved c lines text all adds =

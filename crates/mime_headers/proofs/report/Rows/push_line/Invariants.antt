@@ -1,6 +1,5 @@
 -- What adding the entries that are left adds to the lines, adding all does.
-use Rattle.std.proofs.Common.{List, ℕ, ◌∷◌, map}
-use Rattle.std.specs.Vec.{vec_items}
+use Rattle.std.proofs.Common.{List, ℕ, ◌∷◌, map, vec_items}
 use Rattle.mime.specs.Values.{MediaType}
 use Rattle.mime_headers.specs.Report.{AddsLines}
 use Rattle.mime_headers.proofs.Rows.{left_len, lines_left}

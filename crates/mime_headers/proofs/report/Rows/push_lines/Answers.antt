@@ -1,7 +1,5 @@
 -- The next line is added.
-use Rattle.std.proofs.Common.{[], ◌∷◌, ◌+◌, ◌≡◌, ◌<◌, ◌≤◌, ◌∙◌, ap, arith, drop, length, map, rules, subst, sym}
-use Rattle.std.specs.Vec.{vec_items}
-use Rattle.std.proofs.Math.ListN.{drop_of_length-le}
+use Rattle.std.proofs.Common.{[], ◌∷◌, ◌+◌, ◌≡◌, ◌<◌, ◌≤◌, ◌∙◌, ap, arith, drop, length, map, rules, subst, sym, vec_items, drop_of_length-le}
 use Rattle.std.proofs.lemmas.List.{length-map, nil_from_length}
 use borrow.Author.Tests.{tests}
 use Rattle.mime_headers.specs.Report.{AddsLines, no_line}
@@ -12,9 +10,6 @@ pub returns-then-is_empty : goal.returns-then-is_empty
 returns-then-is_empty c =
     let none : length c.args.lines.now ≡ 0 = search (rules, tests) in
     rw (nil_from_length _ none, ← c.in_ok-push_row.ensures) (lines-only _ _ _ _ _ _ (c.push_line.ensures []))
-
-pub loop-line-init : goal.loop-line-init
-loop-line-init c text all adds = adds
 
 pub loop-line-preserved : goal.loop-line-preserved
 loop-line-preserved c text all adds =

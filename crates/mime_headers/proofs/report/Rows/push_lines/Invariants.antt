@@ -1,6 +1,5 @@
 -- What adding the lines that are left adds, adding all does.
-use Rattle.std.proofs.Common.{List, ℕ, drop, map}
-use Rattle.std.specs.Vec.{vec_items}
+use Rattle.std.proofs.Common.{List, ℕ, drop, map, vec_items}
 use Rattle.mime.specs.Values.{MediaType}
 use Rattle.mime_headers.specs.Report.{AddsLines}
 use Rattle.mime_headers.proofs.report.Rows.push_lines.Given as goal

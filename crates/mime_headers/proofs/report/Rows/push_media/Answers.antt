@@ -1,6 +1,5 @@
 -- Each part is added after the one before it.
-use Rattle.std.proofs.Common.{ap, codes, rules, ◌≡◌}
-use Rattle.std.specs.Vec.{vec_items}
+use Rattle.std.proofs.Common.{ap, codes, rules, ◌≡◌, vec_items}
 use Rattle.mime_io.specs.Lines.{row}
 use Rattle.mime_headers.proofs.Rows.{same_as, then_ok}
 use Rattle.mime_headers.proofs.report.Rows.push_media.Goals as goal

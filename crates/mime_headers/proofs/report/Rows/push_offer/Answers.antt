@@ -1,5 +1,5 @@
 -- Each part is added after the one before it.
-use Rattle.std.specs.Vec.{vec_items}
+use Rattle.std.proofs.Common.{vec_items}
 use Rattle.mime.specs.declared.value.Mime.{Mime}
 use Rattle.mime_headers.proofs.Rows.{found_at, then_ok}
 use Rattle.mime_headers.proofs.report.Rows.push_offer.Goals as goal

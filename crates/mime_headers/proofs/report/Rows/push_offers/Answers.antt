@@ -1,6 +1,5 @@
 -- The next offer's row is added.
-use Rattle.std.proofs.Common.{None, get_or, map}
-use Rattle.std.specs.Prelude.{slice_get}
+use Rattle.std.proofs.Common.{None, get_or, map, slice_get}
 use Rattle.std.proofs.lemmas.List.{get_or_default}
 use Rattle.mime_headers.specs.Report.{offer_row}
 use Rattle.mime_headers.proofs.Rows.{rows-next}

@@ -1,6 +1,5 @@
 -- What is added, and what is left to add, make up all rows.
-use Rattle.std.proofs.Common.{◌≡◌, ◌++◌, drop, map}
-use Rattle.std.specs.Vec.{vec_items}
+use Rattle.std.proofs.Common.{◌≡◌, ◌++◌, drop, map, vec_items}
 use Rattle.mime_headers.specs.Report.{offer_rows}
 use Rattle.mime_headers.proofs.report.Rows.push_offers.Given as goal
 

@@ -1,6 +1,5 @@
 -- What is added and what is left to add make up the rows.
-use Rattle.std.proofs.Common.{◌≡◌, ◌++◌}
-use Rattle.std.specs.Vec.{vec_items}
+use Rattle.std.proofs.Common.{◌≡◌, ◌++◌, vec_items}
 use Rattle.mime_headers.proofs.Rows.{given_rows}
 use Rattle.mime_headers.proofs.report.Rows.push_params.Given as goal
 

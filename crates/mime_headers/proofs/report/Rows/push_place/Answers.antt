@@ -1,7 +1,6 @@
 -- Each part is added after the one before it.
-use Rattle.std.proofs.Common.{rules, ◌≡◌, ◌+◌}
+use Rattle.std.proofs.Common.{rules, ◌≡◌, ◌+◌, vec_items}
 use Rattle.std.specs.Fmt.{decimal}
-use Rattle.std.specs.Vec.{vec_items}
 use Rattle.mime.specs.declared.value.Mime.{Mime}
 use Rattle.mime_headers.proofs.Rows.{found_at, same_as, then_ok}
 use Rattle.mime_headers.proofs.report.Rows.push_place.Goals as goal

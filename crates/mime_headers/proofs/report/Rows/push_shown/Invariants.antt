@@ -1,6 +1,5 @@
 -- What is added, and what is left to add, make up what is shown.
-use Rattle.std.proofs.Common.{◌≡◌, ◌++◌, drop, map}
-use Rattle.std.specs.Vec.{vec_items}
+use Rattle.std.proofs.Common.{◌≡◌, ◌++◌, drop, map, vec_items}
 use Rattle.mime_headers.specs.Report.{shown_byte, shown}
 use Rattle.mime_headers.proofs.report.Rows.push_shown.Given as goal
 

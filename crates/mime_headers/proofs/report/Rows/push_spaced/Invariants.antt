@@ -1,7 +1,5 @@
 -- What is added, and what is left to add, make up all rows.
-use Rattle.std.proofs.Common.{◌≡◌, ◌++◌, drop, map}
-use Rattle.std.specs.Prelude.{flat_map}
-use Rattle.std.specs.Vec.{vec_items}
+use Rattle.std.proofs.Common.{◌≡◌, ◌++◌, drop, map, vec_items, flat_map}
 use Rattle.mime_headers.specs.Report.{spaced_row}
 use Rattle.mime_headers.proofs.report.Rows.push_spaced.Given as goal
 

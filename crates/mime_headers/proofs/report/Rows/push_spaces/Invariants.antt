@@ -1,6 +1,5 @@
 -- So many spaces are added.
-use Rattle.std.proofs.Common.{◌≡◌, ◌++◌, replicate}
-use Rattle.std.specs.Vec.{vec_items}
+use Rattle.std.proofs.Common.{◌≡◌, ◌++◌, replicate, vec_items}
 use Rattle.mime_headers.proofs.report.Rows.push_spaces.Given as goal
 
 abbrev pub invariant-loop : goal.invariant-loop

@@ -1,6 +1,5 @@
 -- A value is a media type, or bad.
-use Rattle.std.proofs.Common.{rules, ◌≢◌, false, subst, sym}
-use Rattle.std.specs.Vec.{vec_items}
+use Rattle.std.proofs.Common.{rules, ◌≢◌, false, subst, sym, vec_items}
 use Rattle.mime_http.specs.declared.value.FieldError.{FieldError}
 use Rattle.mime_headers.specs.Report.{AddsType, bad}
 use Rattle.mime_headers.proofs.Rows.{good-added}

@@ -1,14 +1,9 @@
 -- The next value is added.
-use Rattle.std.proofs.Common.{◌≤◌, ◌∙◌, ap, arith, map, length, subst, sym}
-use Rattle.std.specs.Vec.{vec_items}
-use Rattle.std.proofs.Math.ListN.{drop_of_length-le}
+use Rattle.std.proofs.Common.{◌≤◌, ◌∙◌, ap, arith, map, length, subst, sym, vec_items, drop_of_length-le}
 use Rattle.mime_http.specs.HttpList.{trimmed}
 use Rattle.mime_headers.specs.Report.{AddsType, AddsTypes, no_more, one_more}
 use Rattle.mime_headers.proofs.Rows.{first_left}
 use Rattle.mime_headers.proofs.report.Rows.push_types.Goals as goal
-
-pub loop-value-init : goal.loop-value-init
-loop-value-init c text all_good adds = adds
 
 pub loop-value-preserved : goal.loop-value-preserved
 loop-value-preserved c text all_good adds =

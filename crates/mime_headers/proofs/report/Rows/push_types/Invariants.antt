@@ -1,6 +1,5 @@
 -- What adding the values that are left adds, adding all does.
-use Rattle.std.proofs.Common.{Bool, List, ℕ, drop, map}
-use Rattle.std.specs.Vec.{vec_items}
+use Rattle.std.proofs.Common.{Bool, List, ℕ, drop, map, vec_items}
 use Rattle.mime_headers.specs.Report.{AddsTypes}
 use Rattle.mime_headers.proofs.report.Rows.push_types.Given as goal
 
