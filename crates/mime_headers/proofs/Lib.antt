@@ -1,5 +1,3 @@
-mod HeadLines
 mod HeaderFacts
 mod ReportFacts
 mod Rows
-mod Words

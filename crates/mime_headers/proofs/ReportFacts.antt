@@ -16,16 +16,16 @@ use Rattle.mime_http.specs.declared.value.FieldError.TheVariants.{NotUtf8, Inval
 use Rattle.mime_http.proofs.HandedOut.{only_cut, one_printed_text, http_is_not_blank, no_fault, one_http_fault}
 use Rattle.mime_io.specs.Lines.{row}
 use Rattle.mime_headers.specs.Head.{values_of}
-use Rattle.mime_headers.specs.Report.{media_rows, none_row, range_row, ReportsBoundary, bounded, unbounded, fault_rows, count_row, AddsType, good, bad, AddsTypes, no_more, one_more, AddsEntry, nothing, a_range, a_bad, AddsLines, no_line, line_end, comma, chooses, is_acceptable, best_of, best_rows, offer_rows, AddsChoice, elsewhere, here, State, AddsHead, AddsHeads, last_head, a_head, IsReportOf}
+use Rattle.mime_headers.specs.Report.{media_rows, none_row, range_row, AddsBoundary, bounded, unbounded, fault_rows, count_row, AddsType, good, bad, AddsTypes, no_more, one_more, AddsEntry, nothing, a_range, a_bad, AddsLines, no_line, line_end, comma, chooses, is_acceptable, best_of, best_rows, offer_rows, AddsChoice, elsewhere, here, State, AddsHead, AddsHeads, last_head, a_head, IsReportOf}
 use Rattle.mime_headers.specs.declared.verdict.Verdict.{Verdict}
 
 -- a media type has one boundary, or none
-one_boundary : (media : MediaType) (rows other : List ℕ) → ReportsBoundary media rows → ReportsBoundary media other → rows ≡ other
-one_boundary media rows other (bounded bytes is) (bounded others too) =
-    ap (row (codes "boundary ")) (same_Some bytes others (sym is.found ∙ too.found))
-one_boundary media rows other (bounded bytes is) (unbounded none) = absurd (none bytes is)
-one_boundary media rows other (unbounded none) (bounded bytes is) = absurd (none bytes is)
-one_boundary media rows other (unbounded none) (unbounded no_other) = refl
+one_boundary : (media : MediaType) (old new other : List ℕ) → AddsBoundary media old new → AddsBoundary media old other → new ≡ other
+one_boundary media old _ _ (bounded bytes is) (bounded others too) =
+    ap (λ bytes. old ++ row (codes "boundary ") bytes) (same_Some bytes others (sym is.found ∙ too.found))
+one_boundary media old _ _ (bounded bytes is) (unbounded none) = absurd (none bytes is)
+one_boundary media old _ _ (unbounded none) (bounded bytes is) = absurd (none bytes is)
+one_boundary media old _ _ (unbounded none) (unbounded no_other) = refl
 
 -- what lines add, their pieces do
 abbrev AddsPiece : List ℕ × List MediaType → List ℕ → List ℕ × List MediaType → Type 0
@@ -69,12 +69,11 @@ module _ (one_ranking : (ranges offers : List MediaType) (ranking other : List R
   -- what a value adds is one text, and it is good or not,
   one_type : (value old new other : List ℕ) (is_good are_good : Bool) → AddsType value old new is_good → AddsType value old other are_good
       → (new ≡ other) × (is_good ≡ are_good)
-  one_type value old _ _ _ _ (good media last utf8 is bounds) (good again end _ too others) =
+  one_type value old new other _ _ (good media utf8 is bounds) (good again _ too others) =
       let same = one_printed_text value media again is.0 is.1 too.0 too.1 in
-      let ends = one_boundary again last end (subst (λ media. ReportsBoundary media last) same bounds) others in
-      (ap₂ (λ media last. old ++ (media_rows media ++ last)) same ends, refl)
-  one_type value old _ _ _ _ (good media last utf8 is bounds) (bad error some why) = absurd (not_both value error utf8 (media, is.0) some why)
-  one_type value old _ _ _ _ (bad error some why) (good media last utf8 is bounds) = absurd (not_both value error utf8 (media, is.0) some why)
+      (one_boundary again (old ++ media_rows again) new other (subst (λ media. AddsBoundary media (old ++ media_rows media) new) same bounds) others, refl)
+  one_type value old _ _ _ _ (good media utf8 is bounds) (bad error some why) = absurd (not_both value error utf8 (media, is.0) some why)
+  one_type value old _ _ _ _ (bad error some why) (good media utf8 is bounds) = absurd (not_both value error utf8 (media, is.0) some why)
   one_type value old _ _ _ _ (bad error some why) (bad again more too) =
       (ap (λ error. old ++ fault_rows (codes "bad Content-Type ") value error) (one_error value error again some more why too), refl)
 

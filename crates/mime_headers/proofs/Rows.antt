@@ -1,7 +1,6 @@
 -- The rows of a report, as the code adds them one by one.
 use Rattle.std.proofs.Common.{arith, ◌≡◌, ℕ, ◌+◌, ◌<◌, List, [], ◌∷◌, ◌++◌, length, drop, get_or, refl, ap, sym, subst, ◌∙◌, append_assoc, append-nil, Result, Ok, Err, OnOk, true, false, Option, Some, None, Bor, MatchOption, ◌≢◌, ◌==◌, not, is_some, flat_map, map, option_map, slice_get}
 use Rattle.std.specs.List.{list_any}
-use Rattle.std.specs.Str.{IsUtf8}
 use Rattle.std.proofs.lemmas.Bool.{or_parts}
 use Rattle.std.proofs.lemmas.Bool.Decides.{nat_tests}
 use Rattle.std.proofs.lemmas.List.{drop_more}
@@ -9,9 +8,8 @@ use Rattle.std.proofs.lemmas.Option.{slice_get_read, slice_get-map}
 use Rattle.mime.specs.Items.{Item, items_of}
 use Rattle.mime.specs.Values.{MediaType}
 use Rattle.mime_http.specs.HttpList.{trimmed, lines_or_any, BeginsPiece, IsPiece}
-use Rattle.mime_io.specs.Inner.{Adds}
 use Rattle.mime_headers.specs.Inner.{begins_control}
-use Rattle.mime_headers.specs.Report.{param_row, media_rows, none_row, ReadsAs, ReportsBoundary, AddsType, good, AddsEntry, AddsLines, no_line, line_end, comma}
+use Rattle.mime_headers.specs.Report.{param_row, none_row, AddsEntry, AddsLines, no_line, line_end, comma}
 use Rattle.mime_headers.specs.Shown.{control_len, without_controls}
 
 -- ---- a loop that adds something for each item
@@ -72,12 +70,6 @@ pub added : {E : Type 0} (R : List ℕ → Type 0) (result : Result (Unit {0}) E
     → OnOk result (R new)
 added R (Ok done) new whole is same = subst R (sym same) is
 added R (Err error) new whole is same = tt
-
--- the rows of a media type, and then that of its boundary
-pub good-added : (value : List ℕ) (media : MediaType) (old between new : List ℕ) → IsUtf8 value → ReadsAs value media
-    → between ≡ old ++ media_rows media → Adds (ReportsBoundary media) between new → AddsType value old new true
-good-added value media old between new utf8 read first (last, is, added) =
-    subst (λ new. AddsType value old new true) (sym (then old (media_rows media) last between new first added)) (good media last utf8 read is)
 
 -- ---- lines of Accept
 

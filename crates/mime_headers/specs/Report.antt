@@ -70,19 +70,19 @@ media_rows media =
     ++ (suffix_row (suffix_of media)
     ++ flat_map param_row media.pairs))
 
--- the row of its boundary, if it has one
-pub data ReportsBoundary (media : MediaType) : List ℕ → Type 0 where
-  bounded : (bytes : List ℕ) → IsBoundaryOf media bytes → ReportsBoundary media (row (codes "boundary ") bytes)
-  unbounded : ((bytes : List ℕ) → ¬ (IsBoundaryOf media bytes)) → ReportsBoundary media []
+-- a report before and after the row of its boundary, if it has one
+pub data AddsBoundary (media : MediaType) (old : List ℕ) : List ℕ → Type 0 where
+  bounded : (bytes : List ℕ) → IsBoundaryOf media bytes → AddsBoundary media old (old ++ row (codes "boundary ") bytes)
+  unbounded : ((bytes : List ℕ) → ¬ (IsBoundaryOf media bytes)) → AddsBoundary media old old
 
--- a report before and after a value, and whether that is good: of a media type its rows are added, and otherwise those of its fault
+-- and a value, and whether that is good: of a media type its rows are added, and otherwise those of its fault
 pub data AddsType (value old : List ℕ) : List ℕ → Bool → Type 0 where
-  good : (media : MediaType) (last : List ℕ) → IsUtf8 value → ReadsAs value media → ReportsBoundary media last
-      → AddsType value old (old ++ (media_rows media ++ last)) true
+  good : {new : List ℕ} (media : MediaType) → IsUtf8 value → ReadsAs value media → AddsBoundary media (old ++ media_rows media) new
+      → AddsType value old new true
   bad : (error : FieldError) → error ≢ NoMemory → HttpExplains value error
       → AddsType value old (old ++ fault_rows (codes "bad Content-Type ") value error) false
 
--- and of all values, one after another, each without the white space around it (RFC 9110, 5.5), with whether all so far are good
+-- and all values, one after another, each without the white space around it (RFC 9110, 5.5), with whether all so far are good
 pub data AddsTypes : List (List ℕ) → List ℕ → Bool → List ℕ → Bool → Type 0 where
   no_more : {text : List ℕ} {are_good : Bool} → AddsTypes [] text are_good text are_good
   one_more : {value old between new : List ℕ} {are_good is_good all_good : Bool} {values : List (List ℕ)} → AddsType (trimmed value) old between is_good

@@ -4,10 +4,9 @@ ghost use Rattle.std.specs.Prelude.{◌≡◌, ◌++◌, ◌∷◌, [], ℕ, Lis
 ghost use Rattle.std.specs.Vec.{vec_items};
 ghost use Rattle.mime.specs.Values.{MediaType, suffix_of};
 ghost use Rattle.mime_http.specs.HttpList.{lines_or_any};
-ghost use Rattle.mime_io.specs.Inner.{Adds};
 ghost use Rattle.mime_io.specs.Lines.{row, suffix_row};
 ghost use Rattle.mime_headers.specs.Head.{bare_lines, head_of, is_counted};
-ghost use Rattle.mime_headers.specs.Report.{shown_byte, shown, param_row, media_rows, ReportsBoundary, fault_place, caret_row, fault_rows, AddsType, AddsTypes, none_row, count_row, spaced_row, digit, weight_text};
+ghost use Rattle.mime_headers.specs.Report.{shown_byte, shown, param_row, media_rows, AddsBoundary, fault_place, caret_row, fault_rows, AddsType, AddsTypes, none_row, count_row, spaced_row, digit, weight_text};
 ghost use Rattle.mime_headers.specs.Report.{weighed_text, weight_remark, range_row, AddsEntry, AddsLines, place_text, by_text, lacking_remark, offer_row, offer_rows, best_of, best_rows, is_acceptable, verdict_of, chooses, title_row, AddsChoice, AddsHead, cut_row, IsReport};
 
 use crate::head::{Head, is_spaced, next_head, read_head, title_of, trimmed, values_of};
@@ -241,7 +240,7 @@ impl Rows {
 
     /// Adds the row of the boundary, if there is one.
     fn push_boundary(&mut self, mime: &Mime) -> Result<(), AllocError>
-        ensures { OnOk result (Adds (ReportsBoundary mime.now.media) (vec_items self.old.text) (vec_items self.new.text)) }
+        ensures { OnOk result (AddsBoundary mime.now.media (vec_items self.old.text) (vec_items self.new.text)) }
     {
         match boundary(self.alloc, mime)? {
             Some(bytes) => self.push_row("boundary ", bytes.as_slice()),

@@ -1,8 +1,15 @@
 -- The first line loses its end and its mark.
-use Rattle.std.proofs.Common.{ap, ◌∙◌}
-use Rattle.mime_headers.specs.Head.{without_mark}
-use Rattle.mime_headers.proofs.HeadLines.{bare_lines-first}
+use Rattle.std.proofs.Common.{◌≡◌, ℕ, List, ◌∷◌, map, ap, sym, ◌∙◌}
+use Rattle.std.specs.Str.Lines.{strip_carriage_return}
+use Rattle.mime_io.specs.Lines.{lines_of}
+use Rattle.mime_headers.specs.Head.{bare_lines, without_mark}
 use Rattle.mime_headers.proofs.head.bare_line.Goals as goal
+
+-- an input's first line, without its end and its mark
+bare_lines-first : (input rest line bare : List ℕ) → lines_of input ≡ line ∷ lines_of rest → bare ≡ without_mark (strip_carriage_return line)
+    → bare_lines input ≡ bare ∷ bare_lines rest
+bare_lines-first input rest line bare cut bared =
+    ap (map (λ line. without_mark (strip_carriage_return line))) cut ∙ ap (λ first. first ∷ bare_lines rest) (sym bared)
 
 pub returns-clause-lines : goal.returns-clause-lines
 returns-clause-lines c =

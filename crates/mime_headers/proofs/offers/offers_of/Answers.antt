@@ -1,9 +1,17 @@
 -- The next word's offer is put last.
-use Rattle.std.proofs.Common.{map, string_bytes, ap, [], ◌∷◌, ◌∙◌, vec_items}
+use Rattle.std.proofs.Common.{map, string_bytes, ap, [], ◌∷◌, ◌∙◌, vec_items, suc, ◌≡◌, ℕ, ◌+◌, List, take, sym, arith}
 use Rattle.std.proofs.lemmas.List.{map-append}
 use Rattle.mime_headers.specs.Program.{a_word, no_memory, no_word}
-use Rattle.mime_headers.proofs.Words.{taken, taken_none}
 use Rattle.mime_headers.proofs.offers.offers_of.Goals as goal
+
+-- what is taken after the first word
+taken : {X : Type 0} (n m : ℕ) (word : X) (words rest : List X) → m + 1 ≡ n → words ≡ word ∷ rest → take n words ≡ word ∷ take m rest
+taken n m word words rest len is =
+    let next : n ≡ suc m = sym len ∙ omega arith in
+    ap (λ k. take k words) next ∙ ap (take (suc m)) is
+
+taken_none : {X : Type 0} (n : ℕ) (words : List X) → n ≡ 0 → take n words ≡ []
+taken_none n words none = ap (λ k. take k words) none
 
 pub loop-word-init : goal.loop-word-init
 loop-word-init c all are = rw c.new-offers.ensures.items at are
