@@ -1,4 +1,4 @@
-//! A head: its lines, and the values of a field.
+//! The lines of a head, and the values of its fields.
 
 ghost use Rattle.std.specs.Prelude.{◌≡◌, ◌≢◌, ◌<◌, ◌≤◌, ◌-◌, ◌∷◌, ◌++◌, [], length, map, OnOk, IfOk, IfSome, MatchOption};
 ghost use Rattle.std.specs.Str.Lines.{strip_carriage_return};
@@ -154,7 +154,7 @@ fn unindented(indented: bool, line: &[u8]) -> &[u8]
     }
 }
 
-/// A head: the input from it on, its lines, and the input after it.
+/// A head: the input that begins with it, its lines, and the input after it.
 #[derive(Drop)]
 pub(crate) struct Head<'a> {
     pub(crate) input: &'a [u8],
@@ -166,7 +166,7 @@ pub(crate) struct Head<'a> {
 }
 
 impl Head<'_> {
-    /// Returns whether a head counts. In an input that is cut off it does only if something follows its end.
+    /// Returns `true` if a head counts. In an input that is cut off, a head counts only if something follows it.
     pub(crate) fn is_counted(&self, is_cut: bool) -> bool
         ensures { result ≡ is_counted is_cut (bare_lines self.now.input.now) }
     {
@@ -174,7 +174,7 @@ impl Head<'_> {
     }
 }
 
-/// Reads the head at an input's start.
+/// Reads the head at the start of an input.
 pub(crate) fn read_head(alloc: Global, input: &[u8]) -> Result<Head<'_>, AllocError>
     ensures { IfOk result (λ head. head.input.now ≡ input.now) }
 {
@@ -194,7 +194,8 @@ pub(crate) fn read_head(alloc: Global, input: &[u8]) -> Result<Head<'_>, AllocEr
     })
 }
 
-/// Adds the lines of a head, whose first line and the input after it are given. Returns the input after the head.
+/// Adds the lines of a head to `lines`. `first` is its first line, and `rest` is the input after that line. Returns the input after the
+/// head.
 fn push_head<'a>(
     lines: &mut Vec<&'a [u8]>,
     first: &'a [u8],
@@ -213,7 +214,7 @@ fn push_head<'a>(
     push_lines(lines, indented, rest)
 }
 
-/// Adds the lines of a head after its first, and returns the input after it.
+/// Adds the lines of a head after its first line to `lines`. Returns the input after the head.
 fn push_lines<'a>(
     lines: &mut Vec<&'a [u8]>,
     indented: bool,
@@ -238,7 +239,7 @@ fn push_lines<'a>(
     Ok(rest)
 }
 
-/// Returns the next head after one, if there is one that counts.
+/// Returns the head after `head`, if there is one and it counts.
 pub(crate) fn next_head<'a>(
     alloc: Global,
     is_cut: bool,

@@ -1,5 +1,5 @@
-//! Reads the head of a request or of an answer, and reports what its `Content-Type` and its `Accept` say, which of the offers that the
-//! arguments name is the best, and why.
+//! Reads the heads of requests and responses, and reports on their `Content-Type` and `Accept` fields. The arguments are offers: the report
+//! also shows which one is the best, and why.
 #![tactic(auto)]
 
 ghost use Rattle.std.specs.Prelude.{◌≡◌, OnErr};
@@ -49,10 +49,10 @@ fn main(rt: HostRuntime) -> ExitCode {
     }
 }
 
-/// The status of a program that wrote to a pipe which nobody reads, as a shell has it.
+/// The exit status of a program that wrote to a closed pipe, as a shell reports it.
 const CLOSED: u8 = 141;
 
-/// The exit status of a run, whose error is printed on standard error.
+/// Returns the exit status of a run. If the run failed, prints its error on standard error.
 fn status(rt: &impl Eprint, outcome: Result<Verdict, RunError>) -> ExitCode
     ensures acceptable { outcome ≡ Ok Verdict.Acceptable → exit_status result ≡ 0 }
     ensures not_acceptable { outcome ≡ Ok Verdict.NotAcceptable → exit_status result ≡ 1 }

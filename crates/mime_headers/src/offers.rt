@@ -12,12 +12,12 @@ use mime_http::{FieldError, content_type};
 use std::alloc::Global;
 use std::env::Args;
 
-/// Why the arguments aren't offers.
+/// The reason why the offers can't be read.
 #[derive(Drop)]
 pub(crate) enum BadOffer {
     /// Memory ran out.
     NoMemory,
-    /// An argument is no media type: the first that isn't, and its fault.
+    /// An argument isn't a media type. Holds the first such argument, and its fault.
     Fault(String, FieldError),
 }
 

@@ -1,9 +1,9 @@
-//! An output whose reader may go.
+//! An output that may be a closed pipe.
 
 use std::io;
 use std::io::Write;
 
-/// A writer, and whether a write or a flush failed since nobody reads any more what it writes.
+/// A writer that records whether its last failure was a closed pipe.
 #[derive(Drop)]
 pub(crate) struct Output<W> {
     pub(crate) inner: W,

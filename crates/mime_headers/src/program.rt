@@ -12,13 +12,13 @@ use mime::Mime;
 use mime_io::{LIMIT, RunError, Sink, Source, read_past_limit, write_report};
 use std::alloc::Global;
 
-/// Reads a source to its end, or to one byte past the limit, and then writes the report on the heads that it read, and on the offers, to a
-/// sink. Returns the verdict.
+/// Reads a source to its end, or to one byte past the limit. Then writes the report on its heads and the offers to a sink, and returns the
+/// verdict.
 ///
 /// # Errors
-/// `Read` if the source fails, and `Write` if the sink does; no call is made again. `TooLong` if the source gives more than 1,048,576 bytes,
-/// and its first head isn't ended within them. `NoMemory` if memory runs out. The first of these is returned. Only after `Write` may a part
-/// of the report have been written.
+/// Returns `Read` if the source fails, and `Write` if the sink fails. A call that failed isn't repeated. Returns `TooLong` if the source
+/// has more than 1,048,576 bytes and its first head doesn't end within them, and `NoMemory` if memory runs out. A part of the report may
+/// have been written only if the error is `Write`.
 pub fn run<S: Source, T: Sink>(
     alloc: Global,
     source: &mut S,
@@ -26,18 +26,18 @@ pub fn run<S: Source, T: Sink>(
     offers: &[Mime],
 ) -> Result<Verdict, RunError>
     // A run that succeeds has read bytes to the end of the source, or to one byte past the limit. It has written the report on these bytes
-    // and the offers, nothing else, and flushed it, and the verdict is the report's. This also holds of a source or a sink that doesn't say
-    // which bytes it has.
+    // and the offers, and nothing else, and has flushed it. The verdict is the report's. This also holds for a source or a sink that
+    // doesn't say which bytes it has.
     ensures whole { IfOk result (λ verdict. (bytes : List ℕ) × (text : List ℕ)
         × Consumes (S.left source.old) (S.left source.new) bytes × (length bytes ≤ limit + 1) × (length bytes ≤ limit → IsAtEnd (S.left source.new))
         × IsReportOf (map (λ offer. offer.media) offers.now) bytes text verdict × Appends (T.held sink.old) (T.held sink.new) text) }
     ensures flushed { OnOk result (T.IsFlushed sink.new) }
-    // The source fails if the result is `Read`, the sink if it is `Write`, and otherwise neither does.
+    // If the result is `Read`, the source has failed. If it is `Write`, the sink has failed. Otherwise, the run made neither fail.
     ensures read { result ≡ Err RunError.Read → S.has_failed source.new ≡ true }
     ensures write { result ≡ Err RunError.Write → T.has_failed sink.new ≡ true }
     ensures source_unfailed { result ≢ Err RunError.Read → S.has_failed source.new ≡ S.has_failed source.old }
     ensures sink_unfailed { result ≢ Err RunError.Write → T.has_failed sink.new ≡ T.has_failed sink.old }
-    // If the result is `TooLong`, the source gave one byte more than the limit, and the first head isn't ended within it.
+    // If the result is `TooLong`, the run has read one byte more than the limit, and the first head doesn't end within the limit.
     ensures too_long { result ≡ Err RunError.TooLong → (bytes : List ℕ) × Consumes (S.left source.old) (S.left source.new) bytes
         × (length bytes ≡ limit + 1) × (is_counted true (bare_lines bytes) ≡ false) }
     // Nothing is written before the report is complete.

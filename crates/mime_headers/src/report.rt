@@ -19,14 +19,14 @@ use mime_http::{
 };
 use std::alloc::{AllocError, Global};
 
-/// A report, and its verdict on the offers.
+/// The text of a report, and its verdict.
 #[derive(Drop)]
 pub(crate) struct Report {
     pub(crate) text: Vec<u8>,
     pub(crate) verdict: Verdict,
 }
 
-/// Returns the report on the heads of an input and on offers, or `None` if the input is cut off and its first head isn't ended.
+/// Returns the report on the heads of an input and on offers, or `None` if the input is cut off and nothing follows its first head.
 pub(crate) fn report_of(
     alloc: Global,
     input: &[u8],
@@ -62,7 +62,8 @@ pub(crate) fn report_of(
     Ok(Some(Report { text, verdict }))
 }
 
-/// What is known after some heads: whether each `Content-Type` is good, and whether an offer was acceptable in the last choice.
+/// The state after some heads: whether each `Content-Type` was accepted, and whether the last choice, if any, had an acceptable offer or no
+/// offers at all.
 #[derive(Clone, Copy)]
 struct Seen {
     are_good: bool,
@@ -77,7 +78,7 @@ struct Rows {
 }
 
 impl Rows {
-    /// Adds the rows of a head. Returns what is known after it.
+    /// Adds the rows of a head. Returns the state after it.
     fn push_head(
         &mut self,
         offers: &[Mime],
@@ -101,7 +102,7 @@ impl Rows {
         Ok(Seen { are_good, choice })
     }
 
-    /// Adds the row of a head, if there are many.
+    /// Adds the row with a head's title, if there are several heads.
     fn push_title(&mut self, many: bool, head: &[&[u8]]) -> Result<(), AllocError>
         ensures { OnOk result (vec_items self.new.text ≡ vec_items self.old.text ++ title_row many (map (λ line. line.now) head.now)) }
     {
@@ -133,7 +134,7 @@ impl Rows {
         }
     }
 
-    /// Adds the row which says that there is no `Content-Type`, or more than one.
+    /// Adds a row if there is no `Content-Type`, or more than one.
     fn push_count(&mut self, values: &[Vec<u8>]) -> Result<(), AllocError>
         ensures { OnOk result (vec_items self.new.text ≡ vec_items self.old.text ++ count_row (map vec_items values.now)) }
     {
@@ -144,8 +145,8 @@ impl Rows {
         }
     }
 
-    /// Adds the rows of the `Accept` lines and of the offers, if offers are chosen under this head. Returns whether the last choice, here
-    /// or before, found an acceptable offer.
+    /// Adds the rows of the `Accept` lines and of the offers, if `is_here`. Returns whether this choice had an acceptable offer or no
+    /// offers, or returns `before` if not `is_here`.
     fn push_choice(
         &mut self,
         lines: &[Vec<u8>],
@@ -168,7 +169,7 @@ impl Rows {
         Ok(Some(is_acceptable(offers, best)))
     }
 
-    /// Adds the rows of each value of `Content-Type`. Returns whether all are good, and those before.
+    /// Adds the rows of each value of `Content-Type`. Returns `before`, or `false` if a value is rejected.
     fn push_types(&mut self, values: &[Vec<u8>], before: bool) -> Result<bool, AllocError>
         ensures { IfOk result (λ are_good. AddsTypes (map vec_items values.now) (vec_items self.old.text) before (vec_items self.new.text) are_good) }
     {
@@ -179,7 +180,7 @@ impl Rows {
         Ok(are_good)
     }
 
-    /// Adds the rows of a media type, or of the value's fault. Returns whether it is one.
+    /// Adds the rows of a value of `Content-Type`: of its media type, or of its fault. Returns `true` if the value is accepted.
     fn push_type(&mut self, value: &[u8]) -> Result<bool, AllocError>
         ensures { IfOk result (λ is_good. AddsType value.now (vec_items self.old.text) (vec_items self.new.text) is_good) }
     {
@@ -217,7 +218,7 @@ impl Rows {
         }
     }
 
-    /// Adds a row for each parameter, with what its value means.
+    /// Adds a row for each parameter, with the meaning of its value.
     fn push_params(&mut self, mime: &Mime) -> Result<(), AllocError>
         ensures { OnOk result (vec_items self.new.text ≡ vec_items self.old.text ++ flat_map param_row mime.now.media.pairs) }
     {
@@ -259,7 +260,7 @@ impl Rows {
         self.push_caret(at, remark)
     }
 
-    /// Adds a row with a caret so many bytes after its margin, and a remark.
+    /// Adds a row: a margin, `at` spaces, a caret and a remark.
     fn push_caret(&mut self, at: usize, remark: &str) -> Result<(), AllocError>
         ensures { OnOk result (vec_items self.new.text ≡ vec_items self.old.text ++ caret_row (at, remark.now)) }
     {
@@ -270,7 +271,7 @@ impl Rows {
         self.push("\n")
     }
 
-    /// Adds so many spaces.
+    /// Adds `count` spaces.
     fn push_spaces(&mut self, count: usize) -> Result<(), AllocError>
         ensures { OnOk result (vec_items self.new.text ≡ vec_items self.old.text ++ replicate count 32) }
     {
@@ -280,7 +281,7 @@ impl Rows {
         Ok(())
     }
 
-    /// Adds a row of bytes that may be any.
+    /// Adds a row: a label and bytes, with a dot for each byte that isn't printable ASCII.
     fn push_shown(&mut self, label: &str, bytes: &[u8]) -> Result<(), AllocError>
         ensures { OnOk result (vec_items self.new.text ≡ vec_items self.old.text ++ row label.now (shown bytes.now)) }
     {
@@ -291,7 +292,8 @@ impl Rows {
         self.push("\n")
     }
 
-    /// Adds the rows of the lines of `Accept`, or of one that accepts everything, and takes their ranges.
+    /// Adds the rows of the lines of `Accept`, and pushes their ranges to `ranges`. If there are no lines, adds a row for that, and reads
+    /// `*/*`.
     fn push_lines(&mut self, ranges: &mut Vec<Mime>, lines: &[Vec<u8>]) -> Result<(), AllocError>
         ensures { OnOk result (AddsLines (lines_or_any (map vec_items lines.now)) (vec_items self.old.text ++ none_row (map vec_items lines.now))
             (map (λ range. range.media) (vec_items ranges.old)) (vec_items self.new.text) (map (λ range. range.media) (vec_items ranges.new))) }
@@ -349,7 +351,7 @@ impl Rows {
         self.push("\n")
     }
 
-    /// Adds a weight in thousandths, with three decimals, and a media type.
+    /// Adds a label, a weight with three decimals, and a media type. `weight` is in thousandths.
     fn push_weighed(&mut self, label: &str, weight: u16, mime: &Mime) -> Result<(), AllocError>
         ensures { OnOk result (vec_items self.new.text ≡ vec_items self.old.text ++ weighed_text label.now weight mime.now.media) }
     {
@@ -375,7 +377,7 @@ impl Rows {
         Ok(())
     }
 
-    /// Adds the row of an offer, if there is one.
+    /// Adds the row of a ranked offer, or nothing if `offers` has no offer at its position.
     fn push_offer(
         &mut self,
         ranges: &[Mime],
@@ -394,7 +396,7 @@ impl Rows {
         self.push("\n")
     }
 
-    /// Adds which range decides, if one does.
+    /// Adds ` by ` and the range at a position, or ` by none`.
     fn push_by(&mut self, ranges: &[Mime], at: Option<usize>) -> Result<(), AllocError>
         ensures { OnOk result (vec_items self.new.text ≡ vec_items self.old.text ++ by_text (map (λ range. range.media) ranges.now) at) }
     {
@@ -404,7 +406,7 @@ impl Rows {
         }
     }
 
-    /// Adds which range an offer lacks a parameter of, if it weighs nothing.
+    /// Adds the range that an offer of weight 0 lacks a parameter of, if there is one.
     fn push_lacking(&mut self, ranges: &[Mime], weight: u16, offer: &Mime) -> Result<(), AllocError>
         ensures { OnOk result (vec_items self.new.text ≡ vec_items self.old.text
             ++ lacking_remark (map (λ range. range.media) ranges.now) weight offer.now.media) }
@@ -418,7 +420,8 @@ impl Rows {
         }
     }
 
-    /// Adds a range's place, from 1, and the range, between two strings.
+    /// Adds the place, counted from 1, and the text of the range at a position, between two strings. Adds nothing if there is no such
+    /// range.
     fn push_place(
         &mut self,
         before: &str,
@@ -440,7 +443,7 @@ impl Rows {
         self.push(after)
     }
 
-    /// Adds the row that says which offer is the best, if there are offers.
+    /// Adds the row of the best offer, or `406 Not Acceptable` if there is none. Adds nothing if there are no offers.
     fn push_best(&mut self, offers: &[Mime], best: Option<&Mime>) -> Result<(), AllocError>
         ensures { OnOk result (vec_items self.new.text ≡ vec_items self.old.text
             ++ best_rows (map (λ offer. offer.media) offers.now) (option_map (λ best. best.now.media) best.entry)) }
@@ -454,7 +457,7 @@ impl Rows {
         }
     }
 
-    /// Adds the row of an input that is cut off, if it is.
+    /// Adds a row if the input is cut off.
     fn push_cut(&mut self, is_cut: bool) -> Result<(), AllocError>
         ensures { OnOk result (vec_items self.new.text ≡ vec_items self.old.text ++ cut_row is_cut) }
     {
@@ -482,7 +485,8 @@ impl Rows {
     }
 }
 
-/// Returns whether offers are chosen under a head with these lines of `Accept`.
+/// Returns `true` if offers are chosen under a head with these lines of `Accept`: there are lines, or no choice was made before the last
+/// head.
 fn chooses(lines: &[Vec<u8>], before: Option<bool>, is_last: bool) -> bool
     ensures { result ≡ chooses (map vec_items lines.now) before is_last }
 {
@@ -504,7 +508,7 @@ fn fault_place(value: &[u8], error: FieldError) -> (usize, &'static str)
     }
 }
 
-/// Returns how a byte is shown that may be any.
+/// Returns a byte, or a dot if the byte isn't printable ASCII.
 fn shown(byte: u8) -> u8
     ensures { result ≡ shown_byte byte }
 {
@@ -515,7 +519,7 @@ fn shown(byte: u8) -> u8
     }
 }
 
-/// Returns a weight in thousandths with three decimals.
+/// Returns the text of a weight with three decimals. `weight` is in thousandths.
 fn decimals(weight: u16) -> [u8; 5]
     ensures { result ≡ weight_text weight }
 {
@@ -535,7 +539,7 @@ fn digit(number: u16) -> u8
     b'0' + (number % 10) as u8
 }
 
-/// Returns a remark on a range's `q`, if it is no weight.
+/// Returns a remark if a range's `q` isn't a weight, and an empty string otherwise.
 fn weight_remark(range: &Mime) -> &'static str
     ensures { result.now ≡ weight_remark range.now.media }
 {
@@ -546,7 +550,7 @@ fn weight_remark(range: &Mime) -> &'static str
     }
 }
 
-/// Returns the best of the offers, if one is acceptable.
+/// Returns the best offer, or `None` if no offer is acceptable.
 fn best_of<'o>(offers: &'o [Mime], ranking: &[RankedOffer]) -> Option<&'o Mime>
     ensures { option_map (λ best. best.now.media) result ≡ best_of (map (λ offer. offer.media) offers.now) ranking.now }
 {
@@ -557,7 +561,7 @@ fn best_of<'o>(offers: &'o [Mime], ranking: &[RankedOffer]) -> Option<&'o Mime>
     offers.get(first.offer)
 }
 
-/// Returns whether an offer is acceptable, or there is none.
+/// Returns `true` if there is a best offer, or there are no offers.
 fn is_acceptable(offers: &[Mime], best: Option<&Mime>) -> bool
     ensures { result ≡ is_acceptable (map (λ offer. offer.media) offers.now) (option_map (λ best. best.now.media) best.entry) }
 {

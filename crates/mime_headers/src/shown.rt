@@ -1,4 +1,4 @@
-//! The report as a terminal may have it.
+//! The report without control characters, as a terminal can print it.
 
 ghost use Rattle.std.specs.Prelude.{◌≡◌, IfOk};
 ghost use Rattle.std.specs.List.{list_any};
@@ -8,7 +8,8 @@ ghost use Rattle.mime_headers.specs.Shown.{control_len, without_controls};
 
 use std::alloc::{AllocError, Global};
 
-/// Returns the number of bytes of the control character at the start of these bytes, or 0 if there is none.
+/// Returns the number of bytes of the control character at the start of these bytes, or 0 if there is none. A line feed isn't one here, but
+/// a character that turns the direction of text is.
 fn control_len(bytes: &[u8]) -> usize
     ensures { result ≡ control_len bytes.now }
 {
@@ -21,7 +22,8 @@ fn control_len(bytes: &[u8]) -> usize
     }
 }
 
-/// Returns `true` if some of these bytes may begin a control character. Without an early exit, several are tested at a time.
+/// Returns `true` if some of these bytes may begin a control character. The loop has no early exit, so that several bytes are tested at a
+/// time.
 fn may_have_controls(bytes: &[u8]) -> bool
     ensures { result ≡ list_any begins_control bytes.now }
 {
@@ -32,7 +34,7 @@ fn may_have_controls(bytes: &[u8]) -> bool
     found
 }
 
-/// Bytes with a dot for each control character.
+/// Returns bytes with a dot in place of each control character.
 pub(crate) fn without_controls(alloc: Global, bytes: Vec<u8>) -> Result<Vec<u8>, AllocError>
     ensures { IfOk result (λ text. vec_items text ≡ without_controls (vec_items bytes)) }
 {
@@ -44,7 +46,7 @@ pub(crate) fn without_controls(alloc: Global, bytes: Vec<u8>) -> Result<Vec<u8>,
     }
 }
 
-/// A copy of bytes with a dot for each control character.
+/// Returns a copy of bytes with a dot in place of each control character.
 fn dotted(alloc: Global, bytes: &[u8]) -> Result<Vec<u8>, AllocError>
     ensures { IfOk result (λ text. vec_items text ≡ without_controls bytes.now) }
 {

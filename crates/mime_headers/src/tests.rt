@@ -1,4 +1,4 @@
-//! Which calls a run makes, which no clause says. The reports on heads are data: vectors/ and tools/program.
+//! Tests of the calls that a run makes, which no clause states. The reports on heads are tested by vectors/ and tools/program.
 
 use crate::{Verdict, run};
 use mime_io::{Device, RunError};
@@ -10,8 +10,8 @@ const HEAD: &[u8] = b"Accept: a/b\n\n";
 
 const REPORT: &[u8] = b"no Content-Type\nAccept 1.000 a/b\n";
 
-/// Takes these calls, one after another: `r` is a read that gives the head, `e` one at the end, `w` a write of the report at once, `f` a
-/// flush, and `x` any call that fails.
+/// A source or a sink that expects these calls in order: `r` is a read that returns the head, `e` a read at the end, `w` a write of the
+/// whole report, `f` a flush, and `x` a call of any kind that fails.
 #[derive(Drop)]
 struct Calls {
     left: &'static [u8],
@@ -20,7 +20,7 @@ struct Calls {
 }
 
 impl Calls {
-    /// Takes the next call if it is this one.
+    /// Removes the next expected call if it is `call` or fails.
     fn take(&mut self, call: u8) -> io::Result<()> {
         match self.left.split_first() {
             Some((next, left)) if *next == call || *next == b'x' => {

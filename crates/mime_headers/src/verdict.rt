@@ -1,10 +1,10 @@
-//! The verdict on a head and on offers.
+//! The verdict on heads and offers.
 
-/// Whether each `Content-Type` is read, and one of the offers is acceptable.
+/// A verdict on all `Content-Type` fields of an input, and on the offers.
 #[derive(Clone, Copy, PartialEq, Eq, Debug)]
 pub enum Verdict {
-    /// Each is, and an offer weighs more than 0, or there is none.
+    /// Each `Content-Type` is accepted. An offer weighs more than 0, or there are no offers.
     Acceptable,
-    /// A `Content-Type` is rejected, or there are offers and each weighs 0: the answer is 406 (RFC 9110, 15.5.7).
+    /// A `Content-Type` is rejected, or there are offers and each weighs 0. A server answers the latter with 406 (RFC 9110, 15.5.7).
     NotAcceptable,
 }
