@@ -10,7 +10,7 @@ ghost use Rattle.mime_headers.specs.Head.{without_mark, bare_lines, is_indented,
 use mime_io::first_line;
 use std::alloc::{AllocError, Global};
 
-/// Returns a line without the carriage return of its end.
+/// Returns a line without the carriage return at its end.
 fn unreturned(line: &[u8]) -> &[u8]
     ensures { result.now ≡ strip_carriage_return line.now }
 {
@@ -20,7 +20,7 @@ fn unreturned(line: &[u8]) -> &[u8]
     }
 }
 
-/// Returns a line without the mark that `curl -v` writes before it.
+/// Returns a line without the mark that `curl -v` writes before it, and without one space after the mark.
 fn unmarked(line: &[u8]) -> &[u8]
     ensures { result.now ≡ without_mark line.now }
 {
@@ -31,7 +31,7 @@ fn unmarked(line: &[u8]) -> &[u8]
     }
 }
 
-/// Returns the first line of an input, without its end and its mark, and the rest.
+/// Returns the first line of an input, without its line ending and its mark, and the rest of the input.
 fn bare_line(input: &[u8]) -> Option<(&[u8], &[u8])>
     ensures lines { MatchOption result (bare_lines input.now ≡ []) (λ cut. bare_lines input.now ≡ cut.0.now ∷ bare_lines cut.1.now) }
     ensures shorter { IfSome result (λ cut. length cut.1.now < length input.now) }
@@ -40,14 +40,14 @@ fn bare_line(input: &[u8]) -> Option<(&[u8], &[u8])>
     Some((unmarked(unreturned(line)), rest))
 }
 
-/// Returns whether a byte is white space.
+/// Returns `true` if a byte is white space.
 fn is_space(byte: u8) -> bool
     ensures { result ≡ is_space byte }
 {
     byte == b' ' || byte == b'\t'
 }
 
-/// Returns bytes without the white space before them.
+/// Returns bytes without the white space at their start.
 fn trim_start(bytes: &[u8]) -> &[u8]
     ensures { result.now ≡ trim_start bytes.now }
 {
@@ -61,7 +61,7 @@ fn trim_start(bytes: &[u8]) -> &[u8]
     text
 }
 
-/// Returns bytes without the white space after them.
+/// Returns bytes without the white space at their end.
 fn trim_end(bytes: &[u8]) -> &[u8]
     ensures { result.now ≡ trim_end bytes.now }
 {
@@ -75,28 +75,28 @@ fn trim_end(bytes: &[u8]) -> &[u8]
     text
 }
 
-/// Returns bytes without the white space around them.
+/// Returns bytes without the white space at their start and end.
 pub(crate) fn trimmed(bytes: &[u8]) -> &[u8]
     ensures { result.now ≡ trimmed bytes.now }
 {
     trim_end(trim_start(bytes))
 }
 
-/// Returns whether a line goes on with the field before it.
+/// Returns `true` if a line continues the field before it.
 fn goes_on(line: &[u8]) -> bool
     ensures { result ≡ goes_on line.now }
 {
     matches!(line, [b' ' | b'\t', ..])
 }
 
-/// Returns whether a line begins with a label, in any case.
+/// Returns `true` if a line begins with a label, ignoring ASCII case.
 fn begins(label: &[u8], line: &[u8]) -> bool
     ensures { result ≡ begins label.now line.now }
 {
     line.len() >= label.len() && line[..label.len()].eq_ignore_ascii_case(label)
 }
 
-/// Adds to a field's value what the lines after it add.
+/// Adds to a field's value those of the first lines that continue it, each trimmed and after one space.
 fn push_continued(value: &mut Vec<u8>, lines: &[&[u8]]) -> Result<(), AllocError>
     ensures { OnOk result (vec_items value.new ≡ vec_items value.old ++ continued (map (λ line. line.now) lines.now)) }
 {
@@ -110,7 +110,7 @@ fn push_continued(value: &mut Vec<u8>, lines: &[&[u8]]) -> Result<(), AllocError
     Ok(())
 }
 
-/// Returns a field's value, which begins in its line and goes on in those after it.
+/// Returns a field's value, which begins with `begin` and may continue in the lines `after`.
 fn whole_value(alloc: Global, begin: &[u8], after: &[&[u8]]) -> Result<Vec<u8>, AllocError>
     ensures { IfOk result (λ value. vec_items value ≡ trimmed begin.now ++ continued (map (λ line. line.now) after.now)) }
 {
@@ -119,7 +119,7 @@ fn whole_value(alloc: Global, begin: &[u8], after: &[&[u8]]) -> Result<Vec<u8>, 
     Ok(value)
 }
 
-/// Returns the values of a field in a head, in their order. A label is a field's name and a colon.
+/// Returns the values of a field in a head, in order. `label` is the field's name and a colon.
 pub(crate) fn values_of(
     alloc: Global,
     label: &[u8],
@@ -136,14 +136,14 @@ pub(crate) fn values_of(
     Ok(values)
 }
 
-/// Returns whether a line begins a head that is indented, as `wget -S` prints it.
+/// Returns `true` if a line begins an indented head, as `wget -S` prints it.
 fn is_indented(line: &[u8]) -> bool
     ensures { result ≡ is_indented line.now }
 {
     begins(b"  http/", line)
 }
 
-/// Returns a line of a head without the spaces by which the head is indented, if it is.
+/// Returns a line of a head, without two spaces at its start if the head is indented.
 fn unindented(indented: bool, line: &[u8]) -> &[u8]
     ensures { result.now ≡ without_indent indented line.now }
 {
@@ -260,7 +260,7 @@ pub(crate) fn next_head<'a>(
     }
 }
 
-/// Returns an input from its first line on that begins a head, if there is one.
+/// Returns the input from the first line that begins a head, or `None` if no line does.
 fn from_status(input: &[u8]) -> Option<&[u8]>
     ensures lines { MatchOption result (from_status (bare_lines input.now) ≡ [])
         (λ next. (from_status (bare_lines input.now) ≡ bare_lines next.now) × (bare_lines next.now ≢ [])) }
@@ -276,7 +276,7 @@ fn from_status(input: &[u8]) -> Option<&[u8]>
     None
 }
 
-/// Returns what a head is called.
+/// Returns the title of a head: its first line that doesn't begin with `*`, as curl's remarks do. Returns an empty title if there is none.
 pub(crate) fn title_of<'a>(head: &[&'a [u8]]) -> &'a [u8]
     ensures { result.now ≡ title_of (map (λ line. line.now) head.now) }
 {
@@ -288,14 +288,14 @@ pub(crate) fn title_of<'a>(head: &[&'a [u8]]) -> &'a [u8]
     &[]
 }
 
-/// Returns whether bytes begin with a colon.
+/// Returns `true` if bytes begin with a colon.
 fn is_colon_first(bytes: &[u8]) -> bool
     ensures { result ≡ is_colon_first bytes.now }
 {
     matches!(bytes, [b':', ..])
 }
 
-/// Returns whether a line has a field's name and then white space before a colon.
+/// Returns `true` if a line begins with a field's name, white space and a colon.
 pub(crate) fn is_spaced(name: &[u8], line: &[u8]) -> bool
     ensures { result ≡ is_spaced name.now line.now }
 {

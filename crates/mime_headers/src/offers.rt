@@ -21,7 +21,7 @@ pub(crate) enum BadOffer {
     Fault(String, FieldError),
 }
 
-/// Returns the offers that the arguments name, each a media type as a header has it. The first argument is the program's name.
+/// Returns the offers that the arguments name, each a media type as in a header. Skips the first argument, the program's name.
 pub(crate) fn read_offers(alloc: Global, mut arguments: Args) -> Result<Vec<Mime>, BadOffer>
     ensures { MatchResult result
         (λ offers. AreOffers (map string_bytes (drop 1 (take (into_iter_len arguments) (into_iter_items arguments)))) []

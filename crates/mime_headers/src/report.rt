@@ -145,8 +145,8 @@ impl Rows {
         }
     }
 
-    /// Adds the rows of the `Accept` lines and of the offers, if `is_here`. Returns whether this choice had an acceptable offer or no
-    /// offers, or returns `before` if not `is_here`.
+    /// Adds the rows of the `Accept` lines and of the offers, if `is_here`, and returns whether an offer is acceptable or there are none.
+    /// Otherwise, returns `before`.
     fn push_choice(
         &mut self,
         lines: &[Vec<u8>],
@@ -485,16 +485,16 @@ impl Rows {
     }
 }
 
-/// Returns `true` if offers are chosen under a head with these lines of `Accept`: there are lines, or no choice was made before the last
-/// head.
+/// Returns `true` if offers are chosen under a head with these lines of `Accept`: there are lines, or it is the last head and `before` is
+/// `None`.
 fn chooses(lines: &[Vec<u8>], before: Option<bool>, is_last: bool) -> bool
     ensures { result ≡ chooses (map vec_items lines.now) before is_last }
 {
     !lines.is_empty() || (is_last && before.is_none())
 }
 
-/// Returns the position of the byte at fault, or the value's length if something is missing at its end, and a remark if that byte begins a
-/// comment.
+/// Returns the position of the byte at fault, or the value's length if something is missing at its end. Also returns a remark, which is
+/// empty unless that byte begins a comment.
 fn fault_place(value: &[u8], error: FieldError) -> (usize, &'static str)
     ensures { (result.0, result.1.now) ≡ fault_place value.now error }
 {
