@@ -1,5 +1,5 @@
 -- The names that most proofs of a header's value cite, passed on from one place. Declares nothing.
-pub use Rattle.mime.proofs.HandedOut.{IsOpenContent, awaits_after, continues, takes_all, AreTokenBytes-from_token, IsContent-taken, IsToken-lowered, accepted_or_rejected, content-from_token, in_ranges, length-lowered, list_all-lowered, list_all-wider, lowered-lowered, lowered_value-either, lowered_value-lowered, one_reading, pairs_of_tail-lowered, slice_get-prefix, stopped-from_walk, kept_is_read, by_option, Begun, ClosedParameters, awaits_after-append, grow, BegunList, list_at, not_viable-at_dead, one_fault, tree_of, viable-from_walk, walk, walk-accepted, walk_from}
+pub use Rattle.mime.proofs.HandedOut.{IsContent-closed, IsOpenContent-push, accepted-from_walk, closed-letter, content-awaits, content-closed, content-taken, dead-from_stop, lowered_pair, regroup, rejected-from_fault, stop-from_walk, takes_all-any, with_closed, IsOpenContent, awaits_after, continues, takes_all, AreTokenBytes-from_token, IsContent-taken, IsToken-lowered, accepted_or_rejected, content-from_token, in_ranges, length-lowered, list_all-lowered, list_all-wider, lowered-lowered, lowered_value-either, lowered_value-lowered, one_reading, pairs_of_tail-lowered, slice_get-prefix, stopped-from_walk, kept_is_read, by_option, Begun, ClosedParameters, awaits_after-append, grow, BegunList, list_at, not_viable-at_dead, one_fault, tree_of, viable-from_walk, walk, walk-accepted, walk_from}
 unfoldable pub use Rattle.mime.specs.Bytes.{is_quoted_byte, is_token_byte}
 pub use Rattle.mime.specs.Faults.{EndsIn, Explains, completion_of, last_byte_of, IsDeadAt}
 pub use Rattle.mime.specs.Grammar.{AreParameters, AreSpaces, AreTokenBytes, IsContent, IsParameter, IsToken, Parameter, Parameters, SyntaxTree, Tail, blank, final, is_space, listed, more, no_byte, no_list, plain, quoted, quoted_pair, text_byte, text_of, text_of_list, text_of_parameter, text_of_tail}
@@ -22,20 +22,22 @@ pub use Rattle.mime_http.specs.{Boundary.IsBoundary, Boundary.IsBoundaryOf, Boun
 pub use Rattle.std.proofs.Common.{Bool, Bor, Err, List, None, Ok, Option, Some, [], ap, append-nil, append_assoc, ap₂, arith, cond, drop, false, get_or, inl, inr, is_some, length, length-append, length-drop, map, refl, replicate, rules, string_bytes, subst, suc, sym, take, true, w8, zero, ℕ, ⊎_elim, ◌%◌, ◌*◌, ◌++◌, ◌+◌, ◌-◌, ◌/◌, ◌<◌, ◌==◌, ◌^◌, ◌||◌, ◌∙◌, ◌∷◌, ◌≡◌, ◌≢◌, ◌≤◌, ◌⊎◌}
 pub use Rattle.std.proofs.Math.ListN.{drop_of_length-le}
 pub use Rattle.std.proofs.Math.Seq.{drop-append-add, drop-append_seam, drop-cons, drop-length, take-add, take-append-add, take-append_seam, take-length}
-pub use Rattle.std.proofs.lemmas.Bool.{and_from, and_parts, cases_Bool, cases_lt, cond_both, eqb-true, false_from_ne_true, ne_eqb, true≢false}
+pub use Rattle.std.proofs.lemmas.Bool.{not-true, and_from, and_parts, cases_Bool, cases_lt, cond_both, eqb-true, false_from_ne_true, ne_eqb, true≢false}
 pub use Rattle.std.proofs.lemmas.Cmp.{back_total, nat_cmp_total, on_total, then_total}
-pub use Rattle.std.proofs.lemmas.List.Elements.{All-contains, Contains-get_or, All-filter, All-map, All-push, Contains-append_left, Contains-append_right}
+pub use Rattle.std.proofs.lemmas.List.Elements.{All-from_recursion, recursion_from_All, All-contains, Contains-get_or, All-filter, All-map, All-push, Contains-append_left, Contains-append_right}
 pub use Rattle.std.proofs.lemmas.List.Folds.{concat-append, drop_split, list_all-append, list_all-map, list_any_at, find_at}
-pub use Rattle.std.proofs.lemmas.List.Sums.{AllPass-from_list_all, list_all-from_AllPass, prefix_len-le-length, prefix_len_stops, take_while-cons, position_or_len_is, fails_before_first, passes_at_first}
+pub use Rattle.std.proofs.lemmas.List.Sums.{prefix_len-drop_yes, AllPass-from_list_all, list_all-from_AllPass, prefix_len-le-length, prefix_len_stops, take_while-cons, position_or_len_is, fails_before_first, passes_at_first}
 pub use Rattle.std.proofs.lemmas.List.{append_cancel_right, drop-drop, drop_more, get_or-drop, get_or-map, get_or_default, get_or_past, length-map, length-take-le, map-append, nil_from_length, take_all, take_more, take_rest, append_cancel_left, take-append-drop}
 pub use Rattle.std.proofs.lemmas.Option.{MatchOption-at_some, get_or_from_slice_get, same_Some, slice_get-get_or, slice_get_within, none-some}
 pub use Rattle.std.proofs.lemmas.Simd.{length-chunk, mask_l-mod, none_from_empty_mask, tops_compared, zip2_splat_left}
-pub use Rattle.std.proofs.lemmas.Str.{IsCharBoundary-after_ascii, IsCharBoundary-before_ascii, IsUtf8-append, IsUtf8-drop, IsUtf8-from_ascii, IsUtf8-nil, IsUtf8-take}
-pub use Rattle.std.proofs.lemmas.{Bool.Decides.nat_tests, Grind.common_steps, Grind.flat_map-append, Iterator.Adapters.position_from-zero, List.FromFn.get_or-map-range_with_len, Slice.Eq.HasBytesAt, Slice.Eq.bytes_eq-Decides, Slice.Eq.text_from_reads, Str.Ascii.IsAscii-cons, Str.Ascii.IsAscii-nil, Str.Pattern.contains_char, Str.Pattern.find_char, Result.IfOk-weaker, Result.on_ok_weaker}
+pub use Rattle.std.proofs.lemmas.Str.{IsAscii-drop, IsAscii-take, IsCharBoundary-after_ascii, IsCharBoundary-before_ascii, IsUtf8-append, IsUtf8-drop, IsUtf8-from_ascii, IsUtf8-nil, IsUtf8-take}
+pub use Rattle.std.proofs.lemmas.{Result.IfErr-weaker, Result.MatchResult-weaker, Bool.Decides.nat_tests, Grind.common_steps, Grind.flat_map-append, Iterator.Adapters.position_from-zero, List.FromFn.get_or-map-range_with_len, Slice.Eq.HasBytesAt, Slice.Eq.bytes_eq-Decides, Slice.Eq.text_from_reads, Str.Ascii.IsAscii-cons, Str.Ascii.IsAscii-nil, Str.Pattern.contains_char, Str.Pattern.find_char, Result.IfOk-weaker, Result.on_ok_weaker}
 pub use Rattle.std.specs.List.{AllByRecursion, AllPairs, FoldsTo, concat, cons_option, enumerate_from, list_all, list_any, position_from, prefix_len, range_with_len, All, position_or_len}
 unfoldable pub use Rattle.std.specs.List.{IsDistinct}
 pub use Rattle.std.specs.Option.{option_cmp, option_eq, option_map, option_or}
 pub use Rattle.std.specs.Ordering.{flip_args, is_gt, is_le, is_lt, nat_cmp, on, ord_max, ordering_then, then_cmp}
-pub use Rattle.std.specs.Prelude.{Contains, IfErr, IfOk, IfSome, IsUtf8, MatchOption, OnOk, Result, bit_and, bytes_eq, codes, filter_map, find, flat_map, fold, if◌then◌else◌, min, nat_lt, not, position, slice_get, slice_index, slice_range, take_while, unwrap_or, ⊤, ◌&&◌, ◌↔◌, Decides, filter}
-pub use Rattle.std.specs.{Char.is_ascii_digit, Char.to_ascii_lowercase, Cmp.IsTotalOrder, Cmp.Lexicographic.same_text, Str.IsAscii, Vec.vec_items, declared.cmp.Ordering.Ordering, declared.cmp.Ordering.TheVariants.Equal, declared.cmp.Reverse.Reverse}
+pub use Rattle.std.specs.Prelude.{IsOk, Contains, IfErr, IfOk, IfSome, IsUtf8, MatchOption, OnOk, Result, bit_and, bytes_eq, codes, filter_map, find, flat_map, fold, if◌then◌else◌, min, nat_lt, not, position, slice_get, slice_index, slice_range, take_while, unwrap_or, ⊤, ◌&&◌, ◌↔◌, Decides, filter}
+pub use Rattle.std.specs.{Char.is_ascii_uppercase, Simd.Lanes.zip2, Char.is_ascii_digit, Char.to_ascii_lowercase, Cmp.IsTotalOrder, Cmp.Lexicographic.same_text, Str.IsAscii, Vec.vec_items, declared.cmp.Ordering.Ordering, declared.cmp.Ordering.TheVariants.Equal, declared.cmp.Reverse.Reverse}
 pub use lib.Lanes.{chunk, mask_l, top}
+pub use Rattle.mime_search.specs.Classes.{is_stop}
+pub use Rattle.std.proofs.Math.Nat.{mul-le-mul_left}

@@ -1,8 +1,6 @@
 -- What is printed of a header's value: one text, which is read as its one media type, and needs memory only if it is long.
-use Rattle.mime_http.proofs.Common.{AllByRecursion, AreTokenBytes-from_token, IsSafePair, IsToken, IsUtf8, IsUtf8-append, IsUtf8-nil, List, Parts, Reads, [], answer_of, arith, cond_both, is_token_value, length, media_of, quote_of, read, subst, text_of_pair, text_of_pairs, text_of_parts, ℕ, ◌∷◌, ◌≡◌, IsPrinted, MediaType, OneHttpReading, OnePrintedText, PrintedIsRead, anew, ap, as_it_stands, one_reading, sym, trimmed, with_pairs, ◌∙◌, kept_is_read, HttpReads, Err, HttpExplains, IfErr, IsAccepted, IsHttpMediaType, NeedsMemory, Parameters, Ok, Result, SyntaxTree, Tail, append-nil, blank, codes, essence_of, is_token_byte, final, inl, inr, kept_text, length-append, listed, lowered_list, lowered_tail, lowered_tree, more, no_list, pairs_of_tail, plain, quoted, refl, text_of, text_of_list, value_of, ⊎_elim, ◌++◌, ◌+◌, ◌<◌, ◌≤◌, ◌⊎◌}
-use Rattle.mime_http.proofs.{Around.put_ascii, Around.put_one, Around.token_bytes_ascii, ReadBack.answered_is_http, ReadForth.AreFound, ReadForth.AreUtf8, ReadForth.http_is_answered, Written.length-pairs, Written.lengths, Written.parts_are_read, PlainIsHttp.plain_is_http, Around.reads_around, ReadFaults.no_fault}
-use Rattle.std.specs.Prelude.{IsOk}
-use Rattle.mime_http.specs.{declared.value.FieldError.FieldError, declared.value.FieldError.TheVariants.NotUtf8, declared.value.FieldError.TheVariants.Invalid}
+use Rattle.mime_http.proofs.Common.{AllByRecursion, AreTokenBytes-from_token, IsSafePair, IsToken, IsUtf8, IsUtf8-append, IsUtf8-nil, List, Parts, Reads, [], answer_of, arith, cond_both, is_token_value, length, media_of, quote_of, read, subst, text_of_pair, text_of_pairs, text_of_parts, ℕ, ◌∷◌, ◌≡◌, IsPrinted, MediaType, OneHttpReading, OnePrintedText, PrintedIsRead, anew, ap, as_it_stands, one_reading, sym, trimmed, with_pairs, ◌∙◌, kept_is_read, HttpReads, Err, HttpExplains, IfErr, IsAccepted, IsHttpMediaType, NeedsMemory, Parameters, Ok, Result, SyntaxTree, Tail, append-nil, blank, codes, essence_of, is_token_byte, final, inl, inr, kept_text, length-append, listed, lowered_list, lowered_tail, lowered_tree, more, no_list, pairs_of_tail, plain, quoted, refl, text_of, text_of_list, value_of, ⊎_elim, ◌++◌, ◌+◌, ◌<◌, ◌≤◌, ◌⊎◌, IsOk}
+use Rattle.mime_http.{proofs.Around.put_ascii, proofs.Around.put_one, proofs.Around.token_bytes_ascii, proofs.ReadBack.answered_is_http, proofs.ReadForth.AreFound, proofs.ReadForth.AreUtf8, proofs.ReadForth.http_is_answered, proofs.Written.length-pairs, proofs.Written.lengths, proofs.Written.parts_are_read, proofs.PlainIsHttp.plain_is_http, proofs.Around.reads_around, proofs.ReadFaults.no_fault, specs.declared.value.FieldError.FieldError, specs.declared.value.FieldError.TheVariants.NotUtf8, specs.declared.value.FieldError.TheVariants.Invalid}
 use Rattle.mime_http.specs.declared.value.FieldError.TheVariants as field
 
 -- ---- what is written anew

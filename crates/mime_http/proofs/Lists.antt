@@ -1,8 +1,7 @@
 -- Lists as HTTP writes them are read as their elements, and what is read with nothing bad are such lists.
 use Rattle.mime_http.proofs.Common.{At, Outside, State, Parts, Option, MatchOption, MatchOption-at_some, MissingSlash, by_option, next, ends, after, answer_of, answer_from, answer_at_end, read, before_type, in_subtype, in_value, in_string, is_quoted_byte, ◌+◌, AreBetweenCommas, AreElements, AreSame, AreSorted, AreSpaces, BadIsAlone, BeginsPiece, HttpListsAreRead, HttpReads, IsAccepted, IsHttpMediaType, IsPiece, IsPrinted, List, MediaType, OneHeader, ReadAreHttpLists, [], a_bad, a_range, accepted_or_rejected, and_parts, anew, ap, append-nil, arith, as_it_stands, comma, element, false, is_space, is_token_byte, line_end, nat_tests, no_line, no_text, nothing, piece_byte, piece_end, refl, subst, sym, trimmed, with_pairs, without_kept, ℕ, ⊎_elim, ⊤, ◌++◌, ◌∙◌, ◌∷◌, ◌≡◌, Equals, Paired, awaits_after, awaits_after-append, cases_Bool, if◌then◌else◌}
-use Rattle.mime_http.specs.{HttpList.blank, LineCut.Quoted}
+use Rattle.mime_http.{specs.HttpList.blank, specs.LineCut.Quoted, proofs.Around.reads_around, proofs.Around.white_more, proofs.HttpLaws.one_printed_text, proofs.HttpLaws.same_anew, proofs.PlainIsHttp.plain_is_http, proofs.Takes.sorted_both, proofs.Cuts.IsOutside, proofs.Cuts.IsWhole, proofs.Cuts.is_piece, proofs.Cuts.only_cut, proofs.Cuts.opens_none, proofs.ReadFaults.rejected_is_none, proofs.ReadForth.http_is_answered, proofs.Runs.keeps_before, proofs.Runs.over_white}
 use Rattle.mime_http.specs.ListLaws.{no_text as no_element}
-use Rattle.mime_http.proofs.{Around.reads_around, Around.white_more, HttpLaws.one_printed_text, HttpLaws.same_anew, PlainIsHttp.plain_is_http, Takes.sorted_both, Cuts.IsOutside, Cuts.IsWhole, Cuts.is_piece, Cuts.only_cut, Cuts.opens_none, ReadFaults.rejected_is_none, ReadForth.http_is_answered, Runs.keeps_before, Runs.over_white}
 
 -- ---- what HTTP writes has no comma outside strings
 

@@ -1,7 +1,6 @@
 -- Worked facts of the pages `HttpList` and `Weight`: what is true of a text, and what is false.
 use Rattle.mime_http.proofs.Common.{IsUtf8, IsUtf8-nil, append-nil, Reads, text_of_parts, AreHttpLists, AreSorted, Header, IsHeader, IsHttpMediaType, IsPiece, IsQvalue, List, MediaType, Parts, [], a_range, answer_of, ap, arith, as_it_stands, codes, cut, get_or, is_token_byte, length, map, media_of, no_text, read, refl, subst, sym, thousandths_of, trimmed, true≢false, two_digits, ℕ, ◌∷◌, ◌≡◌}
-use Rattle.mime_http.specs.HttpList.{blank}
-use Rattle.mime_http.proofs.{Around.AreAscii, Around.put_ascii, Numbers.weight_is_number, Cuts.cut_of_piece, Cuts.are_cut, Lists.one_header, Lists.http_lists_are_read, Lists.read_are_http_lists, Lists.bad_is_alone, HttpLaws.written_reads, ReadBack.answered_is_http, ReadFaults.rejected_is_none}
+use Rattle.mime_http.{specs.HttpList.blank, proofs.Around.AreAscii, proofs.Around.put_ascii, proofs.Numbers.weight_is_number, proofs.Cuts.cut_of_piece, proofs.Cuts.are_cut, proofs.Lists.one_header, proofs.Lists.http_lists_are_read, proofs.Lists.read_are_http_lists, proofs.Lists.bad_is_alone, proofs.HttpLaws.written_reads, proofs.ReadBack.answered_is_http, proofs.ReadFaults.rejected_is_none}
 
 -- ---- weights (RFC 9110, 12.4.2)
 

@@ -1,7 +1,6 @@
 -- Worked facts of the page `Ranking`: the weights that RFC 9110 allows, what an offer lacks, and what ranges give offers.
 use Rattle.mime_http.proofs.Common.{Contains, None, Some, [], ap, arith, codes, false, length, length-map, refl, suc, true, zero, ℕ, ◌<◌, ◌∷◌, ◌≡◌}
-use Rattle.mime_http.specs.{Ranges.merit_at, Ranking.IsRanking, Ranking.is_lacking, Ranking.is_qvalue, Ranking.ranked_as}
-use Rattle.mime_http.proofs.RangesFacts.{all, media}
+use Rattle.mime_http.{specs.Ranges.merit_at, specs.Ranking.IsRanking, specs.Ranking.is_lacking, specs.Ranking.is_qvalue, specs.Ranking.ranked_as, proofs.RangesFacts.all, proofs.RangesFacts.media}
 
 -- strings that are weights (RFC 9110, 12.4.2), and others
 qvalues :

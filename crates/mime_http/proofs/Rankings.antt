@@ -1,9 +1,7 @@
 -- Offers that are sorted by their ranks are in order, each with what the ranges give it; and the first entry of a line.
 use Rattle.mime_http.proofs.Common.{AllPairs, None, Option, Some, best_offer, inl, inr, nat_lt, nat_tests, zero, ⊎_elim, ◌⊎◌, ◌↔◌, if◌then◌else◌, All-contains, AreBetweenCommas, BeginsPiece, IsPiece, List, MediaType, Reverse, Rank, [], ap, append-nil, append_cancel_left, arith, comma, drop, drop_more, drop_of_length-le, get_or, get_or-map, length, length-drop, length-map, line_end, map, merit, no_line, refl, subst, suc, sym, take, take-append-drop, take_all, ℕ, ⊤, ◌+◌, ◌++◌, ◌-◌, ◌<◌, ◌≡◌, ◌≤◌, ◌∙◌, ◌∷◌, Contains, position, true, false, cases_Bool, Outside}
-use Rattle.std.specs.{List.All, List.Sorted.IsPermutation, List.Sorted.IsSorted}
-use Rattle.std.proofs.lemmas.{List.Elements.All-map, List.Sorted.IsPermutation-map, List.Sorted.Contains-permutation}
-use Rattle.mime_http.specs.{LineCut.cut, LineCut.cut_after, Ranking.IsRanking, Ranking.ranked_as, declared.ranking.RankedOffer.RankedOffer}
-use Rattle.mime_http.proofs.{Cuts.are_cut, Cuts.cut_at_end, Cuts.end_on, Highest.is_best, Highest.IsHighest, Highest.best_is_found, Highest.none_is_best, Highest.none_is_found, Order.ComesBefore, Order.IsAny, Order.Ranked, Order.offer_cmp, Order.rank_at, Order.sorted_best_first, Order.stand}
+use Rattle.std.{specs.List.All, specs.List.Sorted.IsPermutation, specs.List.Sorted.IsSorted, proofs.lemmas.List.Elements.All-map, proofs.lemmas.List.Sorted.IsPermutation-map, proofs.lemmas.List.Sorted.Contains-permutation}
+use Rattle.mime_http.{specs.LineCut.cut, specs.LineCut.cut_after, specs.Ranking.IsRanking, specs.Ranking.ranked_as, specs.declared.ranking.RankedOffer.RankedOffer, proofs.Cuts.are_cut, proofs.Cuts.cut_at_end, proofs.Cuts.end_on, proofs.Highest.is_best, proofs.Highest.IsHighest, proofs.Highest.best_is_found, proofs.Highest.none_is_best, proofs.Highest.none_is_found, proofs.Order.ComesBefore, proofs.Order.IsAny, proofs.Order.Ranked, proofs.Order.offer_cmp, proofs.Order.rank_at, proofs.Order.sorted_best_first, proofs.Order.stand}
 
 -- what the next item gives is the first of what is left
 pub next_mapped : {X Y : Type 0} (f : X → Y) (xs : List X) (at : ℕ) (x : X) → at < length xs → x ≡ get_or xs at x

@@ -1,8 +1,6 @@
 -- What is taken of lines, piece by piece.
-use Rattle.mime_http.proofs.Common.{AreKept, AreSorted, AreSpaces, Bool, Header, HttpReads, IsHeader, IsHttpMediaType, IsPrinted, IsAscii, IsUtf8, List, MediaType, OnOk, Outside, Result, Takes, [], a_bad, a_range, ap, append-nil, append_assoc, cut, cut_after, arith, drop, drop-append_seam, drop_more, drop_of_length-le, flat_map, get_or, if◌then◌else◌, length, lines_or_any, no_text, on_ok_weaker, refl, subst, sym, take, take-append_seam, trimmed, ℕ, ◌++◌, ◌+◌, ◌-◌, ◌<◌, ◌∙◌, ◌∷◌, ◌≡◌, ◌≤◌}
-use Rattle.mime_http.specs.HttpList.{blank}
-use Rattle.std.proofs.lemmas.Str.{IsAscii-drop, IsAscii-take}
-use Rattle.mime_http.proofs.{Around.white_around, Cuts.are_cut, Cuts.only_cut, Cuts.cut_at_end, Cuts.end_on, Around.trimmed_from_blank}
+use Rattle.mime_http.proofs.Common.{AreKept, AreSorted, AreSpaces, Bool, Header, HttpReads, IsHeader, IsHttpMediaType, IsPrinted, IsAscii, IsUtf8, List, MediaType, OnOk, Outside, Result, Takes, [], a_bad, a_range, ap, append-nil, append_assoc, cut, cut_after, arith, drop, drop-append_seam, drop_more, drop_of_length-le, flat_map, get_or, if◌then◌else◌, length, lines_or_any, no_text, on_ok_weaker, refl, subst, sym, take, take-append_seam, trimmed, ℕ, ◌++◌, ◌+◌, ◌-◌, ◌<◌, ◌∙◌, ◌∷◌, ◌≡◌, ◌≤◌, IsAscii-drop, IsAscii-take}
+use Rattle.mime_http.{specs.HttpList.blank, proofs.Around.white_around, proofs.Cuts.are_cut, proofs.Cuts.only_cut, proofs.Cuts.cut_at_end, proofs.Cuts.end_on, proofs.Around.trimmed_from_blank}
 
 -- two runs of texts are sorted one after the other
 pub sorted_both : {texts more : List (List ℕ)} {ranges others : List MediaType} {bad poor : List (List ℕ)} → AreSorted texts ranges bad

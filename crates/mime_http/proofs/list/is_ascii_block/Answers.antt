@@ -1,6 +1,5 @@
 -- No bit is set, so no byte is past ASCII.
-use Rattle.mime_http.proofs.Common.{List, ap, arith, chunk, cond, length, length-chunk, length-map, map, mask_l, mask_l-mod, nat_lt, nat_tests, none_from_empty_mask, replicate, sym, top, tops_compared, w8, zip2_splat_left, ℕ, ◌%◌, ◌+◌, ◌^◌, ◌∙◌, ◌≡◌, ◌≤◌}
-use Rattle.std.specs.Simd.Lanes.{zip2}
+use Rattle.mime_http.proofs.Common.{List, ap, arith, chunk, cond, length, length-chunk, length-map, map, mask_l, mask_l-mod, nat_lt, nat_tests, none_from_empty_mask, replicate, sym, top, tops_compared, w8, zip2_splat_left, ℕ, ◌%◌, ◌+◌, ◌^◌, ◌∙◌, ◌≡◌, ◌≤◌, zip2}
 use Rattle.mime_http.proofs.list.is_ascii_block.Goals as goal
 
 -- the bits of the bytes past ASCII, as they are computed

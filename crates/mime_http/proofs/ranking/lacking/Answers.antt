@@ -1,7 +1,6 @@
 -- The next range is the first of those that are left.
 use Rattle.mime_http.proofs.Common.{arith, drop_of_length-le, length-map, map, position_from-zero, sym, ◌∙◌}
-use Rattle.mime_http.specs.Ranking.{is_lacking}
-use Rattle.mime_http.proofs.Rankings.{next_mapped}
+use Rattle.mime_http.{specs.Ranking.is_lacking, proofs.Rankings.next_mapped}
 use Rattle.mime_http.proofs.ranking.lacking.Goals as goal
 
 pub loop-at-init : goal.loop-at-init

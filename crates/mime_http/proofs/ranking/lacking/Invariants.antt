@@ -1,6 +1,5 @@
 -- No range so far names the essence and demands what the offer lacks.
-use Rattle.mime_http.proofs.Common.{◌≡◌, drop, map, position}
-use Rattle.std.specs.List.{position_from}
+use Rattle.mime_http.proofs.Common.{◌≡◌, drop, map, position, position_from}
 use Rattle.mime_http.specs.Ranking.{is_lacking}
 use Rattle.mime_http.proofs.ranking.lacking.Given as goal
 

@@ -1,7 +1,6 @@
 -- The next offer is put last; sorted, they are in order.
 use Rattle.mime_http.proofs.Common.{IfOk, IfOk-weaker, List, Rank, Reverse, arith, length, length-map, map, merit, refl, subst, sym, vec_items, ℕ, ◌+◌, ◌∙◌, ◌≡◌}
-use Rattle.mime_http.specs.Ranking.{IsRanking, ranked_as}
-use Rattle.mime_http.proofs.{Highest.value_at, Order.IsAny, Order.Ranked, Order.one_ranked, Order.rank_at, Rankings.is_ranking}
+use Rattle.mime_http.{specs.Ranking.IsRanking, specs.Ranking.ranked_as, proofs.Highest.value_at, proofs.Order.IsAny, proofs.Order.Ranked, proofs.Order.one_ranked, proofs.Order.rank_at, proofs.Rankings.is_ranking}
 use Rattle.mime_http.proofs.ranking.rank_offers.Goals as goal
 
 pub loop-at-preserved : goal.loop-at-preserved

@@ -1,8 +1,6 @@
 -- A name and an equals sign are read before the value.
-use Rattle.mime_http.proofs.Common.{IsParameterAt, List, MissingEqual, after_semicolon, answer_at, ap, arith, cases_lt, in_name, in_value, is_token_byte, length, ne_eqb, next, refl, rejected, slice_index, slice_range, sym, true, true≢false, [], ℕ, ⊎_elim, ◌+◌, ◌++◌, ◌<◌, ◌==◌, ◌∙◌, ◌∷◌, ◌≡◌}
-use Rattle.std.proofs.lemmas.Result.{MatchResult-weaker}
-use Rattle.mime_http.specs.{Reader.Parts, declared.reader.Spans.Spans}
-use Rattle.mime_http.proofs.ReadAt.{IsRun, neither, one_part, over_byte, over_name, parts_joined, run_is, stuck}
+use Rattle.mime_http.proofs.Common.{IsParameterAt, List, MissingEqual, after_semicolon, answer_at, ap, arith, cases_lt, in_name, in_value, is_token_byte, length, ne_eqb, next, refl, rejected, slice_index, slice_range, sym, true, true≢false, [], ℕ, ⊎_elim, ◌+◌, ◌++◌, ◌<◌, ◌==◌, ◌∙◌, ◌∷◌, ◌≡◌, MatchResult-weaker}
+use Rattle.mime_http.{specs.Reader.Parts, specs.declared.reader.Spans.Spans, proofs.ReadAt.IsRun, proofs.ReadAt.neither, proofs.ReadAt.one_part, proofs.ReadAt.over_byte, proofs.ReadAt.over_name, proofs.ReadAt.parts_joined, proofs.ReadAt.run_is, proofs.ReadAt.stuck}
 use Rattle.mime_http.proofs.reader.parameter_at.Goals as goal
 
 -- a name that begins with a token byte has one

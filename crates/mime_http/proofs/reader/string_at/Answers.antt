@@ -1,7 +1,6 @@
 -- The quote, token bytes and more content are read; without quotes is written what is a token.
 use Rattle.mime_http.proofs.Common.{IsClosedAt, IsContent, List, answer_at, ap, ap₂, append-nil, arith, false, in_string, in_value, is_quoted_text_byte, is_token_byte, is_token_value, length, list_all-wider, next, refl, slice_index, slice_range, sym, true, [], ℕ, ◌+◌, ◌++◌, ◌<◌, ◌∙◌, ◌∷◌, ◌≡◌}
-use Rattle.mime_http.specs.Reader.{Parts}
-use Rattle.mime_http.proofs.{Contents.token_byte_text, ReadAt.IsRun, ReadAt.content_on, ReadAt.fault_after, ReadAt.no_token_value, ReadAt.one_part, ReadAt.over_byte, ReadAt.over_content, ReadAt.parts_joined, ReadAt.run_is, ReadAt.text_content, ReadAt.token_part, ReadAt.token_value, reader.string_at.Goals.else-begin-plain-via-then-begin-plain+else-plain-close, reader.string_at.Goals.else-begin-plain-via-else-begin-plain}
+use Rattle.mime_http.{specs.Reader.Parts, proofs.Contents.token_byte_text, proofs.ReadAt.IsRun, proofs.ReadAt.content_on, proofs.ReadAt.fault_after, proofs.ReadAt.no_token_value, proofs.ReadAt.one_part, proofs.ReadAt.over_byte, proofs.ReadAt.over_content, proofs.ReadAt.parts_joined, proofs.ReadAt.run_is, proofs.ReadAt.text_content, proofs.ReadAt.token_part, proofs.ReadAt.token_value, proofs.reader.string_at.Goals.else-begin-plain-via-then-begin-plain+else-plain-close, proofs.reader.string_at.Goals.else-begin-plain-via-else-begin-plain}
 use Rattle.mime_http.proofs.reader.string_at.Goals as goal
 
 -- the quote opens the string

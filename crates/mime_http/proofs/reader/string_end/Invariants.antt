@@ -1,6 +1,5 @@
 -- What stands before this position is content.
-use Rattle.mime_http.proofs.Common.{IsContent, length, ◌-◌, ◌≤◌}
-use Rattle.std.specs.Prelude.{slice_range}
+use Rattle.mime_http.proofs.Common.{IsContent, length, ◌-◌, ◌≤◌, slice_range}
 use Rattle.mime_http.proofs.reader.string_end.Given as goal
 
 abbrev pub invariant-loop-at : goal.invariant-loop-at

@@ -1,6 +1,5 @@
 -- A token byte goes on the run, and so do the bytes that a search passes.
-use Rattle.mime_http.proofs.Common.{arith, is_token_byte, sym, ◌+◌, ◌∙◌}
-use Rattle.std.proofs.lemmas.List.Sums.{prefix_len-drop_yes}
+use Rattle.mime_http.proofs.Common.{arith, is_token_byte, sym, ◌+◌, ◌∙◌, prefix_len-drop_yes}
 use Rattle.mime_http.proofs.ReadAt.{are_token_bytes, run_goes_on}
 use Rattle.mime_http.proofs.reader.token_end_far.Goals as goal
 

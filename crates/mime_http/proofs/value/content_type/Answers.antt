@@ -1,8 +1,6 @@
 -- What the library reads is what HTTP writes, with the white space around it; and a short value is always read.
-use Rattle.mime_http.proofs.Common.{HttpExplains, HttpReads, IfErr, IsPrinted, List, MediaType, OwnedMedia, Reads, ap, as_it_stands, subst, trimmed, ℕ, ◌∙◌, ◌≡◌}
-use Rattle.mime_http.proofs.{Around.reads_around, HttpLaws.error_is_memory, HttpLaws.short_has_none, HttpLaws.star_has_none, PlainIsHttp.plain_is_http}
-use Rattle.std.proofs.lemmas.Result.{IfErr-weaker}
-use Rattle.mime_http.specs.declared.value.FieldError.TheVariants.{NoMemory}
+use Rattle.mime_http.proofs.Common.{HttpExplains, HttpReads, IfErr, IsPrinted, List, MediaType, OwnedMedia, Reads, ap, as_it_stands, subst, trimmed, ℕ, ◌∙◌, ◌≡◌, IfErr-weaker}
+use Rattle.mime_http.{proofs.Around.reads_around, proofs.HttpLaws.error_is_memory, proofs.HttpLaws.short_has_none, proofs.HttpLaws.star_has_none, proofs.PlainIsHttp.plain_is_http, specs.declared.value.FieldError.TheVariants.NoMemory}
 use Rattle.mime_http.proofs.value.content_type.Goals as goal
 
 as_it_is : (value text : List ℕ) (media : MediaType) → text ≡ trimmed value → Reads text media → HttpReads value media × IsPrinted value media

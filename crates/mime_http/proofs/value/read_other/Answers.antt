@@ -1,7 +1,5 @@
 -- What is written anew of a value is read as its media type, and what a value lacks is its fault.
-use Rattle.mime_http.proofs.Common.{Explains, HttpExplains, HttpReads, IfOk-weaker, InvalidToken, IsAccepted, IsHttpFault, IsPrinted, List, MediaType, NoMemory, OwnedMedia, ParseError, Parts, answer_of, ap, arith, inl, inr, length, media_of, read, refl, subst, sym, trimmed, ℕ, ◌∙◌, ◌≡◌, ◌≢◌}
-use Rattle.std.proofs.lemmas.Result.{IfErr-weaker}
-use Rattle.mime.proofs.HandedOut.{rejected-from_fault}
+use Rattle.mime_http.proofs.Common.{Explains, HttpExplains, HttpReads, IfOk-weaker, InvalidToken, IsAccepted, IsHttpFault, IsPrinted, List, MediaType, NoMemory, OwnedMedia, ParseError, Parts, answer_of, ap, arith, inl, inr, length, media_of, read, refl, subst, sym, trimmed, ℕ, ◌∙◌, ◌≡◌, ◌≢◌, IfErr-weaker, rejected-from_fault}
 use Rattle.mime_http.specs.declared.value.FieldError.TheVariants as field
 use Rattle.mime_http.proofs.{HttpLaws.anew_needs, HttpLaws.printed_anew, HttpLaws.stands_needs, HttpLaws.stands_printed, ReadFaults.answered_fault, value.read_other.Goals.in_default-fault-2-via-in-NoMemory-fault+else-essence_str-len, value.read_other.Goals.in_default-fault-2-via-in_default-fault-2}
 use Rattle.mime_http.proofs.value.read_other.Goals as goal
