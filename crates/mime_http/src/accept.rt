@@ -15,10 +15,10 @@ use mime::{Mime, ParseError};
 use std::alloc::{AllocError, Global};
 use std::marker::Model;
 
-/// The number of ranges for which there is room at first. Few headers have more, so that ranges are seldom moved.
+/// The initial capacity of the list of ranges. Few headers have more ranges, so the list seldom grows.
 const FIRST_RANGES: usize = 8;
 
-/// What an `Accept` header accepts (RFC 9110, 12.5.1).
+/// The ranges of an `Accept` header (RFC 9110, 12.5.1), and its bad entries.
 #[derive(Drop, Debug)]
 pub struct Accept {
     ranges: Vec<Mime>,
@@ -36,7 +36,7 @@ impl Model for Accept {
 }
 
 impl Accept {
-    /// Adds an entry that is this media type.
+    /// Adds a range.
     #[inline(always)]
     fn take(&mut self, range: Mime) -> Result<(), AllocError>
         ensures { OnOk result (self.new ≡ record self.old { ranges = self.old.ranges ++ (range.media ∷ []) }) }
@@ -48,8 +48,7 @@ impl Accept {
         Ok(())
     }
 
-    /// Adds an entry that isn't a media type, without the white space around it, if bad entries are kept. It isn't inlined: few
-    /// entries are bad.
+    /// Adds a bad entry if `keeps_bad`. It isn't inlined, since few entries are bad.
     #[inline(never)]
     fn take_bad(&mut self, alloc: Global, keeps_bad: bool, entry: &[u8]) -> Result<(), AllocError>
         ensures { OnOk result (self.new
@@ -61,8 +60,8 @@ impl Accept {
         Ok(())
     }
 
-    /// Adds a piece that `mime` rejects for this fault, without the white space around it. It isn't inlined, so that the code for
-    /// pieces that `mime` accepts stays short.
+    /// Adds a piece of a line. `fault` is the fault for which `mime` rejects the piece without the white space around it. It isn't inlined,
+    /// so that the code for pieces that `mime` accepts stays short.
     #[inline(never)]
     #[tactic(auto, using(crate::proofs::Around::utf8_around))]
     fn take_rejected(
@@ -77,7 +76,7 @@ impl Accept {
         requires fault { Explains (trimmed piece.now) fault }
         ensures { OnOk result (Takes keeps_bad (piece.now ∷ []) self.old self.new) }
     {
-        // SAFETY: the white space around it is ASCII.
+        // SAFETY: the trimmed piece is UTF-8, and the white space around it is ASCII.
         let text = unsafe { str::from_utf8_unchecked(piece) };
         match read_rejected(alloc, text, &fault) {
             Ok(range) => self.take(range),
@@ -88,7 +87,7 @@ impl Accept {
         }
     }
 
-    /// Adds a piece of a line, which may be known to be ASCII, unless it is only white space.
+    /// Adds a piece of a line, unless it is only white space. If `is_ascii`, the piece is known to be ASCII.
     #[inline(always)]
     #[tactic(auto, using(crate::proofs::Takes::ascii_trimmed))]
     fn take_piece(
@@ -138,7 +137,7 @@ impl Accept {
         }
     }
 
-    /// Reads a header's lines, with the bad entries or without. It isn't inlined, so that both calls have the one loop.
+    /// Reads a header's lines. Keeps the bad entries if `keeps_bad`. It isn't inlined, so that its two callers share one copy of the loop.
     #[inline(never)]
     fn read(alloc: Global, lines: &[&[u8]], keeps_bad: bool) -> Result<Accept, AllocError>
         ensures header { IfOk result (λ accept. (header : Header) × IsHeader (map (λ line. line.now) lines.now) header
@@ -158,14 +157,15 @@ impl Accept {
         Ok(accept)
     }
 
-    /// Reads the lines of a header, which are one list (RFC 9110, 5.3 and 12.5.1). A request without the header has no line, `&[]`,
-    /// and accepts everything. Lines without a range, such as an empty one or `invalid`, accept nothing. Each line is cut at its
-    /// commas outside quoted strings; a quoted string that is open ends with its line.
+    /// Reads the lines of a header as one list (RFC 9110, 5.3 and 12.5.1). A request without the header has no lines, `&[]`, and accepts
+    /// everything. Lines without a range, such as an empty line or `invalid`, accept nothing. Each line is cut at its commas outside quoted
+    /// strings. A quoted string that isn't closed ends with its line.
     ///
-    /// It allocates the two lists, a copy of each bad entry, and what [`content_type`](crate::content_type) allocates for each range.
+    /// It allocates the lists of ranges and of bad entries, a copy of each bad entry, and what [`content_type`](crate::content_type)
+    /// allocates for each range.
     ///
     /// # Errors
-    /// `AllocError` if memory runs out, which never happens for lines of only commas and white space.
+    /// Returns `AllocError` if memory runs out, which never happens for lines of only commas and white space.
     pub fn from_lines(alloc: Global, lines: &[&[u8]]) -> Result<Accept, AllocError>
         ensures header { IfOk result (λ accept. IsHeader (map (λ line. line.now) lines.now) accept) }
         ensures nothing { IsHeader (map (λ line. line.now) lines.now) (record { ranges = []; bad = [] }) → IsOk result }
@@ -176,7 +176,7 @@ impl Accept {
     /// Reads the lines of a header as [`Accept::from_lines`] does, but doesn't keep the bad entries.
     ///
     /// # Errors
-    /// `AllocError` if memory runs out, which never happens for lines of only commas and white space.
+    /// Returns `AllocError` if memory runs out, which never happens for lines of only commas and white space.
     pub fn from_lines_without_bad(alloc: Global, lines: &[&[u8]]) -> Result<Accept, AllocError>
         ensures header { IfOk result (λ accept. (header : Header) × IsHeader (map (λ line. line.now) lines.now) header
             × (accept ≡ record header { bad = [] })) }
@@ -185,33 +185,36 @@ impl Accept {
         Accept::read(alloc, lines, false)
     }
 
-    /// Returns the ranges, in the header's order. Each prints what `content_type` prints of its entry.
+    /// Returns the ranges, in the header's order. Each is printed as `content_type` prints its entry.
     pub fn ranges(&self) -> &[Mime]
         ensures { map (λ range. range.media) result.now ≡ self.now.ranges }
     {
         &self.ranges
     }
 
-    /// Returns the entries that aren't ranges, in the header's order, each as it was passed, without the white space around it.
+    /// Returns the entries that aren't ranges, in the header's order. Each is as it was passed, without the white space around it.
+    /// [`Accept::from_lines_without_bad`] keeps none.
     pub fn bad(&self) -> &[Vec<u8>]
         ensures { map vec_items result.now ≡ self.now.bad }
     {
         &self.bad
     }
 
-    /// Returns the weight of an offer, in thousandths: that of the most specific range that covers it (of two equally specific ones, the
-    /// higher weight), or 0 if none does (RFC 9110, 12.5.1). [`covers`](crate::covers) says what a range covers. It allocates nothing. The
-    /// offer `application/json` weighs 0 for the range `application/json; charset=utf-8`, which demands the parameter.
+    /// Returns the weight of an offer, in thousandths: the weight of the most specific range that covers it, or 0 if no range covers it
+    /// (RFC 9110, 12.5.1). Of two equally specific ranges, the higher weight counts. [`covers`](crate::covers) defines what a range covers:
+    /// the offer `application/json` weighs 0 for the range `application/json; charset=utf-8`, which demands the parameter. This doesn't
+    /// allocate.
     pub fn weight(&self, offer: &Mime) -> u16
         ensures { result ≡ given_weight self.now.ranges offer.now.media }
     {
         merit(&self.ranges, offer).0
     }
 
-    /// Returns the position of the offer with the highest weight, or `None` exactly if every offer weighs 0. Ties go to the offer whose
-    /// range is more specific (it names more parts, then more parameters), then to the one whose range comes first (if two of its ranges
-    /// tie, the later counts), then to the first offer. For `None` reply with 406 (RFC 9110, 15.5.7). Every reply depends on the header,
-    /// so send `Vary: Accept` (12.5.5). It allocates nothing.
+    /// Returns the position of the offer with the highest weight, or `None` exactly if every offer weighs 0. Of offers with equal weights,
+    /// the best is the one whose range is more specific (it names more parts, then more parameters), then the one whose range is first in
+    /// the header, then the first offer. If two ranges are equally specific for an offer and have the same weight, the later one counts. If
+    /// the result is `None`, reply with 406 (RFC 9110, 15.5.7). Every reply depends on the header, so send `Vary: Accept` (12.5.5). This
+    /// doesn't allocate.
     pub fn best(&self, offers: &[Mime]) -> Option<usize>
         ensures exact { result ≡ best_offer self.now.ranges (map (λ offer. offer.media) offers.now) }
         ensures within { IfSome result (λ at. at < length offers.now) }
@@ -219,11 +222,11 @@ impl Accept {
         best_of(&self.ranges, offers)
     }
 
-    /// Returns the positions of all offers that weigh more than 0, the best first, in the order of `best`, which returns the first
-    /// of them. It allocates for the positions and, while it runs, for the rank of each offer.
+    /// Returns the positions of all offers that weigh more than 0, the best first. Offers are compared as by [`Accept::best`], which
+    /// returns the first of these positions. It allocates the positions and, while it runs, a list of the offers' ranks.
     ///
     /// # Errors
-    /// `AllocError` if memory runs out, which never happens without offers.
+    /// Returns `AllocError` if memory runs out, which never happens if there are no offers.
     pub fn order(&self, alloc: Global, offers: &[Mime]) -> Result<Vec<usize>, AllocError>
         ensures order { IfOk result (λ order. AreInOrder self.now.ranges (map (λ offer. offer.media) offers.now) (vec_items order)) }
         ensures none { offers.now ≡ [] → IsOk result }

@@ -8,19 +8,19 @@ ghost use Rattle.mime_http.specs.RangesLaws.{ClosestIsClosest, BestIsAcceptable,
 
 use crate::value::FieldError;
 
-/// HTTP allows whatever `mime` reads, as the same media type: `a/b; p=x;`.
+/// HTTP allows each text that `mime` reads, such as `a/b; p=x;`, and reads it as the same media type.
 #[tactic(auto, using(crate::proofs::PlainIsHttp::plain_is_http))]
 pub fn plain_is_http()
     ensures { PlainIsHttp }
 {}
 
-/// A value is read as at most one media type, though several trees spell `a/b; ;p=x`: the second space is after the first
-/// semicolon or before the second.
+/// A value is read as at most one media type, even if it has several parse trees. In `a/b; ;p=x` the space is after the first semicolon or
+/// before the second.
 pub fn one_http_reading()
     ensures { OneHttpReading }
 {}
 
-/// Exactly one text is printed for a value: for ` text/html ;; charset="utf-8"` it is `text/html; charset=utf-8`.
+/// Exactly one text is printed for a value. For ` text/html ;; charset="utf-8"` it is `text/html; charset=utf-8`.
 pub fn one_printed_text()
     ensures { OnePrintedText }
 {}
@@ -30,13 +30,14 @@ pub fn printed_is_read()
     ensures { PrintedIsRead }
 {}
 
-/// A value that isn't a media type has exactly one fault: that of `   a/b c` is its byte at position 7, counted from 0 (RFC 9110, 8.3.1).
+/// A value that isn't a media type has exactly one fault. The fault of `   a/b c` is its byte at position 7, counted from 0 (RFC 9110,
+/// 8.3.1).
 #[tactic(auto, using(crate::proofs::ReadFaults::one_http_fault))]
 pub fn one_http_fault()
     ensures { OneHttpFault }
 {}
 
-/// Lines have exactly one cut into pieces: that of `a/b;p="x,y",c/d` has two.
+/// Lines can be cut into pieces in exactly one way. `a/b;p="x,y",c/d` is cut into two.
 #[tactic(auto, using(crate::proofs::Cuts::one_cut))]
 pub fn one_cut()
     ensures { OneCut }
@@ -54,7 +55,7 @@ pub fn read_are_http_lists()
     ensures { ReadAreHttpLists }
 {}
 
-/// The lines of a header determine its ranges, with what they print, and its bad entries.
+/// The lines of a header determine its ranges, how each range is printed, and its bad entries.
 pub fn one_header()
     ensures { OneHeader }
 {}
@@ -71,7 +72,7 @@ pub fn closest_is_closest()
     ensures { ClosestIsClosest }
 {}
 
-/// A written value means the value that was passed; that of a `charset` means it in lowercase, as it is read (RFC 9110, 5.6.4).
+/// A written value means the value that was passed, or that value in lowercase for a `charset` (RFC 9110, 5.6.4).
 #[tactic(auto, using(crate::proofs::Contents::written_is_meant))]
 pub fn written_is_meant()
     ensures { WrittenIsMeant }
@@ -89,7 +90,7 @@ pub fn best_is_first()
     ensures { BestIsFirst }
 {}
 
-/// Each media type covers itself: `a/b;p=1;p=2`, too.
+/// Each media type covers itself, even `a/b;p=1;p=2`.
 #[tactic(auto, using(crate::proofs::Demanded::covers_itself))]
 pub fn covers_itself()
     ensures { CoversItself }
@@ -108,8 +109,8 @@ pub fn weight_is_number()
     ensures { WeightIsNumber }
 {}
 
-/// A range that covers none of the offers changes neither their weights nor which is the best nor their order: for `text/html` and
-/// `text/plain` the range `image/png;q=0` doesn't matter.
+/// A range that covers none of the offers changes neither their weights nor their order, nor which offer is the best. For the offers
+/// `text/html` and `text/plain`, the range `image/png;q=0` doesn't matter.
 pub fn stranger_changes_nothing()
     ensures { StrangerChangesNothing }
 {}

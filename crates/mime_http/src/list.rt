@@ -1,4 +1,4 @@
-//! The cut of a header's line at its commas outside strings, and pieces without the white space around them.
+//! Cuts a header's line at its commas outside quoted strings, and trims white space from the pieces.
 
 ghost use Rattle.std.specs.Prelude.{◌≡◌, ◌<◌, ◌≤◌, ◌+◌, ℕ, true, length, drop, slice_index};
 ghost use Rattle.std.specs.Str.{IsAscii};
@@ -10,20 +10,21 @@ ghost use Rattle.mime_http.specs.LineCut.{Outside, Quoted, IsNextOutside, before
 use mime_search::{Class, content_end, first_stop};
 use std::simd::prelude::*;
 
-/// Returns the position of the first comma or equals sign from a position on, or the length.
+/// Returns the position of the first comma or equals sign at or after `from`, or the length of the line.
 #[inline(always)]
 fn next_outside(line: &[u8], from: usize) -> usize
     requires { from < length line.now }
     ensures { IsNextOutside line.now from result }
 {
-    // This is quick for the sign before a string, and for signs in a row.
+    // This is faster for an equals sign before a quoted string, and for equals signs in a row.
     if line[from] == b'=' {
         return from;
     }
     first_stop(line, from, &Class::of(b',', b'='))
 }
 
-/// Returns the position after the closing quote of the string that `from` is in, or the length.
+/// Returns the position after the closing quote of the quoted string that `from` is in, or the length of the line if there is no such
+/// quote.
 #[inline(always)]
 #[tactic(auto, using(crate::proofs::Cuts::string_closed))]
 fn string_end(line: &[u8], from: usize) -> usize
@@ -36,8 +37,8 @@ fn string_end(line: &[u8], from: usize) -> usize
     if end < line.len() { end + 1 } else { end }
 }
 
-/// Returns the length of a line's first piece, which has neither a comma nor a quote before the quote at this position. It isn't
-/// inlined: few pieces have a quote.
+/// Returns the length of a line's first piece. `quote` is the position of a quote, and neither a comma nor a quote is before it. It isn't
+/// inlined, since few pieces have a quote.
 #[inline(never)]
 #[tactic(auto, using(crate::proofs::Cuts::ends_outside, crate::proofs::Cuts::string_opens, crate::proofs::Cuts::outside_byte))]
 fn quoted_piece_len(line: &[u8], quote: usize) -> usize
@@ -46,7 +47,7 @@ fn quoted_piece_len(line: &[u8], quote: usize) -> usize
     ensures within { result ≤ length line.now }
     ensures piece { result ≡ piece_len Outside line.now }
 {
-    // An equals sign before the quote is looked at again.
+    // The byte before the quote is tested again, since it may be an equals sign.
     let mut at = quote;
     if quote > 0 {
         at = quote - 1;
@@ -65,7 +66,7 @@ fn quoted_piece_len(line: &[u8], quote: usize) -> usize
     at
 }
 
-/// Returns `true` if the piece of a line that begins at a position is empty, and a comma ends it.
+/// Returns `true` if the piece of a line that begins at `from` is empty and is followed by a comma.
 #[inline(always)]
 pub(crate) fn is_empty_piece(line: &[u8], from: usize) -> bool
     ensures { result ≡ true → (from < length line.now) × (slice_index line.now from ≡ comma_byte) }
@@ -73,7 +74,8 @@ pub(crate) fn is_empty_piece(line: &[u8], from: usize) -> bool
     from < line.len() && line[from] == b','
 }
 
-/// Returns the end of the piece of a line that begins at a position: the position of the first comma outside strings, or the length.
+/// Returns the end of the piece of a line that begins at `from`: the position of the first comma outside quoted strings, or the length of
+/// the line.
 #[inline(always)]
 pub(crate) fn piece_end(line: &[u8], from: usize) -> usize
     requires { from ≤ length line.now }
@@ -95,7 +97,7 @@ pub(crate) fn is_space(byte: u8) -> bool
     byte == b' ' || byte == b'\t'
 }
 
-/// Returns a piece without the white space before it. It isn't inlined: most pieces begin with no white space, or with one space.
+/// Returns a piece without the white space at its start. It isn't inlined, since most pieces begin with no white space, or with one space.
 #[inline(never)]
 fn trim_spaces(piece: &[u8]) -> &[u8]
     ensures { result.now ≡ trim_start piece.now }
@@ -108,7 +110,7 @@ fn trim_spaces(piece: &[u8]) -> &[u8]
     &[]
 }
 
-/// Returns a piece without the white space before it.
+/// Returns a piece without the white space at its start.
 #[inline(always)]
 pub(crate) fn trim_start(piece: &[u8]) -> &[u8]
     ensures { result.now ≡ trim_start piece.now }
@@ -125,7 +127,7 @@ pub(crate) fn trim_start(piece: &[u8]) -> &[u8]
 /// The number of bytes that are tested for ASCII at once.
 const ASCII_BLOCK: usize = 32;
 
-/// Returns `true` if a block that begins at a position is ASCII.
+/// Returns `true` if the block that begins at `at` is ASCII.
 #[inline(always)]
 fn is_ascii_block(text: &[u8], at: usize) -> bool
     requires { at + ASCII_BLOCK ≤ length text.now }
@@ -135,7 +137,7 @@ fn is_ascii_block(text: &[u8], at: usize) -> bool
     bytes.simd_gt(u8x32::splat(127)).to_bitmask() == 0
 }
 
-/// Returns `true` if a line of 32 to 256 bytes is ASCII. The pieces of any other line are tested one by one.
+/// Returns `true` if a line has 32 to 256 bytes and is ASCII. The pieces of other lines are tested one by one.
 #[inline(never)]
 pub(crate) fn is_short_ascii(line: &[u8]) -> bool
     ensures { result ≡ true → IsAscii line.now }
@@ -154,7 +156,7 @@ pub(crate) fn is_short_ascii(line: &[u8]) -> bool
     is_ascii_block(line, last)
 }
 
-/// Returns a piece without the white space after it. It isn't inlined: most pieces end in no white space.
+/// Returns a piece without the white space at its end. It isn't inlined, since most pieces don't end in white space.
 #[inline(never)]
 #[tactic(auto, using(crate::proofs::Around::last_trimmed))]
 fn trim_spaces_after(piece: &[u8]) -> &[u8]
@@ -167,7 +169,7 @@ fn trim_spaces_after(piece: &[u8]) -> &[u8]
     &piece[..end]
 }
 
-/// Returns a piece without the white space after it.
+/// Returns a piece without the white space at its end.
 #[inline(always)]
 #[tactic(auto, using(crate::proofs::Around::nothing_after))]
 pub(crate) fn trim_end(piece: &[u8]) -> &[u8]

@@ -1,9 +1,9 @@
-//! Whether two values mean the same.
+//! The comparison of what two values mean.
 
 ghost use Rattle.std.specs.Prelude.{◌≡◌, ◌<◌, [], ◌∷◌, IfSome, MatchOption, bytes_eq, length};
 ghost use Rattle.mime_http.specs.Unescaped.{unescaped};
 
-/// Returns the first byte that a value means, and what is left after it.
+/// Returns the first byte that a value means and the rest of the value, or `None` if the value means no byte.
 #[inline(always)]
 fn split_first(value: &[u8]) -> Option<(u8, &[u8])>
     ensures meant { MatchOption result (unescaped value.now ≡ []) (λ first. unescaped value.now ≡ first.0 ∷ unescaped first.1.now) }
@@ -16,7 +16,8 @@ fn split_first(value: &[u8]) -> Option<(u8, &[u8])>
     }
 }
 
-/// Returns `true` if two values mean the same, byte by byte up to the first that differs. It isn't inlined: few ranges get so far.
+/// Returns `true` if two values mean the same. Compares byte by byte, up to the first difference. It isn't inlined, since few ranges need
+/// it.
 #[inline(never)]
 fn mean_the_same_bytes(value: &[u8], other: &[u8]) -> bool
     ensures { result ≡ bytes_eq (unescaped value.now) (unescaped other.now) }
@@ -40,6 +41,6 @@ fn mean_the_same_bytes(value: &[u8], other: &[u8]) -> bool
 pub(crate) fn mean_the_same(value: &str, other: &str) -> bool
     ensures { result ≡ bytes_eq (unescaped value.now) (unescaped other.now) }
 {
-    // Most are the same bytes, or differ in one of the first.
+    // Most values are equal, or differ in one of the first bytes.
     value == other || mean_the_same_bytes(value.as_bytes(), other.as_bytes())
 }

@@ -16,10 +16,10 @@ use std::alloc::{AllocError, Global};
 /// A byte that may occur in a boundary.
 const Y: bool = true;
 
-/// A byte that may not.
+/// A byte that may not occur in a boundary.
 const N: bool = false;
 
-/// Which bytes may occur in a boundary.
+/// The bytes that may occur in a boundary, as a table.
 static BOUNDARY_BYTES: [bool; 256] = [
     N, N, N, N, N, N, N, N, N, N, N, N, N, N, N, N, N, N, N, N, N, N, N, N, N, N, N, N, N, N, N, N,
     Y, N, N, N, N, N, N, Y, Y, Y, N, Y, Y, Y, Y, Y, Y, Y, Y, Y, Y, Y, Y, Y, Y, Y, Y, N, N, Y, N, Y,
@@ -31,7 +31,7 @@ static BOUNDARY_BYTES: [bool; 256] = [
     N, N, N, N, N, N, N, N, N, N, N, N, N, N, N, N, N, N, N, N, N, N, N, N, N, N, N, N, N, N, N, N,
 ];
 
-/// The most bytes that a boundary has.
+/// The maximum number of bytes of a boundary.
 const LONGEST: usize = 70;
 
 /// Returns `true` if a byte may occur in a boundary.
@@ -64,8 +64,8 @@ pub fn is_boundary(bytes: &[u8]) -> bool
     }
 }
 
-/// Returns the boundary that a parameter's value means, if it means one. It doesn't allocate for a value that is too long, nor for
-/// one that has no backslash and isn't a boundary.
+/// Returns the boundary that a parameter's value means, if it means one. It doesn't allocate if the value is too long, or isn't a boundary
+/// and has no backslash.
 #[tactic(auto, using(crate::proofs::Contents::boundary_means_itself))]
 fn meant_boundary(alloc: Global, value: &str) -> Result<Option<Vec<u8>>, AllocError>
     ensures { IfOk result (λ answer. MatchOption answer (¬ (IsBoundary (unescaped value.now)))
@@ -76,7 +76,7 @@ fn meant_boundary(alloc: Global, value: &str) -> Result<Option<Vec<u8>>, AllocEr
         // It has no backslash, so it means itself.
         return Ok(Some(bytes.to_vec(alloc)?));
     }
-    // Two bytes mean at least one, except a backslash at the end.
+    // Two bytes mean at least one byte, and only a backslash at the end means none.
     if bytes.len() > 2 * LONGEST + 1 || !value.contains('\\') {
         return Ok(None);
     }
@@ -85,7 +85,8 @@ fn meant_boundary(alloc: Global, value: &str) -> Result<Option<Vec<u8>>, AllocEr
     Ok(is_boundary(&boundary).then_some(boundary))
 }
 
-/// Returns the boundary that the first parameter `boundary` means, if it means one. It isn't inlined: most media types aren't `multipart`.
+/// Returns the boundary that the first parameter `boundary` means, if it means one. It isn't inlined, since most media types aren't
+/// `multipart`.
 #[inline(never)]
 fn first_boundary(alloc: Global, mime: &Mime) -> Result<Option<Vec<u8>>, AllocError>
     ensures meant { IfOk result (λ answer. MatchOption answer
@@ -100,16 +101,16 @@ fn first_boundary(alloc: Global, mime: &Mime) -> Result<Option<Vec<u8>>, AllocEr
     }
 }
 
-/// Returns the boundary between the parts of a body of any `multipart` type, byte for byte as it is in the body (RFC 2046, 5.1.1):
-/// `a b` for `multipart/mixed; boundary="a b"`. Returns `None` exactly if the type isn't `multipart`, there is no parameter `boundary`,
-/// or what the first one means isn't a boundary, as [`is_boundary`] says.
+/// Returns the boundary between the parts of a `multipart` body, byte for byte as it is in the body (RFC 2046, 5.1.1): `a b` for
+/// `multipart/mixed; boundary="a b"`. Returns `None` exactly if the type isn't `multipart`, there is no parameter `boundary`, or the first
+/// one doesn't mean a boundary, as [`is_boundary`] defines it.
 ///
 /// # Errors
-/// `AllocError` if memory runs out, which never happens for any other type or without that parameter.
+/// Returns `AllocError` if memory runs out, which never happens if the type isn't `multipart` or there is no parameter `boundary`.
 pub fn boundary(alloc: Global, mime: &Mime) -> Result<Option<Vec<u8>>, AllocError>
     ensures meant { IfOk result (λ answer. MatchOption answer ((bytes : List ℕ) → ¬ (IsBoundaryOf mime.now.media bytes))
         (λ boundary. IsBoundaryOf mime.now.media (vec_items boundary))) }
-    // It needs no memory for a type that isn't `multipart`, or has no boundary.
+    // It needs no memory if the type isn't `multipart`, or there is no parameter `boundary`.
     ensures other { type_of mime.now.media ≢ codes "multipart" → IsOk result }
     ensures absent { first_value (codes "boundary") mime.now.media.pairs ≡ None → IsOk result }
 {

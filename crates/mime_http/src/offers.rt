@@ -13,7 +13,7 @@ use std::alloc::{AllocError, Global};
 use std::cmp::Reverse;
 use std::marker::Model;
 
-/// An offer, with the parts of it that each range's essence is compared with.
+/// An offer, and the parts of it with which each range's essence is compared.
 #[derive(Clone, Copy)]
 struct Offer<'a> {
     mime: &'a Mime,
@@ -37,8 +37,8 @@ impl<'a> Offer<'a> {
     }
 }
 
-/// The most specific range so far that covers an offer, if one does: how many parts it names, how many parameters it demands, its
-/// weight, and its position.
+/// The most specific range so far that covers an offer, if any: how many parts it names, how many parameters it demands, its weight, and
+/// its position.
 #[derive(Drop)]
 struct Closest {
     named: Option<u8>,
@@ -70,7 +70,8 @@ impl Closest {
         }
     }
 
-    /// Keeps the range at this position if none so far is more specific. If it names fewer parts, nothing else of it is examined.
+    /// Keeps the range at position `at` if it covers the offer, and none so far is more specific. If it names fewer parts than the range
+    /// kept so far, nothing else of it is examined.
     #[inline(always)]
     fn look_at(&mut self, range: &Mime, offer: Offer<'_>, at: usize)
         ensures { self.new ≡ ord_max (option_cmp rank_cmp) self.old (closeness offer.entry.mime.now.media (at, range.now.media)) }
@@ -121,7 +122,8 @@ fn closest_of(ranges: &[Mime], offer: &Mime) -> Option<(u8, usize, u16, usize)>
     closest.found()
 }
 
-/// Returns the rank of an offer: its weight, then how specific its range is, then how early its range is in the header.
+/// Returns the rank of an offer: its weight, then how specific its range is, then how early its range is in the header. Returns zeros if no
+/// range covers the offer.
 #[inline(always)]
 pub(crate) fn merit(ranges: &[Mime], offer: &Mime) -> (u16, u8, usize, usize)
     ensures { result ≡ merit (map (λ range. range.media) ranges.now) offer.now.media }
@@ -137,7 +139,7 @@ pub(crate) fn merit(ranges: &[Mime], offer: &Mime) -> (u16, u8, usize, usize)
     }
 }
 
-/// Returns the position of the first offer of the highest rank; `None` if all weigh 0.
+/// Returns the position of the first offer of the highest rank, or `None` if all offers weigh 0.
 pub(crate) fn best_of(ranges: &[Mime], offers: &[Mime]) -> Option<usize>
     ensures exact { result ≡ best_offer (map (λ range. range.media) ranges.now) (map (λ offer. offer.media) offers.now) }
     ensures within { IfSome result (λ at. at < length offers.now) }
@@ -154,7 +156,7 @@ pub(crate) fn best_of(ranges: &[Mime], offers: &[Mime]) -> Option<usize>
     if most.0 > 0 { best } else { None }
 }
 
-/// Returns the positions of offers.
+/// Returns the positions of ranked offers.
 fn positions(
     alloc: Global,
     offers: &[(Reverse<(u16, u8, usize, usize)>, usize)],
