@@ -23,20 +23,6 @@ struct Offer<'a> {
     ghost before_slash: { type_.now ≡ type_of mime.now.media },
 }
 
-impl<'a> Offer<'a> {
-    /// Returns an offer with its parts.
-    #[inline(always)]
-    fn of(mime: &'a Mime) -> Offer<'a>
-        ensures { result.mime.now.media ≡ mime.now.media }
-    {
-        Offer {
-            mime,
-            essence: mime.essence_str(),
-            type_: mime.type_().text,
-        }
-    }
-}
-
 /// The most specific range so far that covers an offer, if any: how many parts it names, how many parameters it demands, its weight, and
 /// its position.
 #[derive(Drop)]
@@ -57,19 +43,6 @@ impl Model for Closest {
 }
 
 impl Closest {
-    /// Returns the state before any range.
-    #[inline(always)]
-    fn none() -> Closest
-        ensures { result ≡ None }
-    {
-        Closest {
-            named: None,
-            demanded: 0,
-            weight: 0,
-            at: 0,
-        }
-    }
-
     /// Keeps the range at position `at` if it covers the offer, and none so far is more specific. If it names fewer parts than the range
     /// kept so far, nothing else of it is examined.
     #[inline(always)]
@@ -97,15 +70,6 @@ impl Closest {
         self.weight = weight;
         self.at = at;
     }
-
-    /// Returns the most specific range so far, if one covers the offer.
-    #[inline(always)]
-    fn found(self) -> Option<(u8, usize, u16, usize)>
-        ensures { result ≡ self }
-    {
-        let named = self.named?;
-        Some((named, self.demanded, self.weight, self.at))
-    }
 }
 
 /// Finds the most specific of these ranges that covers an offer.
@@ -114,12 +78,22 @@ impl Closest {
 fn closest_of(ranges: &[Mime], offer: &Mime) -> Option<(u8, usize, u16, usize)>
     ensures { result ≡ closest (map (λ range. range.media) ranges.now) offer.now.media }
 {
-    let parts = Offer::of(offer);
-    let mut closest = Closest::none();
+    let parts = Offer {
+        mime: offer,
+        essence: offer.essence_str(),
+        type_: offer.type_().text,
+    };
+    let mut closest = Closest {
+        named: None,
+        demanded: 0,
+        weight: 0,
+        at: 0,
+    };
     for (at, range) in ranges.iter().enumerate() {
         closest.look_at(range, parts, at);
     }
-    closest.found()
+    let named = closest.named?;
+    Some((named, closest.demanded, closest.weight, closest.at))
 }
 
 /// Returns the rank of an offer: its weight, then how specific its range is, then how early its range is in the header. Returns zeros if no

@@ -8,4 +8,4 @@ loop-at-preserved c =
     let next : drop c.loop-at.at c.args.ranges.now ≡ range ∷ drop (c.loop-at.at + 1) c.args.ranges.now =
     drop_more c.args.ranges.now c.loop-at.at range c.loop-at-test.true
     ∙ ap (λ first. first ∷ drop (c.loop-at.at + 1) c.args.ranges.now) (sym c.index-ranges-at.is) in
-    rw (c.look_at.ensures, c.of-parts.ensures) (rw next at c.loop-at.invariant)
+    rw c.look_at.ensures (rw next at c.loop-at.invariant)
