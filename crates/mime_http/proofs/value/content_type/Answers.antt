@@ -21,11 +21,6 @@ returns-in-Ok-from_str-clause-kept c =
     let text = c.in-Ok.ensures.cases.0 in
     (as_it_is c.args.value.now _ c.in-Ok-from_str.mime.media (c.trimmed.ensures ∙ ap trimmed text) c.in-Ok-from_str.ensures.read).1
 
-pub returns-in-Err-from_str-clause-star : goal.returns-in-Err-from_str-clause-star
-returns-in-Err-from_str-clause-star c = λ is.
-    (star_has_none c.args.value.now is).1 c.read_rejected.result
-    (subst (λ text. IfErr c.read_rejected.result (HttpExplains text)) c.in-Ok.ensures.cases.0 c.read_rejected.ensures.explained)
-
 pub returns-in-Err-from_str-clause-short : goal.returns-in-Err-from_str-clause-short
 returns-in-Err-from_str-clause-short c = λ media utf8 reads printed few.
     short_has_none c.args.value.now media utf8 reads printed few c.read_rejected.result

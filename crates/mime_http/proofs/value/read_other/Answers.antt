@@ -1,5 +1,5 @@
 -- What is written anew of a value is read as its media type, and what a value lacks is its fault.
-use Rattle.mime_http.proofs.Common.{Explains, HttpExplains, HttpReads, IfOk-weaker, InvalidToken, IsAccepted, IsHttpFault, IsPrinted, List, MediaType, NoMemory, OwnedMedia, ParseError, Parts, answer_of, ap, arith, inl, inr, length, media_of, read, refl, subst, sym, trimmed, ℕ, ◌∙◌, ◌≡◌, ◌≢◌, IfErr-weaker, rejected-from_fault}
+use Rattle.mime_http.proofs.Common.{Explains, HttpExplains, HttpReads, IfOk-weaker, InvalidToken, IsAccepted, IsPrinted, List, MediaType, NoMemory, OwnedMedia, ParseError, Parts, answer_of, ap, arith, inl, inr, length, media_of, read, refl, subst, sym, trimmed, ℕ, ◌∙◌, ◌≡◌, ◌≢◌, IfErr-weaker, rejected-from_fault}
 use Rattle.mime_http.specs.declared.value.FieldError.TheVariants as field
 use Rattle.mime_http.proofs.{HttpLaws.anew_needs, HttpLaws.printed_anew, HttpLaws.stands_needs, HttpLaws.stands_printed, ReadFaults.answered_fault, value.read_other.Goals.in_default-fault-2-via-in-NoMemory-fault+else-essence_str-len, value.read_other.Goals.in_default-fault-2-via-in_default-fault-2}
 use Rattle.mime_http.proofs.value.read_other.Goals as goal
@@ -9,10 +9,6 @@ not_accepted : (text : List ℕ) (fault : ParseError) → fault ≢ NoMemory →
 not_accepted text NoMemory other why = absurd (other refl)
 not_accepted text (InvalidToken pos byte) other why = rejected-from_fault text (InvalidToken pos byte) why
 not_accepted text fault other why = rejected-from_fault text fault why
-
-pub returns-in-Some-clause-explained : goal.returns-in-Some-clause-explained
-returns-in-Some-clause-explained c =
-    (c.utf8.value, subst (λ text. IsHttpFault text c.in-Some.fault) c.as_bytes.ensures.value c.in-Some.ensures)
 
 pub returns-in-Err-clause-explained : goal.returns-in-Err-clause-explained
 returns-in-Err-clause-explained c =

@@ -7,20 +7,17 @@ pub from_utf8_unchecked-text-requires : goal.from_utf8_unchecked-text-requires
 from_utf8_unchecked-text-requires c =
     let (value, parts, utf8, answered, is) = c.requires in subst IsUtf8 (sym is) (written_is_utf8 value parts utf8 answered)
 
-pub returns-in-Ok : goal.returns-in-Ok
-returns-in-Ok c = record {
-  read = λ value parts answered is.
-      one_reading (text_of_parts parts) c.in-Ok.mime.media (media_of parts)
-      (subst (λ text. Reads text c.in-Ok.mime.media) (c.from_utf8_unchecked-text.ensures ∙ is) c.in-Ok.ensures.read)
-      (written_reads value parts answered);
-  memory = tt;
-}
+pub returns-in-Ok-clause-read : goal.returns-in-Ok-clause-read
+returns-in-Ok-clause-read c = λ value parts answered is.
+    one_reading (text_of_parts parts) c.in-Ok.mime.media (media_of parts)
+    (subst (λ text. Reads text c.in-Ok.mime.media) (c.from_utf8_unchecked-text.ensures ∙ is) c.in-Ok.ensures.read)
+    (written_reads value parts answered)
 
-pub returns-in-Err : goal.returns-in-Err
-returns-in-Err c =
+pub returns-in-Err-clause-memory : goal.returns-in-Err-clause-memory
+returns-in-Err-clause-memory c =
     let (value, parts, utf8, answered, is) = c.requires in
     let text = c.from_utf8_unchecked-text.ensures in
     let accepted : IsAccepted c.from_utf8_unchecked-text.result.now =
     (media_of parts, subst (λ text. Reads text (media_of parts)) (sym (text ∙ is)) (written_reads value parts answered)) in
     let why = subst (Explains c.from_utf8_unchecked-text.result.now) (c.in-Err.ensures.accepted accepted) c.in-Err.ensures.explained in
-    record { read = λ value parts answered is. tt; memory = (refl, omega (arith, ap length text, why.1)) }
+    (refl, omega (arith, ap length text, why.1))
