@@ -28,7 +28,7 @@ fn is_token_text(text: &str) -> bool
     !text.is_empty()
 }
 
-/// Returns `true` if a string has no ASCII capital.
+/// Returns `true` if a string has no uppercase ASCII letter.
 #[tactic(auto, using(crate::proofs::Contents::no_capital))]
 fn is_lowercase(text: &str) -> bool
     ensures { IsTrue result → lowered text.now ≡ text.now }
@@ -38,7 +38,8 @@ fn is_lowercase(text: &str) -> bool
         .all(|byte| !byte.is_ascii_uppercase())
 }
 
-/// Returns `true` if a parameter is kept as it is written: without a capital in what is kept in lowercase.
+/// Returns `true` if a parameter is kept as it is written: its name has no uppercase letter, and neither has its value if it is a
+/// `charset`.
 #[tactic(auto, using(crate::proofs::Contents::kept_low))]
 fn is_kept_as_written(name: &str, value: &str) -> bool
     ensures { IsTrue result → (lowered name.now ≡ name.now) × (lowered_value name.now (escaped value.now) ≡ escaped value.now) }
@@ -46,7 +47,7 @@ fn is_kept_as_written(name: &str, value: &str) -> bool
     is_lowercase(name) && (name != "charset" || is_lowercase(value))
 }
 
-/// Returns the form of a value that needs no other backslashes than those that it has.
+/// Returns the form of a value that already has the backslashes that it needs.
 fn form_of_content(content: &str) -> Form
     ensures { result ≡ (if is_token_value content.now then Token else Quoted) }
 {
@@ -57,7 +58,7 @@ fn form_of_content(content: &str) -> Form
     }
 }
 
-/// Adds a parameter in this form to a text.
+/// Adds a parameter to a text, with its value in this form.
 fn push_parameter(text: &mut String, name: &str, value: &str, form: Form) -> Result<(), AllocError>
     ensures { OnOk result (string_bytes text.new ≡ string_bytes text.old ++ text_in form name.now value.now) }
 {
@@ -80,7 +81,7 @@ fn push_parameter(text: &mut String, name: &str, value: &str, form: Form) -> Res
     }
 }
 
-/// Returns a text of a media type's essence, its parameters of other names, and this one; and the number of the others.
+/// Returns the text of a media type with this parameter in place of those of its name, and the number of the other parameters.
 fn text_with(
     alloc: Global,
     mime: &Mime,
@@ -93,7 +94,7 @@ fn text_with(
         ≡ mime.now.media.essence ++ text_of_pairs (others name.now mime.now.media.pairs ++ ((name.now, escaped value.now) ∷ []))) }
     ensures count { IfOk result (λ written. written.1 ≡ length (others name.now mime.now.media.pairs)) }
 {
-    // The bytes of the value and of its marks.
+    // The bytes of the value, of `; ` and `=`, and of its quotes.
     let content = match form {
         Form::Token => value.len().saturating_add(3),
         Form::Quoted => value.len().saturating_add(5),
@@ -105,7 +106,7 @@ fn text_with(
         [_, b' ', ..] => 0,
         _ => most,
     };
-    // The kept text has the parameters that stay, so most texts need no more room.
+    // The kept text has the other parameters, so most texts need no more capacity.
     let added = name.len().saturating_add(content).saturating_add(spaces);
     let room = mime.as_str().len().saturating_add(added);
     let mut text = String::with_capacity(alloc, room)?;
@@ -122,7 +123,7 @@ fn text_with(
     Ok((text, count))
 }
 
-/// Returns the media type with this parameter in place of those of its name.
+/// Returns the media type with this parameter in place of all parameters of its name.
 fn mime_with(
     alloc: Global,
     mime: &Mime,
@@ -135,13 +136,13 @@ fn mime_with(
     requires fits { form ≡ form_of value.now }
     ensures { IfOk result (λ made. made.media ≡ with_pair mime.now.media (lowered name.now) (lowered_value name.now (escaped value.now))) }
 {
-    // For the proof: what the kept text holds may occur in a header.
+    // For the proof: the bytes of the kept text may occur in a header.
     let _kept = mime.as_str();
     kept_is_safe();
     one_reading();
     let (text, others) = text_with(alloc, mime, name, value, form)?;
     if is_kept_as_written(name, value) {
-        // For the proof: the others are counted in the text, so one more is no overflow.
+        // For the proof: the text is longer than the number of the others, so the count can't overflow.
         let _more = text.len();
         let count = others + 1;
         let known = KnownText {
@@ -158,21 +159,22 @@ fn mime_with(
     }
 }
 
-/// Returns the media type with this parameter in place of those of its name, ignoring ASCII case (RFC 9110, 5.6.6). The other
-/// parameters stay as they are, in their order, and this one is the last. `text/html; charset=utf-8` with the parameter `title` and
-/// the value `a "b"` is `text/html; charset=utf-8; title="a \"b\""`.
+/// Returns the media type with this parameter in place of all parameters of its name, ignoring ASCII case (RFC 9110, 5.6.6). The other
+/// parameters keep their order, and this one is the last. `text/html; charset=utf-8` with the parameter `title` and the value `a "b"` is
+/// `text/html; charset=utf-8; title="a \"b\""`.
 ///
-/// It returns `None` exactly if the name isn't a token, or the value has a byte that no quoted string can hold: a control character
-/// other than the tab. So neither can inject a parameter, or anything else, into a header.
+/// Returns `None` exactly if the name isn't a token, or the value has a byte that no quoted string can contain: a control character other
+/// than the tab. So neither the name nor the value can inject a parameter, or anything else, into a header.
 ///
-/// A value is printed as it is if it is a token. Any other is in quotes, with a backslash before each quote and each backslash (5.6.4);
-/// [`unescape`](crate::unescape) of the parameter's value returns it, in lowercase for a `charset`. The other parameters are printed in
-/// the same way, with the backslashes that they have: `a/b;p="x"` with the parameter `q` and the value `1` is `a/b; p=x; q=1`.
+/// A value is printed as it is if it is a token. Any other value is printed in quotes, with a backslash before each quote and each
+/// backslash (5.6.4). [`unescape`](crate::unescape) recovers the value that was passed, in lowercase for a `charset`. The other parameters
+/// are printed in the same way, but with only the backslashes that they have: `a/b;p="x"` with the parameter `q` and the value `1` is `a/b;
+/// p=x; q=1`.
 ///
-/// It allocates the text, which may grow, and at most once more for what is kept of it, if that has more than 40 bytes.
+/// It allocates the text, which may grow, and at most one more block: for the kept text, if that has more than 40 bytes.
 ///
 /// # Errors
-/// `AllocError` if memory runs out, which never happens if the result is `None`.
+/// Returns `AllocError` if memory runs out, which never happens if the result is `None`.
 pub fn with_parameter(
     alloc: Global,
     mime: &Mime,
@@ -193,11 +195,11 @@ pub fn with_parameter(
     }
 }
 
-/// Returns the media type with this charset in place of its own, as [`with_parameter`] writes it; `None` exactly if the charset isn't a
-/// token (RFC 9110, 8.3.2). `text/html` with the charset `UTF-8` is `text/html; charset=utf-8`.
+/// Returns the media type with this charset in place of its own, as [`with_parameter`] writes it. Returns `None` exactly if the charset
+/// isn't a token (RFC 9110, 8.3.2). `text/html` with the charset `UTF-8` is `text/html; charset=utf-8`.
 ///
 /// # Errors
-/// `AllocError` if memory runs out, which never happens if the result is `None`.
+/// Returns `AllocError` if memory runs out, which never happens if the result is `None`.
 #[tactic(auto, using(crate::proofs::Contents::token_written), unfolding(mime::specs::Bytes::is_token_byte))]
 pub fn with_charset(alloc: Global, mime: &Mime, charset: &str) -> Result<Option<Mime>, AllocError>
     ensures exact { IfOk result (λ answer. IsTrue (is_some answer) ↔ IsToken charset.now) }
@@ -210,12 +212,12 @@ pub fn with_charset(alloc: Global, mime: &Mime, charset: &str) -> Result<Option<
     Ok(Some(mime_with(alloc, mime, "charset", charset, Form::Token)?))
 }
 
-/// Returns the media type with this boundary in place of its own, as [`with_parameter`] writes it; `None` exactly if these bytes aren't a
-/// boundary (RFC 2046, 5.1.1), as [`is_boundary`] says. `multipart/mixed` with the boundary `a b` is `multipart/mixed; boundary="a b"`.
-/// Any media type is accepted, though a boundary has a meaning only for the type `multipart`.
+/// Returns the media type with this boundary in place of its own, as [`with_parameter`] writes it. Returns `None` exactly if the string
+/// isn't a boundary (RFC 2046, 5.1.1), as [`is_boundary`] defines it. `multipart/mixed` with the boundary `a b` is `multipart/mixed;
+/// boundary="a b"`. Any media type is accepted, though a boundary has a meaning only for the type `multipart`.
 ///
 /// # Errors
-/// `AllocError` if memory runs out, which never happens if the result is `None`.
+/// Returns `AllocError` if memory runs out, which never happens if the result is `None`.
 #[tactic(auto, using(crate::proofs::Contents::boundary_written), unfolding(mime::specs::Bytes::is_token_byte))]
 pub fn with_boundary(alloc: Global, mime: &Mime, boundary: &str) -> Result<Option<Mime>, AllocError>
     ensures exact { IfOk result (λ answer. IsTrue (is_some answer) ↔ IsBoundary boundary.now) }

@@ -10,12 +10,12 @@ ghost use Rattle.mime_http.specs.Written.{escaped};
 
 use std::alloc::AllocError;
 
-/// Adds what a parameter's value means to a buffer: each backslash and the byte after it as that byte (RFC 9110, 5.6.4). The value
-/// `a\"b` of `a/b; p="a\"b"` means `a"b`; a value without backslashes means itself. It allocates at most once: not at all if the buffer
-/// has room for as many bytes as the value has.
+/// Appends what a parameter's value means to a buffer: a backslash and the byte after it mean that byte (RFC 9110, 5.6.4). The value `a\"b`
+/// of `a/b; p="a\"b"` means `a"b`. A value without backslashes means itself. It allocates at most once, and doesn't allocate if the buffer
+/// has capacity for `value.len()` more bytes.
 ///
 /// # Errors
-/// `AllocError` if memory runs out, which happens only without that room. The buffer is then unchanged.
+/// Returns `AllocError` if memory runs out, which never happens if the buffer has that capacity. After an error the buffer is unchanged.
 pub fn unescape(value: &str, buffer: &mut Vec<u8>) -> Result<(), AllocError>
     ensures meant { vec_items buffer.new ≡ (if is_ok result then vec_items buffer.old ++ unescaped value.now else vec_items buffer.old) }
     ensures room { vec_len buffer.old + length value.now ≤ vec_capacity buffer.old → IsOk result }
@@ -29,7 +29,7 @@ pub fn unescape(value: &str, buffer: &mut Vec<u8>) -> Result<(), AllocError>
     Ok(())
 }
 
-/// Replaces the bytes from this position on by what they mean, and returns the position after that.
+/// Replaces the bytes from `start` on by the bytes that they mean. Returns the position after these.
 #[tactic(auto, using(crate::proofs::Contents::moved))]
 fn unescape_in_place(bytes: &mut [u8], start: usize) -> usize
     requires { start ≤ length bytes.old }
@@ -49,7 +49,7 @@ fn unescape_in_place(bytes: &mut [u8], start: usize) -> usize
     end
 }
 
-/// How a value is written (RFC 9110, 5.6.4 and 5.6.6).
+/// The form in which a value is written (RFC 9110, 5.6.4 and 5.6.6).
 #[derive(Clone, Copy)]
 pub(crate) enum Form {
     /// As it is, since it is a token.
@@ -63,17 +63,17 @@ pub(crate) enum Form {
 /// A byte that may not occur in a quoted string.
 const N: u8 = 0;
 
-/// A byte that may occur there after a backslash: a quote or a backslash.
+/// A byte that may occur in a quoted string only after a backslash: a quote or a backslash.
 const B: u8 = 1;
 
-/// A byte that may occur there as it is, and not in a token.
+/// A byte that may occur in a quoted string as it is, but not in a token.
 const Q: u8 = 3;
 
-/// A byte that may also occur in a token.
+/// A byte that may occur in a quoted string as it is, and in a token.
 const T: u8 = 7;
 
-/// The kind of each byte. Its lowest bit says that the byte may be in a value, the next one that it needs no backslash, and the third
-/// that it needs no quotes.
+/// The kind of each byte. The lowest bit is set if the byte may be in a value, the second if it needs no backslash, and the third if it
+/// needs no quotes.
 static KINDS: [u8; 256] = [
     N, N, N, N, N, N, N, N, N, Q, N, N, N, N, N, N, N, N, N, N, N, N, N, N, N, N, N, N, N, N, N, N,
     Q, T, B, T, T, T, T, T, Q, Q, T, T, Q, T, T, Q, T, T, T, T, T, T, T, T, T, T, Q, Q, Q, Q, Q, Q,
@@ -96,7 +96,7 @@ fn kind_of_byte(byte: u8) -> u8
     KINDS[byte as usize]
 }
 
-/// Returns the bits that the kinds of all bytes of a block have.
+/// Returns the bits that are set in the kinds of all bytes of a block.
 #[inline(always)]
 #[tactic(auto, using(crate::proofs::Contents::kind_of_more))]
 fn kind_of_block(block: &[u8]) -> u8
@@ -109,7 +109,7 @@ fn kind_of_block(block: &[u8]) -> u8
     kind
 }
 
-/// Returns the bits that the kinds of all bytes of a value have.
+/// Returns the bits that are set in the kinds of all bytes of a value.
 #[tactic(auto, using(crate::proofs::Contents::block_seen))]
 fn kind_of(value: &[u8]) -> u8
     ensures { result ≡ kind_of value.now }
@@ -124,7 +124,8 @@ fn kind_of(value: &[u8]) -> u8
     kind
 }
 
-/// Returns how a value is written, or `None` if no quoted string can mean it, since it has a control character other than the tab.
+/// Returns the form in which a value is written, or `None` if it has a control character other than the tab, so that no quoted string means
+/// it.
 #[tactic(auto, using(crate::proofs::Contents::token_from_kind))]
 pub(crate) fn form_of(value: &str) -> Option<Form>
     ensures { result ≡ (if list_all is_quoted_byte value.now then Some (form_of value.now) else None) }
@@ -138,7 +139,7 @@ pub(crate) fn form_of(value: &str) -> Option<Form>
     }
 }
 
-/// Returns the position of the first quote or backslash from this position on, or the length if there is none.
+/// Returns the position of the first quote or backslash at or after `from`, or the length if there is none.
 #[inline(always)]
 #[tactic(auto, using(crate::proofs::Contents::plain_from_kind, crate::proofs::Contents::plain_more))]
 fn special_from(value: &str, from: usize) -> usize
@@ -153,7 +154,7 @@ fn special_from(value: &str, from: usize) -> usize
     at
 }
 
-/// Adds a run of bytes and a backslash. A single quote or backslash, as in a row of them, is added together with it.
+/// Adds a run of bytes and a backslash. If the run is only a quote or a backslash, as in a row of them, both bytes are added at once.
 #[inline(always)]
 fn push_with_backslash(text: &mut String, run: &str) -> Result<(), AllocError>
     ensures { OnOk result (string_bytes text.new ≡ (string_bytes text.old ++ run.now) ++ (backslash_byte ∷ [])) }
@@ -177,7 +178,7 @@ pub(crate) fn push_escaped(text: &mut String, value: &str) -> Result<(), AllocEr
     while run < left.len() {
         push_with_backslash(text, &left[..run])?;
         left = &left[run..];
-        // The byte after the backslash, and those before the next one that needs it.
+        // The run is the byte after the backslash, and the bytes before the next one that needs a backslash.
         run = special_from(left, 1);
     }
     text.push_str(left)

@@ -29,7 +29,7 @@ impl ParamKey for Exactly<'_> {
     }
 }
 
-/// Returns the first value under a name, which is in lowercase.
+/// Returns the value of the first parameter of this name. `name` must be in lowercase.
 #[inline(always)]
 #[tactic(auto, using(crate::proofs::Demanded::first_is))]
 pub(crate) fn first_value<'a>(mime: &'a Mime, name: &str) -> Option<Name<'a>>
@@ -38,7 +38,7 @@ pub(crate) fn first_value<'a>(mime: &'a Mime, name: &str) -> Option<Name<'a>>
     mime.get_param(Exactly(name))
 }
 
-/// Returns the weight of a `q` with this value, in thousandths, or 1000 without a value.
+/// Returns the weight of a `q` with this value, in thousandths, or 1000 if there is no value.
 #[inline]
 fn weight_in(value: Option<&str>) -> u16
     ensures { result ≡ unwrap_or (option_map (λ text. thousandths_of text.now) value.entry) 1000 }
@@ -49,15 +49,15 @@ fn weight_in(value: Option<&str>) -> u16
     }
 }
 
-/// Returns the weight of a range in thousandths, or 1000 if it has none (RFC 9110, 12.4.2). The first `q` counts, quoted or not: the
-/// weight is the number that its text begins with, and at most 1. `.2` is 200, `2` is 1000, `high` and `\1` are 0.
+/// Returns the weight of a range in thousandths, or 1000 if it has none (RFC 9110, 12.4.2). The first `q` counts, quoted or not. The weight
+/// is the number with which its text begins, and at most 1: `.2` is 200, `2` is 1000, `high` and `\1` are 0.
 pub fn weight_of(range: &Mime) -> u16
     ensures { result ≡ weight_of range.now.media }
 {
     weight_in(first_value(range, "q").map(|weight| weight.text))
 }
 
-/// Returns `true` if a range is `*/*`, whatever its parameters. It isn't inlined, so that a range of any other length isn't read.
+/// Returns `true` if a range is `*/*`, whatever its parameters. It isn't inlined, so that a range of another length isn't read.
 #[inline(never)]
 fn is_star(range: &Mime) -> bool
     ensures { result ≡ bytes_eq range.now.media.essence (codes "*/*") }
@@ -65,7 +65,7 @@ fn is_star(range: &Mime) -> bool
     range.essence_str() == "*/*"
 }
 
-/// Returns `true` if a range is `text/*`, for the type `text`, whatever its parameters. It isn't inlined, like `is_star`.
+/// Returns `true` if a range is all of a type, as `text/*` is for `text`, whatever its parameters. Like `is_star`, it isn't inlined.
 #[inline(never)]
 fn is_all_of(range: &Mime, type_: &str) -> bool
     ensures { result ≡ bytes_eq range.now.media.essence (type_.now ++ codes "/*") }
@@ -73,7 +73,7 @@ fn is_all_of(range: &Mime, type_: &str) -> bool
     range.essence_str().strip_suffix("/*") == Some(type_)
 }
 
-/// Returns `true` if a range has this essence. It isn't inlined, like `is_star`.
+/// Returns `true` if a range has this essence. Like `is_star`, it isn't inlined.
 #[inline(never)]
 fn is_same(range: &Mime, essence: &str) -> bool
     ensures { result ≡ bytes_eq range.now.media.essence essence.now }
@@ -82,14 +82,14 @@ fn is_same(range: &Mime, essence: &str) -> bool
 }
 
 /// Returns how many parts of an offer's essence a range names: 0 for `*/*`, 1 for `text/*`, and 2 for `text/html`. Returns `None` if the
-/// range is for other essences. `type_` is the offer's type.
+/// range doesn't match the essence. `type_` is the offer's type.
 #[inline(always)]
 pub(crate) fn named_parts(range: &Mime, essence: &str, type_: &str) -> Option<u8>
     ensures { result ≡ (if bytes_eq range.now.media.essence (codes "*/*") then Some 0 else
         if bytes_eq range.now.media.essence (type_.now ++ codes "/*") then Some 1 else
         if bytes_eq range.now.media.essence essence.now then Some 2 else None) }
 {
-    // Most lengths differ, so that the range's text isn't read.
+    // Most lengths differ, so the texts of most ranges aren't read.
     let len = range.essence_str().len();
     if len == 3 && is_star(range) {
         Some(0)
@@ -123,8 +123,8 @@ pub(crate) fn param_count(mime: &Mime) -> usize
     count
 }
 
-/// Returns how many parameters other than `q` the range has, before and after it (RFC 9110, 12.5.1), if the offer has them all, and its
-/// weight, in one walk. It isn't inlined: most ranges have no parameter.
+/// Returns the number of the range's parameters other than `q`, before and after the `q` (RFC 9110, 12.5.1), and the range's weight.
+/// Returns `None` if the offer lacks one of these parameters. It isn't inlined, since most ranges have no parameters.
 #[inline(never)]
 fn demanded_among(range: &Mime, offer: &Mime) -> Option<(usize, u16)>
     ensures { result ≡ (if list_all (has offer.now.media) (demanded range.now.media.pairs)
@@ -146,7 +146,7 @@ fn demanded_among(range: &Mime, offer: &Mime) -> Option<(usize, u16)>
     Some((count, weight_in(weight)))
 }
 
-/// Returns what follows the essence in a media type's kept text: the parameters, with the semicolon before them.
+/// Returns the part of a media type's kept text that follows the essence: the parameters, with the semicolon before them.
 #[inline(always)]
 pub(crate) fn after_essence(mime: &Mime) -> &[u8]
     ensures after { result.now ≡ drop (length mime.now.media.essence) mime.now.media.kept }
@@ -155,7 +155,7 @@ pub(crate) fn after_essence(mime: &Mime) -> &[u8]
     &mime.as_str().as_bytes()[mime.essence_str().len()..]
 }
 
-/// Returns how many parameters a range demands of an offer, and its weight, or `None` if the offer doesn't have all of them.
+/// Returns how many parameters a range demands of an offer, and the range's weight, or `None` if the offer lacks one of these parameters.
 /// The range `text/html;level=1` demands one.
 #[inline(always)]
 pub(crate) fn demanded(range: &Mime, offer: &Mime) -> Option<(usize, u16)>
@@ -165,7 +165,7 @@ pub(crate) fn demanded(range: &Mime, offer: &Mime) -> Option<(usize, u16)>
     if param_count(range) == 0 {
         return Some((0, 1000));
     }
-    // Most weights are written in one of these ways, after nothing else.
+    // Most weights are written in one of these ways, as the only parameter.
     match after_essence(range) {
         [b';', b'q', b'=', b'0', b'.', digit @ b'0'..=b'9'] => Some((0, tenths(*digit))),
         [b';', b' ', b'q', b'=', b'0', b'.', digit @ b'0'..=b'9'] => Some((0, tenths(*digit))),
@@ -173,9 +173,9 @@ pub(crate) fn demanded(range: &Mime, offer: &Mime) -> Option<(usize, u16)>
     }
 }
 
-/// Returns `true` if a range covers an offer: `text/*` covers `text/html`, and `text/html;level=1` covers `text/html;level=1` and not all
-/// HTML (RFC 9110, 12.5.1). The offer must have each parameter of the range, also those after its weight `q`, which itself doesn't
-/// matter, with a value that means the same: a backslash and the byte after it mean that byte, and case matters, except for a charset.
+/// Returns `true` if a range covers an offer (RFC 9110, 12.5.1). `text/*` covers `text/html`. `text/html;level=1` covers
+/// `text/html;level=1`, but not `text/html`. The offer must have each parameter of the range except `q`, also those after the `q`, with a
+/// value that means the same. A backslash and the byte after it mean that byte. Case matters, except for a charset.
 pub fn covers(range: &Mime, offer: &Mime) -> bool
     ensures { result ≡ is_some (closeness offer.now.media (0, range.now.media)) }
 {

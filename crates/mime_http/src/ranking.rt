@@ -1,4 +1,5 @@
-//! Why an offer is chosen: all offers with their weights and the ranges that decide, and a header's entries one by one.
+//! Explains why an offer is chosen: returns all offers with their weights and the ranges that decide them, and a header's entries one by
+//! one.
 
 ghost use Rattle.std.specs.Prelude.{◌≡◌, ◌++◌, ◌∷◌, ◌==◌, ◌||◌, ◌&&◌, not, map, option_map, unwrap_or, true, position, codes, IfOk, MatchOption};
 ghost use Rattle.std.specs.Char.{is_ascii_digit};
@@ -16,14 +17,14 @@ use mime::Mime;
 use std::alloc::{AllocError, Global};
 use std::cmp::Reverse;
 
-/// An offer with its weight and the range that decides.
+/// An offer with its weight and the range that decides the weight.
 #[derive(Clone, Copy, PartialEq, Eq, Debug)]
 pub struct RankedOffer {
     /// The offer's position.
     pub offer: usize,
-    /// Its weight in thousandths, as [`Accept::weight`](crate::Accept::weight) returns it.
+    /// The offer's weight in thousandths, as [`Accept::weight`](crate::Accept::weight) returns it.
     pub weight: u16,
-    /// The position of the range that decides its weight, the most specific that covers it; `None` if none does.
+    /// The position of the range that decides the weight: the most specific range that covers the offer. `None` if no range covers it.
     pub range: Option<usize>,
 }
 
@@ -58,11 +59,11 @@ fn ranked_offers(
     Ok(offers)
 }
 
-/// Returns all of these offers, the best first, each with its weight and the range that decides. Their order is that of
-/// [`Accept::best`](crate::Accept::best), so the first is the best, unless it weighs 0. Each offer is compared with the ranges once.
+/// Returns all offers, the best first, each with its weight and the range that decides the weight. Offers are compared as by
+/// [`Accept::best`](crate::Accept::best), so the first is the best, unless it weighs 0. Each offer is compared with the ranges only once.
 ///
 /// # Errors
-/// `AllocError` if memory runs out.
+/// Returns `AllocError` if memory runs out.
 pub fn rank_offers(
     alloc: Global,
     ranges: &[Mime],
@@ -98,14 +99,14 @@ pub fn lacking(ranges: &[Mime], offer: &Mime) -> Option<usize>
     None
 }
 
-/// Returns `true` if all bytes are digits, or are zeros if `zeros_alone`.
+/// Returns `true` if all bytes are digits. If `zeros_alone`, all must be zeros.
 fn are_digits(zeros_alone: bool, bytes: &[u8]) -> bool
     ensures { result ≡ list_all (λ b. b == 48 || (not zeros_alone && is_ascii_digit b)) bytes.now }
 {
     bytes.iter().all(|byte| *byte == b'0' || (!zeros_alone && byte.is_ascii_digit()))
 }
 
-/// Returns `true` if bytes are empty, or a dot and at most three digits, which are zeros if `zeros_alone`.
+/// Returns `true` if there are no bytes, or a dot and at most three digits. If `zeros_alone`, all digits must be zeros.
 fn are_decimals(zeros_alone: bool, bytes: &[u8]) -> bool
     ensures { result ≡ are_decimals zeros_alone bytes.now }
 {
@@ -127,8 +128,8 @@ fn is_qvalue(bytes: &[u8]) -> bool
     }
 }
 
-/// Returns `true` if a range's weight is one that RFC 9110 allows (12.4.2), or if it has none: not for `high`, `1.5` or `0.0001`, which
-/// [`weight_of`](crate::weight_of) reads nevertheless.
+/// Returns `true` if a range has a weight that RFC 9110 allows (12.4.2), or has no weight. Returns `false` for `high`, `1.5` or `0.0001`,
+/// though [`weight_of`](crate::weight_of) reads them.
 pub fn has_weight(range: &Mime) -> bool
     ensures { result ≡ unwrap_or (option_map is_qvalue (first_value (codes "q") range.now.media.pairs)) true }
 {
@@ -138,8 +139,8 @@ pub fn has_weight(range: &Mime) -> bool
     }
 }
 
-/// Returns the first entry of a header's line, with the white space around it, and what follows its comma, if there is one. A comma in a
-/// quoted string doesn't end an entry. It doesn't allocate.
+/// Returns the first entry of a header's line, with the white space around it, and the rest of the line after its comma, or `None` if no
+/// comma ends it. A comma in a quoted string doesn't end an entry. This doesn't allocate.
 pub fn first_entry(line: &[u8]) -> (&[u8], Option<&[u8]>)
     ensures { MatchOption result.1 ((line.now ≡ result.0.now) × BeginsPiece result.0.now)
         (λ rest. (line.now ≡ result.0.now ++ (comma_byte ∷ rest.now)) × IsPiece result.0.now) }

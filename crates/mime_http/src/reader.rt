@@ -1,4 +1,4 @@
-//! A header's value read in one pass, by HTTP's own grammar (RFC 9110, 8.3.1 and 5.6.6), and written anew.
+//! Reads a header's value in one pass, by HTTP's own grammar (RFC 9110, 8.3.1 and 5.6.6), and writes it anew.
 
 ghost use Rattle.std.specs.Prelude.{◌≡◌, ◌<◌, ◌≤◌, ◌+◌, ◌-◌, ◌^◌, ◌++◌, ◌≢◌, true, false, ℕ, List, [], ◌∷◌, codes, drop, length, slice_index, slice_range, MatchResult};
 ghost use Rattle.std.specs.List.{list_all, prefix_len};
@@ -10,7 +10,7 @@ use crate::list::is_space;
 use mime::{ParseError, is_quoted_byte, is_quoted_text_byte, is_token};
 use mime_search::{Class, Range, copy_bytes, first_stop, first_stop_far};
 
-/// All bytes except letters, digits, hyphens and dots, which are most bytes of tokens.
+/// All bytes except letters, digits, hyphens and dots, of which most tokens consist.
 static TOKEN_STOPS: Class = Class {
     fold: 0x20,
     folded: Range(b'a', b'z'),
@@ -19,7 +19,7 @@ static TOKEN_STOPS: Class = Class {
     inside: false,
 };
 
-/// All bytes except those of quoted text in ASCII; but the tab, too.
+/// All bytes except the ASCII bytes of quoted text. The tab is included, though quoted text may have it.
 static TEXT_STOPS: Class = Class {
     fold: 0,
     folded: Range(b'#', b'['),
@@ -28,10 +28,10 @@ static TEXT_STOPS: Class = Class {
     inside: false,
 };
 
-/// The number of bytes of a run after which blocks of it are searched at once.
+/// The number of bytes of a run that are tested one by one, before it is searched in blocks.
 const LONG: usize = 16;
 
-/// Returns the position of the first byte, from a position on, that isn't white space, or the length.
+/// Returns the position of the first byte at or after `from` that isn't white space, or the length.
 fn spaces_end(value: &[u8], from: usize) -> usize
     requires { from ≤ length value.now }
     ensures end { result ≡ from + prefix_len is_space (drop from value.now) }
@@ -48,8 +48,8 @@ fn spaces_end(value: &[u8], from: usize) -> usize
     at
 }
 
-/// Returns the position of the first byte, from a position on, that may not occur in a token, or the length. It isn't inlined: few tokens
-/// are long.
+/// Returns the position of the first byte at or after `from` that may not occur in a token, or the length. It isn't inlined, since few
+/// tokens are long.
 #[cold]
 #[inline(never)]
 fn token_end_far(value: &[u8], from: usize) -> usize
@@ -67,7 +67,7 @@ fn token_end_far(value: &[u8], from: usize) -> usize
     at
 }
 
-/// Returns the position that `token_end_far` finds, in few instructions for a short token.
+/// Returns the same position as `token_end_far`, in fewer instructions for a short token.
 fn token_end(value: &[u8], from: usize) -> usize
     requires { from ≤ length value.now }
     ensures end { result ≡ from + prefix_len is_token_byte (drop from value.now) }
@@ -87,7 +87,7 @@ fn token_end(value: &[u8], from: usize) -> usize
     token_end_far(value, at)
 }
 
-/// Returns `true` if the byte at a position is this one.
+/// Returns `true` if the byte at a position is `byte`.
 #[inline(always)]
 fn is_at(value: &[u8], pos: usize, byte: u8) -> bool
     ensures yes { result ≡ true → (pos < length value.now) × (slice_index value.now pos ≡ byte) }
@@ -105,7 +105,7 @@ fn is_token_at(value: &[u8], pos: usize) -> bool
     pos < value.len() && is_token(value[pos])
 }
 
-/// Returns the fault of a value that no media type continues at a position: what is missing at its end, or the byte there.
+/// Returns the fault of a value that can't be read on at a position: `missing` if the position is the value's end, or else the byte there.
 fn fault_at(value: &[u8], pos: usize, missing: ParseError) -> ParseError
     requires { pos ≤ length value.now }
     ensures { result ≡ fault_at value.now pos missing }
@@ -119,7 +119,7 @@ fn fault_at(value: &[u8], pos: usize, missing: ParseError) -> ParseError
     }
 }
 
-/// Returns the position after a byte of quoted text, in content that begins at `from`, and perhaps after more of them.
+/// Returns the position after the byte of quoted text at `at`, or after more bytes of quoted text. The content begins at `from`.
 #[inline(always)]
 fn text_end(value: &[u8], at: usize, from: usize) -> usize
     requires least { from ≤ at }
@@ -136,7 +136,7 @@ fn text_end(value: &[u8], at: usize, from: usize) -> usize
     end
 }
 
-/// Returns the position of the quote that closes a string whose content goes on at a position, or the fault.
+/// Returns the position of the quote that closes the quoted string that `from` is in, or the fault.
 fn string_end(value: &[u8], from: usize) -> Result<usize, ParseError>
     requires { from ≤ length value.now }
     ensures { MatchResult result (IsClosedAt value.now from) (IsStringFault value.now from) }
@@ -162,7 +162,8 @@ fn string_end(value: &[u8], from: usize) -> Result<usize, ParseError>
     Err(ParseError::MissingQuote)
 }
 
-/// What is written of a parameter: the bytes from its name up to `first`, and those from `begin` up to `last`. It ends before `end`.
+/// The bytes that are written of a parameter: those from its name up to `first`, and those from `begin` up to `last`. The parameter ends
+/// before `end`.
 #[derive(Clone, Copy)]
 struct Spans {
     first: usize,
@@ -171,7 +172,7 @@ struct Spans {
     end: usize,
 }
 
-/// Returns the parameter whose value is the string that a quote at a position opens, or the fault.
+/// Returns the parameter whose value is the quoted string that begins at `quote`, or the fault.
 fn string_at(value: &[u8], quote: usize) -> Result<Spans, ParseError>
     requires within { quote < length value.now }
     requires quote { slice_index value.now quote ≡ quote_byte }
@@ -261,7 +262,7 @@ fn essence(value: &[u8]) -> Result<(usize, usize), ParseError>
     Ok((top, end))
 }
 
-/// Writes bytes into a buffer after `len` others, if they fit, and returns the number of all bytes.
+/// Writes bytes into the buffer `room` at position `len`, if they fit. Returns the position after them, whether or not they fit.
 fn put(room: &mut [u8], len: usize, bytes: &[u8]) -> usize
     requires { len + length bytes.now < 2 ^ 64 }
     ensures holds { (text : List ℕ) → Holds room.old len text → Holds room.new result (text ++ bytes.now) }
@@ -275,7 +276,7 @@ fn put(room: &mut [u8], len: usize, bytes: &[u8]) -> usize
     end
 }
 
-/// Writes the parameter whose name begins at a position, after a semicolon and a space.
+/// Writes a semicolon, a space, and the parameter whose name begins at `name`, as `put` does.
 fn put_parameter(room: &mut [u8], len: usize, value: &[u8], name: usize, spans: Spans) -> usize
     requires least { name ≤ spans.first }
     requires apart { spans.first ≤ spans.begin }
@@ -295,8 +296,9 @@ fn put_parameter(room: &mut [u8], len: usize, value: &[u8], name: usize, spans: 
     put(room, len, &value[spans.begin..spans.last])
 }
 
-/// Writes the media type of a value anew, as far as there is room: its essence, and each parameter as `with_parameter` writes it. Returns
-/// the number of its bytes, or the fault of a value that HTTP doesn't allow. It doesn't allocate.
+/// Writes the media type of a value anew: its essence, and each parameter as `with_parameter` writes it. Returns the number of its bytes,
+/// or the fault of a value that HTTP doesn't allow. If the buffer `room` has fewer bytes, the text in it isn't complete. It doesn't
+/// allocate.
 pub(crate) fn write_anew(value: &[u8], room: &mut [u8]) -> Result<usize, ParseError>
     ensures answer { MatchResult result
         (λ len. (parts : Parts) × (answer_of value.now ≡ read parts) × Holds room.new len (text_of_parts parts))

@@ -1,4 +1,4 @@
-//! The media type of a header's value, which is passed as bytes.
+//! Reads the media type of a header's value, which is passed as bytes.
 
 ghost use Rattle.std.specs.Prelude.{◌≡◌, ◌≢◌, ◌<◌, ◌≤◌, ℕ, List, true, codes, length, Some, IfOk, IfErr, IfSome, IsOk, MatchResult};
 ghost use Rattle.std.specs.Fmt.InlineText.{inline_text};
@@ -20,7 +20,7 @@ use std::fmt;
 use std::fmt::{InlineText, Write};
 use std::str::Utf8Error;
 
-/// Why a header's value isn't read as a media type. Positions are in bytes of the value that was passed, from 0.
+/// The reason why a header's value isn't read as a media type. Positions are in bytes, from 0, in the value that was passed.
 #[derive(Clone, Copy, PartialEq, Eq, Debug)]
 pub enum FieldError {
     /// The value isn't valid UTF-8. Nothing was allocated.
@@ -28,9 +28,9 @@ pub enum FieldError {
         /// The position of the first byte that isn't valid UTF-8: the bytes before it are the longest valid prefix.
         pos: usize,
     },
-    /// The value isn't a media type, for this fault. It is never `ParseError::NoMemory`.
+    /// The value isn't a media type, and has this fault. The fault is never `ParseError::NoMemory`.
     Invalid(ParseError),
-    /// Memory ran out. Never returned for a value that isn't a media type, nor for one of which at most 40 bytes are printed.
+    /// Memory ran out. This is never returned for a value that isn't a media type, nor for one that is printed in at most 40 bytes.
     NoMemory,
 }
 
@@ -43,8 +43,8 @@ fn not_utf8_text(pos: usize) -> Result<InlineText<64>, fmt::Error>
     Ok(text)
 }
 
-/// Prints `mime parse error: ` and what the fault prints, or `the value isn't UTF-8 at position 7`, or `memory ran out`. A width
-/// and a precision are ignored.
+/// Prints `mime parse error: ` and the fault, or `the value isn't UTF-8 at position 7`, or `memory ran out`. Ignores a width and a
+/// precision.
 impl fmt::Display for FieldError {
     ghost use Rattle.mime_http.specs.HttpPrinted.{field_error_text};
 
@@ -66,8 +66,8 @@ impl fmt::Display for FieldError {
 
 impl Error for FieldError {}
 
-/// Converts bytes to a string as `str::from_utf8` does, and faster for ASCII, which most values are. Those that are known to be ASCII
-/// aren't looked at again.
+/// Converts bytes to a string as `str::from_utf8` does, but faster for ASCII, which most values are. If `is_ascii`, the bytes are known to
+/// be ASCII and aren't tested.
 #[inline(always)]
 #[tactic(auto, using(crate::proofs::Around::ascii_is_utf8))]
 pub(crate) fn text_of_piece(piece: &[u8], is_ascii: bool) -> Result<&str, Utf8Error>
@@ -92,7 +92,7 @@ fn trimmed(text: &str) -> &str
     unsafe { str::from_utf8_unchecked(left) }
 }
 
-/// Reads the text of a value that was written anew. It doesn't allocate for at most 40 bytes.
+/// Reads the text of a value that was written anew. It doesn't allocate if the text has at most 40 bytes.
 fn read_written(alloc: Global, text: &[u8]) -> Result<Mime, FieldError>
     requires { (value : List ℕ) × (parts : Parts) × IsUtf8 value × (answer_of value ≡ read parts) × (text.now ≡ text_of_parts parts) }
     ensures read { (value : List ℕ) (parts : Parts) → answer_of value ≡ read parts → text.now ≡ text_of_parts parts
@@ -107,7 +107,7 @@ fn read_written(alloc: Global, text: &[u8]) -> Result<Mime, FieldError>
     }
 }
 
-/// Reads a value of which `len` bytes are written anew, more than 40.
+/// Reads a value that is written anew in `len` bytes, which are more than 40.
 fn read_in_block(alloc: Global, value: &str, len: usize) -> Result<Mime, FieldError>
     requires { (parts : Parts) × (answer_of value.now ≡ read parts) × (length (text_of_parts parts) ≡ len) × (40 < len) }
     ensures read { IfOk result (λ mime. (parts : Parts) × (answer_of value.now ≡ read parts) × (mime.media ≡ media_of parts)) }
@@ -122,8 +122,9 @@ fn read_in_block(alloc: Global, value: &str, len: usize) -> Result<Mime, FieldEr
     }
 }
 
-/// Returns the fault of a value, if it follows from the one for which `mime` rejects the value without the white space around it. Where
-/// `mime` stops, HTTP goes on only at white space and at a semicolon. At the end the same is missing, if no white space is there.
+/// Returns the fault of a value, if it follows from `fault`, for which `mime` rejects the value without the white space around it. Where
+/// `mime` stops, HTTP continues only at white space and at a semicolon. At the value's end HTTP misses the same as `mime`, unless white
+/// space is there.
 fn same_fault(value: &[u8], fault: ParseError) -> Option<ParseError>
     requires { Explains (trimmed value.now) fault }
     ensures { IfSome result (λ same. IsHttpFault value.now same) }
@@ -147,8 +148,8 @@ fn same_fault(value: &[u8], fault: ParseError) -> Option<ParseError>
     }
 }
 
-/// Reads a value, given the fault or `NoMemory` that `mime` returns for it without the white space around it. The result is matched and
-/// made anew, so that the caller reserves no stack for it if `mime` accepts the value.
+/// Reads a value. `fault` is the fault or `NoMemory` that `mime` returns for the value without the white space around it. The result is
+/// matched and made anew, so that the caller reserves no stack for it if `mime` accepts the value.
 #[inline(always)]
 pub(crate) fn read_rejected(
     alloc: Global,
@@ -165,8 +166,8 @@ pub(crate) fn read_rejected(
     }
 }
 
-/// Reads what `read_rejected` reads. It doesn't allocate if at most 40 bytes are printed; else it allocates a block for them and one for
-/// the media type. A value for which memory ran out is printed as its essence, if it has no parameters.
+/// Reads a value as `read_rejected` does. It doesn't allocate if at most 40 bytes are printed. Otherwise, it allocates a block for them and
+/// one for the media type. If `fault` is `NoMemory`, only a value without parameters is read, which is printed as its essence.
 #[inline(never)]
 fn read_other(alloc: Global, value: &str, fault: &ParseError) -> Result<Mime, FieldError>
     requires { Explains (trimmed value.now) fault.now }
@@ -197,35 +198,35 @@ fn read_other(alloc: Global, value: &str, fault: &ParseError) -> Result<Mime, Fi
     }
 }
 
-/// Reads the media type of a header's value, such as that of a `Content-Type`, from bytes as they are received (RFC 9110, 8.3.1,
-/// with 5.6.3, 5.6.4 and 5.6.6). Accepts what the grammar there allows, if it is valid UTF-8, also with white space around it:
-/// white space around semicolons, and empty parameters. A value past ASCII that isn't UTF-8 (obs-text) is rejected.
+/// Reads the media type of a header's value, such as that of a `Content-Type`, from bytes as they are received (RFC 9110, 8.3.1, with
+/// 5.6.3, 5.6.4 and 5.6.6). Accepts each value that the grammar there allows, with white space around semicolons and with empty parameters,
+/// if it is valid UTF-8. White space around the value is allowed, too. A non-ASCII value that isn't UTF-8 (obs-text) is rejected.
 ///
-/// A request has at most one such line. Treat two as an error, since programs differ in which one they use. A body without one may be
-/// treated as `application/octet-stream` (8.3).
+/// A request has at most one `Content-Type` line. Treat two as an error, since programs differ in which one they use. A body without one
+/// may be treated as `application/octet-stream` (8.3).
 ///
-/// The white space around the value is removed. What [`Mime::from_str`] then accepts is read as it is. Any other value is printed anew:
-/// its essence, and each parameter as [`with_parameter`](crate::with_parameter) writes it, so that ` text/html ;; charset="utf-8"`
-/// prints `text/html; charset=utf-8`. The values of parameters keep their backslashes.
+/// The white space around the value is removed. A value that [`Mime::from_str`] then accepts is read as it is. Any other value is printed
+/// anew: its essence, and each parameter as [`with_parameter`](crate::with_parameter) writes it. So ` text/html ;; charset="utf-8"` is
+/// printed as `text/html; charset=utf-8`. The values of parameters keep their backslashes.
 ///
-/// It doesn't allocate if at most 40 bytes are printed. Otherwise it allocates once for a value that is read as it is, and twice for one
-/// that is printed anew, of which one block is freed. It doesn't allocate for a value that it rejects.
+/// It doesn't allocate if at most 40 bytes are printed. Otherwise, it allocates one block for a value that is read as it is, and two blocks
+/// for a value that is printed anew, of which it frees one. It doesn't allocate for a value that it rejects.
 ///
 /// # Errors
-/// `NotUtf8` for a value that isn't valid UTF-8; `Invalid` with the fault of a value that isn't a media type, at its position in `value`:
-/// 7 for `   a/b c`; `NoMemory` if memory runs out, which never happens for a value that isn't a media type, nor for one of which at most
-/// 40 bytes are printed.
+/// Returns `NotUtf8` if the value isn't valid UTF-8. Returns `Invalid` with the fault if the value isn't a media type. The fault's position
+/// is that in `value`: 7 for `   a/b c`. Returns `NoMemory` if memory runs out, which never happens for a value that isn't a media type,
+/// nor for one that is printed in at most 40 bytes.
 #[inline(always)]
 pub fn content_type(alloc: Global, value: &[u8]) -> Result<Mime, FieldError>
     // The result is the media type that HTTP defines.
     ensures http { IfOk result (λ mime. IsUtf8 value.now × HttpReads value.now mime.media) }
-    // It prints the text that is printed for the value.
+    // It is printed as the text that `IsPrinted` defines for the value.
     ensures kept { IfOk result (λ mime. IsPrinted value.now mime.media) }
     // An error is the position at which the value isn't UTF-8, its fault, or `NoMemory`.
     ensures explained { IfErr result (λ error. HttpExplains value.now error) }
-    // So a value that HTTP allows, in UTF-8, is read, or memory ran out.
+    // So a value in UTF-8 that HTTP allows is read, unless memory runs out.
     ensures accepted { IsUtf8 value.now → IsHttpMediaType value.now → IfErr result (λ error. error ≡ FieldError.NoMemory) }
-    // `*/*` is always read, and so is a value of which at most 40 bytes are printed.
+    // `*/*` is always read, and so is a value that is printed in at most 40 bytes.
     ensures star { value.now ≡ codes "*/*" → IsOk result }
     ensures short { (media : MediaType) → IsUtf8 value.now → HttpReads value.now media → IsPrinted value.now media → length media.kept ≤ 40
         → IsOk result }
