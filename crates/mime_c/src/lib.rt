@@ -1,8 +1,8 @@
 //! The calls that include/mime.h declares, for programs that aren't in Rattle.
 //!
-//! No call keeps a pointer or a state. Each returns a number, its answer, and writes strings, with the byte 0 after each, into the
-//! caller's buffer. The files `Answers`, `HeaderAnswers` and `ParameterAnswers` of `Rattle.mime_c.specs` define which, and
-//! include/mime.h says it in plain words.
+//! No call keeps a pointer or a state. Each returns a number, its answer, and writes strings, each with a byte 0 after it, into the
+//! caller's buffer. The files `Answers`, `HeaderAnswers` and `ParameterAnswers` of `Rattle.mime_c.specs` define the answers and the
+//! strings. include/mime.h describes them in plain words.
 #![tactic(auto)]
 
 ghost use Rattle.std.specs.Prelude.{◌≡◌, ◌≢◌, ◌+◌, ◌<◌, ◌≤◌, true, false, [], ◌∷◌, length, IfOk, IfErr, IsOk, MatchResult};
@@ -24,7 +24,7 @@ use mime_http::{Accept, FieldError, content_type, weight_of};
 use std::alloc::{AllocError, Global};
 use std::str::Utf8Error;
 
-// The answers of all calls, by the names and numbers of include/mime.h, which says what they mean.
+// The answers of all calls. include/mime.h has the same names and numbers, and describes them.
 const MIME_OK: u32 = 0;
 
 const MIME_MISSING_SLASH: u32 = 1;
@@ -53,12 +53,13 @@ const MIME_NO_BOUNDARY: u32 = 12;
 
 const MIME_BAD_PARAMETER: u32 = 13;
 
-// The first byte of each string of `mime_list`: of a media type, and of a bad piece.
+// The first byte of each string of `mime_list`: `MIME_GOOD` before a media type, and `MIME_BAD` before a bad piece.
 const MIME_GOOD: u8 = b'+';
 
 const MIME_BAD: u8 = b'-';
 
-/// What `mime_read` and `mime_content_type` find besides the strings, in bytes, positions from 0. What an answer doesn't set is 0.
+/// The numbers that `mime_read` and `mime_content_type` find besides the strings. Lengths and positions are in bytes, positions from 0. A
+/// field that an answer doesn't set is 0.
 #[repr(C)]
 #[derive(Clone, Copy)]
 pub struct MimeFound {
@@ -72,13 +73,13 @@ pub struct MimeFound {
     pub slash: usize,
     /// The end of the subtype in the essence: the position of a suffix's plus, or of the 0 after the essence.
     pub subtype_end: usize,
-    /// The position in the text of the invalid byte, or of the first that isn't part of valid UTF-8.
+    /// The position in the text of the invalid byte, or of the first byte that isn't part of valid UTF-8.
     pub pos: usize,
     /// The invalid byte.
     pub byte: u8,
 }
 
-/// What is found if nothing is set.
+/// A `MimeFound` in which nothing is set.
 const NOTHING: MimeFound = MimeFound {
     length: 0,
     params: 0,
@@ -89,7 +90,7 @@ const NOTHING: MimeFound = MimeFound {
     byte: 0,
 };
 
-/// Returns the number of a fault.
+/// Returns the answer for a fault.
 fn number_of(fault: &ParseError) -> u32
     ensures { result ≡ number_of fault.now }
 {
@@ -104,7 +105,7 @@ fn number_of(fault: &ParseError) -> u32
     }
 }
 
-/// Returns what is found in a text that isn't UTF-8: the length of its valid part.
+/// Returns what is found in a text that isn't UTF-8: the position after its longest valid prefix.
 fn found_at(pos: usize) -> MimeFound
     ensures { result ≡ found_at pos 0 }
 {
@@ -125,7 +126,7 @@ fn found_of_fault(fault: &ParseError) -> MimeFound
     }
 }
 
-/// Converts bytes to a string as `str::from_utf8` does, and faster for ASCII, which most texts are.
+/// Converts bytes to a string as `str::from_utf8` does, but faster for ASCII, which most texts are.
 #[inline(never)]
 fn text_of(bytes: &[u8]) -> Result<&str, Utf8Error>
     ensures cases { MatchResult result (λ text. (text.now ≡ bytes.now) × IsUtf8 bytes.now)
@@ -234,8 +235,8 @@ fn put_texts(out: &mut [u8], mime: &Mime) -> MimeFound
     }
 }
 
-/// Reads the whole of `text` as one media type (RFC 7231, 3.1.1.1), and writes its parts and how it is printed to
-/// `out`, of at least `2 * text.len() + 2` bytes. It returns `MIME_OK`, or why it wrote nothing: mime.h.
+/// Reads the whole of `text` as one media type (RFC 7231, 3.1.1.1), and writes its parts and its printed text to `out`, which must have at
+/// least `2 * text.len() + 2` bytes. Returns `MIME_OK`, or another answer of include/mime.h if it wrote nothing.
 #[unsafe(no_mangle)]
 #[tactic(auto, using(crate::proofs::Room::texts_fit))]
 pub extern "C" fn mime_read(
@@ -262,8 +263,9 @@ pub extern "C" fn mime_read(
     }
 }
 
-/// Reads a header's value, such as that of a Content-Type, as one media type (RFC 9110, 8.3.1), and writes what
-/// `mime_read` writes of a text to `out`, of at least `3 * value.len() + 2` bytes.
+/// Reads a header's value, such as that of a Content-Type, as one media type (RFC 9110, 8.3.1), and writes the strings that `mime_read`
+/// writes to `out`, which must have at least `3 * value.len() + 2` bytes. Returns `MIME_OK`, or another answer of include/mime.h if it
+/// wrote nothing.
 #[unsafe(no_mangle)]
 pub extern "C" fn mime_content_type(
     alloc: Global,
@@ -299,8 +301,9 @@ fn put_item(out: &mut [u8], at: usize, mark: u8, text: &str) -> usize
     put(out, next, text)
 }
 
-/// Finds the media types in `text`, as `MimeIter` does; `mime_accept` reads an Accept header. It writes a string for each, and for
-/// each bad piece, to `out`, of at least `2 * text.len()` bytes, and returns `MIME_OK`, or why it wrote no list: mime.h.
+/// Finds the media types in `text`, as `MimeIter` does. For an Accept header use `mime_accept`. Writes a string for each media type, and
+/// for each bad piece, to `out`, which must have at least `2 * text.len()` bytes. Returns `MIME_OK`, or another answer of include/mime.h if
+/// it wrote no list.
 #[unsafe(no_mangle)]
 #[tactic(auto, using(crate::specs::Answers::has_no_room, crate::specs::Answers::is_not_text))]
 pub extern "C" fn mime_list(alloc: Global, text: &[u8], out: &mut [u8], length: &mut usize) -> u32
@@ -325,8 +328,8 @@ pub extern "C" fn mime_list(alloc: Global, text: &[u8], out: &mut [u8], length: 
     MIME_OK
 }
 
-/// Sets `equal` to 1 if two texts are read as equal media types (RFC 7231, 3.1.1.1), else to 0. It returns `MIME_OK`,
-/// or why a text isn't read. `Text/Plain;charset="UTF-8"` and `text/plain; charset=utf-8` are equal.
+/// Sets `equal` to 1 if two texts are read as equal media types (RFC 7231, 3.1.1.1), and otherwise to 0. Returns `MIME_OK`, or the reason
+/// why a text isn't read. `Text/Plain;charset="UTF-8"` and `text/plain; charset=utf-8` are equal.
 #[unsafe(no_mangle)]
 #[tactic(auto, using(crate::specs::Answers::first_fails, crate::specs::Answers::second_fails))]
 pub extern "C" fn mime_equal(alloc: Global, one: &[u8], other: &[u8], equal: &mut u8) -> u32
@@ -369,9 +372,9 @@ fn put_range(out: &mut [u8], at: usize, range: &Mime) -> usize
     put(out, end, "")
 }
 
-/// Reads a line of an Accept header (RFC 9110, 12.5.1), and writes the strings of each range to `out`, of at least
-/// `3 * text.len() + 3` bytes: its weight in thousandths, as four digits, its parts, and an empty string. It sets `bad`
-/// to the number of the other entries.
+/// Reads a line of an Accept header (RFC 9110, 12.5.1), and writes the strings of each range to `out`, which must have at least `3 *
+/// text.len() + 3` bytes: the weight in thousandths, as four digits, the parts, and an empty string. Sets `bad` to the number of bad
+/// entries. Returns `MIME_OK`, `MIME_NO_ROOM` or `MIME_NO_MEMORY`.
 #[unsafe(no_mangle)]
 pub extern "C" fn mime_accept(
     alloc: Global,
@@ -399,7 +402,7 @@ pub extern "C" fn mime_accept(
     MIME_OK
 }
 
-/// Reads an `Accept` header of one line, or of none unless `is_there`. Its bad entries are left out.
+/// Reads an `Accept` header of one line, or of no lines if not `is_there`. Bad entries aren't kept.
 fn accepted(alloc: Global, is_there: bool, line: &[u8]) -> Result<Accept, AllocError>
     ensures header { IfOk result (λ accept. (header : Header) × IsHeader (lines_of is_there line.now) header × (accept.ranges ≡ header.ranges)) }
     ensures nothing { HaveNoEntry (lines_of is_there line.now) → IsOk result }
@@ -419,8 +422,9 @@ fn has_bad(offered: &Accept) -> bool
     !offered.bad().is_empty()
 }
 
-/// Sets `best` to the position in a list of offers, such as `text/html, application/json`, of the best one for an Accept
-/// header (RFC 9110, 12.5.1). A request without the header, for which `is_there` is false, accepts everything.
+/// Sets `best` to the position of the best offer for an Accept header (RFC 9110, 12.5.1) in a list of offers, such as `text/html,
+/// application/json`. A request without the header, for which `is_there` is false, accepts everything. Returns `MIME_OK`, `MIME_BAD_OFFER`,
+/// `MIME_NOT_ACCEPTABLE` or `MIME_NO_MEMORY`.
 #[unsafe(no_mangle)]
 pub extern "C" fn mime_best(
     alloc: Global,
@@ -450,8 +454,8 @@ pub extern "C" fn mime_best(
     }
 }
 
-/// Sets the first places of `order` to the positions of the acceptable offers of a list, the best first, as `mime_best` chooses it
-/// (RFC 9110, 12.5.1), and `count` to their number. It returns `MIME_OK`, or why it wrote nothing: mime.h.
+/// Writes the positions of the acceptable offers of a list to the start of `order`, and sets `count` to their number (RFC 9110, 12.5.1).
+/// The first is the best, which `mime_best` chooses. Returns `MIME_OK`, or another answer of include/mime.h if it wrote nothing.
 #[unsafe(no_mangle)]
 pub extern "C" fn mime_order(
     alloc: Global,

@@ -1,4 +1,4 @@
-//! The calls for parameters: two that say what a parameter means, and one that writes a parameter.
+//! The calls for parameters. Two write what a parameter means, and one writes a media type with a parameter.
 
 ghost use Rattle.std.specs.Prelude.{◌≡◌, false, ◌↔◌, ◌<◌, ◌≤◌, ◌==◌, ◌&&◌, not, IsTrue, length};
 ghost use Rattle.mime.specs.Bytes.{backslash_byte};
@@ -15,10 +15,10 @@ use mime_http::{boundary, content_type, with_parameter};
 use mime_search::{Class, first_stop};
 use std::alloc::Global;
 
-/// The most bytes that a boundary has, and a 0 (RFC 2046, 5.1.1).
+/// The maximum number of bytes of a boundary (RFC 2046, 5.1.1) and the 0 after it.
 const BOUNDARY_ROOM: usize = 71;
 
-/// Writes a string at the beginning, and returns its length without its 0.
+/// Writes a text and a 0 at the start of `out`, and returns the length of the text.
 #[tactic(auto, using(crate::proofs::Writing::both_written))]
 fn put_string(out: &mut [u8], text: &[u8]) -> usize
     requires { length text.now < length out.old }
@@ -30,8 +30,8 @@ fn put_string(out: &mut [u8], text: &[u8]) -> usize
     end
 }
 
-/// Writes the boundary of a body to `out`, of at least 71 bytes, by the value of its Content-Type (RFC 2046, 5.1.1), and sets `size` to its
-/// number of bytes. It returns `MIME_OK`, or why it wrote nothing: mime.h.
+/// Writes the boundary of a body whose Content-Type is `value` (RFC 2046, 5.1.1) to `out`, which must have at least 71 bytes. Sets `size`
+/// to the number of bytes of the boundary. Returns `MIME_OK`, or another answer of include/mime.h if it wrote nothing.
 #[unsafe(no_mangle)]
 pub extern "C" fn mime_boundary(
     alloc: Global,
@@ -59,8 +59,8 @@ pub extern "C" fn mime_boundary(
     }
 }
 
-/// Returns `true` if a byte begins a quoted pair: if it is a backslash, and the byte before it doesn't begin one, which
-/// `is_paired` says.
+/// Returns `true` if a byte begins a quoted pair: it is a backslash, and not `is_paired`, which says that the byte before it begins a
+/// quoted pair.
 fn begins_quoted_pair(is_paired: bool, byte: u8) -> bool
     ensures { result ≡ (not is_paired && byte == backslash_byte) }
 {
@@ -74,7 +74,7 @@ fn has_backslash(value: &[u8]) -> bool
     first_stop(value, 0, &Class::of(b'\\', b'\\')) < value.len()
 }
 
-/// Writes what a value means, and returns its number of bytes: each backslash and the byte after it mean that byte.
+/// Writes the bytes that a value means, and returns their number. A backslash and the byte after it mean that byte.
 fn put_unescaped(out: &mut [u8], value: &[u8]) -> usize
     requires { length value.now < length out.old }
     ensures written { HasWritten out.old out.new result (unescaped value.now) }
@@ -97,8 +97,8 @@ fn put_unescaped(out: &mut [u8], value: &[u8]) -> usize
     end
 }
 
-/// Writes what a parameter's value means (RFC 9110, 5.6.4) to `out`, of at least `value.len() + 1` bytes, and sets `size` to its number of
-/// bytes: `a\"b` means `a"b`. It returns `MIME_OK`, or `MIME_NO_ROOM` if it wrote nothing.
+/// Writes the bytes that a parameter's value means (RFC 9110, 5.6.4) to `out`, which must have at least `value.len() + 1` bytes, and sets
+/// `size` to their number. `a\"b` means `a"b`. Returns `MIME_OK`, or `MIME_NO_ROOM` if it wrote nothing.
 #[unsafe(no_mangle)]
 pub extern "C" fn mime_unescape(value: &[u8], out: &mut [u8], size: &mut usize) -> u32
     ensures { UnescapesTo value.now out.old result out.new size.new }
@@ -113,7 +113,7 @@ pub extern "C" fn mime_unescape(value: &[u8], out: &mut [u8], size: &mut usize) 
     MIME_OK
 }
 
-/// Returns `true` if a buffer has room for a media type with a parameter.
+/// Returns `true` if a buffer is long enough for a media type with a parameter.
 fn has_room(out: &[u8], text: &[u8], name: &[u8], value: &[u8]) -> bool
     ensures { IsTrue result ↔ (room_with text.now name.now value.now ≤ length out.now) }
 {
@@ -121,9 +121,9 @@ fn has_room(out: &[u8], text: &[u8], name: &[u8], value: &[u8]) -> bool
     most <= out.len() as u128
 }
 
-/// Writes a media type with a parameter in place of those of its name (RFC 9110, 5.6.6) to `out`, of at least
-/// `2 * text.len() + name.len() + 2 * value.len() + 6` bytes, and sets `size` to its number of bytes. It returns `MIME_OK`, or why it wrote
-/// nothing: mime.h.
+/// Writes a media type with a parameter in place of those of its name (RFC 9110, 5.6.6) to `out`, which must have at least `2 * text.len()
+/// + name.len() + 2 * value.len() + 6` bytes. Sets `size` to the number of bytes of the media type. Returns `MIME_OK`, or another answer of
+/// include/mime.h if it wrote nothing.
 #[unsafe(no_mangle)]
 pub extern "C" fn mime_set_parameter(
     alloc: Global,

@@ -1,6 +1,6 @@
-//! Facts about the library `mime`, in the folder proofs: for each definition of its trusted files an example for which
-//! it is true and one for which it is false, and for most laws an instance. If a definition says less or more, the
-//! proofs here fail. They are a crate of their own, so that users of the library needn't prove them.
+//! Facts about the library `mime`, in the folder proofs: an example and a counterexample for each definition of its trusted files, and an
+//! instance of most laws. If a definition becomes weaker or stronger, the proofs here fail. They are in a crate of their own, so that users
+//! of the library needn't prove them.
 #![tactic(auto)]
 
 ghost use Rattle.std.specs.Prelude.{List, ℕ, Bool, Option};
@@ -11,7 +11,7 @@ ghost use Rattle.mime.specs.Laws.{OneAnswer};
 use mime::TextKey;
 use mime::laws::{keys_decide, one_answer};
 
-/// A key that is a string finds exactly one answer in a list of parameters: an instance of the laws of keys.
+/// Proves that a string, as a key, finds exactly one answer in a list of parameters. This is an instance of the laws of keys.
 pub fn string_key_has_one_answer(key: &&str)
     ensures most { OneAnswer (λ name flag. NameIs name flag key.now.now) }
     ensures least { (items : List Item) → (found : Option (List ℕ × Bool))
@@ -21,7 +21,7 @@ pub fn string_key_has_one_answer(key: &&str)
     one_answer(key);
 }
 
-/// A [`TextKey`] finds exactly one answer, too.
+/// Proves that a [`TextKey`], too, finds exactly one answer.
 pub fn text_key_has_one_answer(key: &TextKey<'_>)
     ensures most { OneAnswer (λ name flag. NameIs name flag key.now.0.now) }
     ensures least { (items : List Item) → (found : Option (List ℕ × Bool))
