@@ -11,11 +11,11 @@ use crate::value::Mime;
 use std::fmt;
 
 /// A constant media type (RFC 7231, 3.1.1.1): [`Atom::mime`] returns it as a [`Mime`], [`Atom::text`] as a string. It
-/// can be matched and copied, and never allocates: `TEXT_PLAIN.mime()` is the media type `text/plain`. Constants aren't
+/// can be matched and copied, and never allocates. `TEXT_PLAIN.mime()` is the media type `text/plain`. Constants aren't
 /// ordered, but their media types are.
 ///
-/// Each constant of the crate's root, such as [`TEXT_PLAIN`](crate::TEXT_PLAIN), is the variant of its name, so a
-/// `match` can name it:
+/// Each variant is also a constant of the crate's root, such as [`TEXT_PLAIN`](crate::TEXT_PLAIN), which a `match` can
+/// name:
 ///
 /// ```rust
 /// use mime::{Atom, IMAGE_PNG, TEXT_HTML, TEXT_HTML_UTF_8};

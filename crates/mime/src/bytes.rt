@@ -11,19 +11,20 @@ const N: u8 = 0;
 /// A byte that may occur in a quoted string only after a backslash: a quote or a backslash.
 const B: u8 = 1;
 
-/// Any other ASCII byte that may occur in a quoted string, and in no token.
+/// Any other ASCII byte that may occur in a quoted string, but in no token.
 const Q: u8 = 2;
 
-/// A byte of a character that isn't ASCII. It may occur in a quoted string, and in no token.
+/// A byte of a character that isn't ASCII. It may occur in a quoted string, but in no token.
 const U: u8 = 3;
 
-/// The plus, which may begin a suffix.
+/// The plus, which may occur in a token, and may precede a suffix.
 const P: u8 = 4;
 
 /// Any other byte that may occur in a token.
 const T: u8 = 5;
 
-/// The kind of each byte. A byte of one kind may occur wherever a byte of an earlier kind may.
+/// The kind of each byte. In a token or a quoted string, a byte of one kind may occur wherever a byte of an earlier
+/// kind may.
 static KINDS: [u8; 256] = [
     N, N, N, N, N, N, N, N, N, Q, N, N, N, N, N, N, N, N, N, N, N, N, N, N, N, N, N, N, N, N, N, N,
     Q, T, B, T, T, T, T, T, Q, Q, T, P, Q, T, T, Q, T, T, T, T, T, T, T, T, T, T, Q, Q, Q, Q, Q, Q,
@@ -35,8 +36,8 @@ static KINDS: [u8; 256] = [
     U, U, U, U, U, U, U, U, U, U, U, U, U, U, U, U, U, U, U, U, U, U, U, U, U, U, U, U, U, U, U, U,
 ];
 
-/// Returns `true` if a byte may occur in a token: a type, a subtype, a parameter's name, an unquoted value
-/// (tchar of RFC 7230, 3.2.6). `is_token(b'+')` is true, `is_token(b' ')` is false.
+/// Returns `true` if a byte may occur in a token: a type, a subtype, a parameter's name or an unquoted value (tchar of
+/// RFC 7230, 3.2.6). `is_token(b'+')` is true, `is_token(b' ')` is false.
 #[inline(always)]
 pub fn is_token(b: u8) -> bool
     ensures { result ≡ is_token_byte b }
@@ -52,7 +53,7 @@ pub(crate) fn is_token_except_plus(b: u8) -> bool
     KINDS[b as usize] == T
 }
 
-/// Returns `true` if a byte may occur in a token, the plus only if `with_plus`.
+/// Returns `true` if a byte may occur in a token. The plus counts only if `with_plus`.
 #[inline(always)]
 pub(crate) fn is_in_token(b: u8, with_plus: bool) -> bool
     ensures { result ≡ token_bytes with_plus b }

@@ -32,7 +32,7 @@ fn has_semicolon_at(text: &str, position: usize) -> bool
     position < text.len() && text.as_bytes()[position] == b';'
 }
 
-/// Returns `true` if a string starts with this essence, ignoring ASCII case, and a semicolon right after it.
+/// Returns `true` if a string starts with this essence, ignoring ASCII case, and a semicolon follows the essence.
 #[inline]
 fn starts_with_essence(essence: &str, text: &str) -> bool
     ensures { IsTrue result ↔ StartsWithEssence essence.now text.now }
@@ -87,8 +87,9 @@ fn has_shape(positions: Positions, semicolon: usize, count: usize) -> bool
     positions.semicolon == Some(semicolon) && positions.pair_count == count
 }
 
-/// Returns `true` if a string is accepted, and has as many parameters as a value. It begins with the value's essence and a
-/// semicolon, ignoring ASCII case, so only the rest is scanned. It isn't inlined: the scan needs its registers.
+/// Returns `true` if a string is accepted, and has as many parameters as a value. The string begins with the value's
+/// essence and a semicolon, ignoring ASCII case, so only the rest is scanned. This function isn't inlined: the scan
+/// needs the registers.
 #[inline(never)]
 fn has_list_of(mime: &Mime, s: &str) -> bool
     requires reads { Reads mime.now.media.kept mime.now.media }
@@ -104,9 +105,9 @@ fn has_list_of(mime: &Mime, s: &str) -> bool
     }
 }
 
-/// Returns `true` if a string is equal to a value with parameters: if its essence and then its parameters are equal to those
-/// of the value. If `equal_ignoring_case`, the string is the kept text ignoring ASCII case, and so is accepted; otherwise it
-/// is scanned. It isn't inlined: few strings need it.
+/// Returns `true` if a string is equal to a value with parameters. The essences are compared, and then the parameters.
+/// If `equal_ignoring_case`, the string equals the kept text ignoring ASCII case, so it is accepted; otherwise it is
+/// scanned. This function isn't inlined: few strings need it.
 #[inline(never)]
 fn eq_by_parts(mime: &Mime, s: &str, equal_ignoring_case: bool) -> bool
     requires reads { Reads mime.now.media.kept mime.now.media }
@@ -128,7 +129,7 @@ fn eq_by_parts(mime: &Mime, s: &str, equal_ignoring_case: bool) -> bool
     equal_ignoring_case || has_list_of(mime, s)
 }
 
-/// Returns `true` if a difference at this byte means different values: it does at all bytes but space, tab and quote.
+/// Returns `true` if a difference at this byte means different values: if it is any byte except space, tab and quote.
 #[inline(always)]
 fn reaches_value(byte: u8) -> bool
     ensures { result ≡ reaches_value byte }
@@ -136,14 +137,15 @@ fn reaches_value(byte: u8) -> bool
     !(is_space(byte) || byte == b'"')
 }
 
-/// What a comparison of two strings shows.
+/// The result of a comparison of two strings.
 enum Compared {
-    /// They are equal ignoring ASCII case.
+    /// The strings are equal ignoring ASCII case.
     Equal,
-    /// They are read as different values: their first difference, ignoring ASCII case, isn't at a space, tab or quote.
+    /// The strings aren't read as equal values: their first difference, ignoring ASCII case, isn't at a space, tab or
+    /// quote.
     Different,
-    /// Neither is known: one string is shorter than a block, one is a prefix of the other, or they first differ at a
-    /// space, tab or quote.
+    /// Neither of these is known: one string is shorter than a block, one is a prefix of the other, or they first
+    /// differ at a space, tab or quote.
     Undecided,
 }
 
@@ -165,9 +167,10 @@ fn compare_texts(kept: &str, text: &str) -> Compared
     }
 }
 
-/// Returns `true` if a string other than the kept text is equal to a value with parameters. Their first difference decides
-/// most calls, and a charset without other parameters is equal in any case; otherwise the parts are compared. It isn't
-/// inlined: most strings are the kept text.
+/// Returns `true` if a string other than the kept text is equal to a value with parameters. The first difference
+/// between the string and the kept text decides most calls. If there is none ignoring ASCII case, a value whose only
+/// parameter is a charset is equal. Otherwise the parts are compared. This function isn't inlined: most strings are the
+/// kept text.
 #[inline(never)]
 fn eq_other_text(mime: &Mime, s: &str) -> bool
     requires { mime.now.media.pairs ≢ [] }
@@ -180,11 +183,11 @@ fn eq_other_text(mime: &Mime, s: &str) -> bool
     }
 }
 
-/// Returns `true` if a string is read as a value equal to `mime` and, if `mime` has no parameter, has no semicolon
-/// (RFC 7231, 3.1.1.1). It doesn't allocate.
+/// Returns `true` if a string is read as a value equal to `mime`; but a string with a semicolon is never equal to a
+/// `mime` without parameters (RFC 7231, 3.1.1.1). It doesn't allocate.
 ///
-/// `TEXT/PLAIN;charset="UTF-8"; ` is `TEXT_PLAIN_UTF_8.mime()`. But `text/plain;` isn't `TEXT_PLAIN.mime()`, though
-/// it is read as an equal value: a media type without parameters isn't equal to a string with a semicolon.
+/// `TEXT/PLAIN;charset="UTF-8"; ` is equal to `TEXT_PLAIN_UTF_8.mime()`. But `text/plain;` isn't equal to
+/// `TEXT_PLAIN.mime()`, though it is read as an equal value.
 #[inline]
 pub fn mime_eq_str(mime: &Mime, s: &str) -> bool
     ensures { IsTrue result ↔ TextIs mime.now.media s.now }
@@ -193,7 +196,7 @@ pub fn mime_eq_str(mime: &Mime, s: &str) -> bool
     if mime.param_count() == 0 {
         return eq_str_ignore_ascii_case(kept, s);
     }
-    // A string with an essence of a different length isn't equal.
+    // A string whose essence has a different length isn't equal.
     if !has_semicolon_at(s, mime.essence_str().len()) {
         return false;
     }

@@ -14,7 +14,7 @@ use std::alloc::{AllocError, Global};
 use std::fmt;
 use std::marker::Model;
 
-/// Why an item of a [`MimeIter`] isn't a media type.
+/// The reason why an item of a [`MimeIter`] isn't a media type.
 #[derive(Clone, Copy, PartialEq, Eq, Debug)]
 pub enum Bad<'a> {
     /// This piece of the string isn't a media type, as `invalid` in `invalid, a/b`.
@@ -26,11 +26,11 @@ pub enum Bad<'a> {
 /// The first piece of a string, after which a character is skipped.
 #[derive(Clone, Copy)]
 struct ReadPiece<'a> {
-    /// The piece; empty if it isn't yielded.
+    /// The piece, or the empty string if nothing is yielded.
     piece: &'a str,
     /// The positions of its parts, if it is a media type.
     positions: Option<Positions>,
-    /// What is left of the string.
+    /// The rest of the string.
     left: &'a str,
     /// The number of bytes read so far, from the start of the iterator's string.
     steps: u128,
@@ -74,7 +74,8 @@ impl<'a> ReadPiece<'a> {
     }
 }
 
-/// Reads the first piece of a string, and skips the character after it. The string's first byte was read already.
+/// Reads the first piece of a string, and skips the character after it. The string's first byte, `first`, was read
+/// already.
 #[inline(always)]
 fn read_piece<'a>(text: &'a str, first: u8, reader: &mut ByteReader<'_>) -> ReadPiece<'a>
     requires first { text.now ≡ first ∷ reader.old.left }
@@ -114,8 +115,8 @@ fn read_piece<'a>(text: &'a str, first: u8, reader: &mut ByteReader<'_>) -> Read
     }
 }
 
-/// Skips the ASCII characters at the start of a string that begin no media type, reads the piece after them, and skips
-/// the character after it. `from` is the number of bytes read before.
+/// Skips the leading ASCII characters with which no media type begins, reads the piece after them, and skips the
+/// character after the piece. `from` is the number of bytes read before.
 #[inline(always)]
 fn read_next_piece<'a>(text: &'a str, from: u128) -> ReadPiece<'a>
     requires { from + length text.now < 2 ^ 128 }
@@ -132,20 +133,20 @@ fn read_next_piece<'a>(text: &'a str, from: u128) -> ReadPiece<'a>
     }
 }
 
-/// An iterator over the media types of a string, and over the pieces of it that aren't media types. It isn't for an
-/// `Accept` header, which `mime_http::Accept` reads.
+/// An iterator over the media types in a string, and over the pieces that aren't media types. For an `Accept` header,
+/// use `mime_http::Accept`.
 ///
-/// The string is cut into the longest pieces that some media type begins with. Each ends before a character that can't
-/// follow it, such as the comma of a list; that character is skipped. A piece is a media type or a bad piece. An empty
-/// piece isn't yielded, nor is a last piece that is unfinished. So a bad entry doesn't change the entries after its
-/// comma, unless it ends in an open quoted string. The scanner reads no byte twice.
+/// The string is cut into pieces. Each is the longest with which some media type begins. It ends before a character
+/// that can't follow it, such as the comma of a list; that character is skipped. A piece is a media type or a bad
+/// piece. An empty piece isn't yielded, nor is a last piece that is unfinished. So a bad entry doesn't affect the
+/// entries after its comma, unless it ends in an open quoted string. The scanner reads no byte twice.
 ///
-/// A media type whose piece has more than 40 bytes, including white space, allocates once, for its kept text, and so does
-/// its `clone`. Any other doesn't allocate.
+/// A media type whose piece has more than 40 bytes, including white space, allocates once, for its kept text, and so
+/// does its `clone`. Other items don't allocate.
 ///
 /// Over `text/html, invalid, a/b; q=1` it yields `text/html`, the bad piece `invalid`, and `a/b; q=1`. Over `a/b ; q=1`
 /// it yields `a/b` and the bad piece `q`, since no space may precede the semicolon. Over `invalid` it yields nothing,
-/// since that could still become a media type.
+/// since `invalid` could still become a media type.
 #[derive(Drop)]
 pub struct MimeIter<'a> {
     alloc: Global,
@@ -167,7 +168,7 @@ impl<'a> Model for MimeIter<'a> {
 }
 
 impl<'a> MimeIter<'a> {
-    /// Creates an iterator over the media types of `s`, such as `text/html, image/png`. Nothing is read yet, and it
+    /// Creates an iterator over the media types of `s`, such as `text/html, image/png`. It reads nothing yet, and
     /// doesn't allocate.
     pub fn new(alloc: Global, s: &'a str) -> MimeIter<'a>
         ensures text { result.text ≡ s.now }
@@ -184,9 +185,9 @@ impl<'a> MimeIter<'a> {
         }
     }
 
-    /// Returns the number of bytes read so far, from the start of the string: 43 for all of
-    /// `application/json, invalid, application/json`, which are 16, 7 and 16 bytes and 4 skipped
-    /// characters. It is never more than the string's length in bytes.
+    /// Returns the number of bytes read so far, from the start of the string: 43 after all of
+    /// `application/json, invalid, application/json`, with pieces of 16, 7 and 16 bytes and 4 skipped characters. It is
+    /// never more than the string's length in bytes.
     pub fn steps(&self) -> u128
         ensures steps { result ≡ self.now.steps }
         ensures few { result ≤ length self.now.text }
@@ -255,7 +256,7 @@ impl<'a> Iterator for MimeIter<'a> {
     fn size_hint(&self) -> (usize, Option<usize>)
         ensures lower { IsWithinCount result.0 (at_most (length self.now.left)) }
         ensures upper { IfSome result.1 (UpTo (at_most (length self.now.left))) }
-        // How many items are left isn't known before they are read.
+        // The number of items left isn't known before they are read.
         ensures open { result ≡ (0, None) }
     {
         (0, None)

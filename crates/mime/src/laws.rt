@@ -1,6 +1,6 @@
-//! The laws of the definitions, as functions: a caller that calls one can use its law in its own proof. Most do
-//! nothing; `name_constants` returns the constant names. docs/LAWS.md lists all claims, docs/RULES.md says what viable,
-//! accepted and cut mean.
+//! The laws of the definitions, as functions. A caller of such a function can use its law in a proof. `name_constants`
+//! returns the constant names; the others do nothing. docs/LAWS.md lists all claims, and docs/RULES.md defines viable,
+//! accepted and cut.
 
 ghost use Rattle.std.specs.Borrow.{Bor};
 ghost use Rattle.std.specs.Prelude.{◌≡◌, ◌↔◌, IsTrue, List, ℕ, map};
@@ -63,8 +63,8 @@ pub fn accepted_is_viable()
     ensures { AcceptedIsViable }
 {}
 
-/// Exactly one of five things is missing from a viable rejected text, and its completion makes the string an accepted
-/// one: in `a/b;p` an equals sign is missing, and `a/b;p=x` is accepted.
+/// Exactly one of five things is missing from a viable rejected text, and the text with its completion is accepted: in
+/// `a/b;p` an equals sign is missing, and `a/b;p=x` is accepted.
 #[tactic(auto, using(crate::proofs::GrammarLemmas::Faults::one_completion))]
 pub fn one_completion()
     ensures { OneCompletion }
@@ -77,7 +77,7 @@ pub fn completed_is_rejected()
     ensures { CompletedIsRejected }
 {}
 
-/// Nothing makes a string that isn't viable an accepted one: `a b` is rejected, whatever follows it.
+/// A string that isn't viable is rejected, whatever follows it, as `a b` is.
 pub fn no_completion()
     ensures { NoCompletion }
 {}
@@ -112,7 +112,7 @@ pub fn plus_is_last()
     ensures { PlusIsLast }
 {}
 
-/// The kept text of a value that was read is read as the value: `a/b;p=X`, the kept text of `A/B;P=X`.
+/// The kept text of a value that was read is read as the same value: `a/b;p=X`, the kept text of `A/B;P=X`.
 #[tactic(auto, using(crate::proofs::ValueLemmas::KeptText::kept_is_read))]
 pub fn kept_is_read()
     ensures { KeptIsRead }
@@ -152,15 +152,14 @@ pub fn parameter_is_read()
     ensures { ParameterIsRead }
 {}
 
-/// Two values are equal, or exactly one of them is before the other: `a/b` is before `a/b;p=1`, and that is before
-/// `a/c`.
+/// Two values are equal, or exactly one of them is before the other: `a/b` is before `a/b;p=1`, which is before `a/c`.
 #[tactic(auto, using(crate::proofs::ValueLemmas::Traits::one_order))]
 pub fn one_order()
     ensures { OneOrder }
 {}
 
-/// If a value is before a second one, and that is before a third, the first is before the third: `a/b` is before `a/c`,
-/// and so before `a/d`.
+/// If a value is before a second one, which is before a third, then the first is before the third: `a/b` is before
+/// `a/c`, and so before `a/d`.
 pub fn before_is_transitive()
     ensures { BeforeIsTransitive }
 {}
@@ -177,8 +176,8 @@ pub fn kept_text_is()
     ensures { KeptTextIs }
 {}
 
-/// A look-up in a list of items has at most one answer, and it has one if for each name it is decided whether the key
-/// accepts it: `TextKey("P")` finds `1` in `a/b;p=1;p=2`, and nothing else.
+/// A look-up in a list of items has at most one answer. It has one if the key accepts or doesn't accept each name:
+/// `TextKey("P")` finds `1` in `a/b;p=1;p=2`, and nothing else.
 pub fn one_answer<K: ParamKey>(key: &K)
     ensures most { OneAnswer (K.Accepts key.now) }
     ensures least { HasAnswer (K.Accepts key.now) }
@@ -206,9 +205,9 @@ pub fn equal_values_feed_the_same()
     ensures { RespectsEquality ⟦<Mime as Hash>⟧.hash_input }
 {}
 
-/// What values feed a hasher is prefix-free: what a value feeds is never a prefix of what an unequal one feeds, so a
-/// pair of a value and a string feeds what no other pair does. `a/bx` with `c` and `a/b` with `xc` feed different
-/// bytes.
+/// The bytes that values feed a hasher are prefix-free: those of a value are never a prefix of those of an unequal
+/// value. So a pair of a value and a string feeds bytes that no other pair feeds: `a/bx` with `c` and `a/b` with `xc`
+/// feed different bytes.
 #[tactic(auto, using(crate::proofs::ValueLemmas::Hash::hash_is_prefix_free))]
 pub fn hash_is_prefix_free()
     ensures { IsPrefixFree ⟦<Mime as Hash>⟧.hash_input }
@@ -241,7 +240,7 @@ pub fn cut_writes_text()
     ensures { CutWritesText }
 {}
 
-/// In a string of valid UTF-8, what is skipped after a piece is one character: both bytes of the `é` of `a/bé`.
+/// In a string of valid UTF-8, exactly one character is skipped after a piece: both bytes of the `é` of `a/bé`.
 #[tactic(auto, using(crate::proofs::GrammarLemmas::Characters::passes_one_character))]
 pub fn passes_one_character()
     ensures { PassesOneCharacter }
@@ -253,8 +252,8 @@ pub fn one_count()
     ensures { OneCount }
 {}
 
-/// A comma ends what precedes it, unless that is an open quoted string. What follows the comma is cut like a string of
-/// its own: `e f, a/b` has the item `a/b`, as `a/b` has.
+/// A comma ends the text before it, unless this text ends in an open quoted string. The text after the comma is cut
+/// like a string of its own: `e f, a/b` has the item `a/b`, as `a/b` has.
 #[tactic(auto, using(crate::proofs::CutLemmas::Containment::comma_contains))]
 pub fn comma_contains()
     ensures { CommaContains }
@@ -267,7 +266,7 @@ pub fn joined_comes_back()
     ensures { JoinedComesBack }
 {}
 
-/// A list that HTTP allows (RFC 7230, 7) is cut into exactly its elements: accepted texts with a comma between each and
+/// A list that HTTP allows (RFC 7230, 7) is cut into exactly its entries: accepted texts with a comma between each and
 /// the next, and with spaces, tabs and further commas after each comma and before the first. `a/b, ,\tc/d` is cut into
 /// `a/b` and `c/d`.
 #[tactic(auto, using(crate::proofs::CutLemmas::Containment::http_list_is_cut))]
@@ -294,8 +293,8 @@ pub fn printed_list_comes_back()
     ensures { PrintedListComesBack }
 {}
 
-/// Returns the constant names, in the order of their table, from `*` on. Each has its text, ignores case, and holds no
-/// ASCII capital.
+/// Returns the constant names, in the order of their table, from `*` on. Each ignores case, and its text has no ASCII
+/// capital.
 pub fn name_constants() -> [Name<'static>; 38]
     ensures texts { map name_text result ≡ name_table }
     ensures flags { IsTrue (list_all (λ name. name.ignores_case) result) }
@@ -316,13 +315,13 @@ pub fn name_order()
         ≡ ordering_then (slice_cmp nat_cmp first.text.now second.text.now) (bool_cmp first.ignores_case second.ignores_case) }
 {}
 
-/// Names of the same text and flag feed a hasher the same: `TEXT` and the type of `Text/Plain`.
+/// Names of the same text and flag feed a hasher the same bytes: `TEXT` and the type of `Text/Plain`.
 pub fn equal_names_feed_the_same()
     ensures { (first second : Name) → first.text.now ≡ second.text.now → first.ignores_case ≡ second.ignores_case
         → ⟦<Name<'static> as Hash>⟧.hash_input first ≡ ⟦<Name<'static> as Hash>⟧.hash_input second }
 {}
 
-/// A name can always be cloned, and its clone has its text and its flag: that of `TEXT` is `TEXT`.
+/// A name can always be cloned, and the clone has the same text and flag: the clone of `TEXT` is `TEXT`.
 pub fn name_clone()
     ensures same { (name copy : Name) → ⟦<Name<'static> as Clone>⟧.is_clone name copy
         → (copy.text.now ≡ name.text.now) × (copy.ignores_case ≡ name.ignores_case) }

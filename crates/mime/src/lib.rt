@@ -9,7 +9,7 @@
 //! parameters that this crate rejects.
 //!
 //! # Example
-//! Is a body in UTF-8? It is for the media type read from `TEXT/HTML; Charset="UTF-8"`.
+//! Is a body in UTF-8? One of the media type `TEXT/HTML; Charset="UTF-8"` is.
 //!
 //! ```rust
 //! use mime::{CHARSET, Mime, name_eq_str};
@@ -23,27 +23,28 @@
 //!
 //! # Errors
 //! A string that isn't a media type is rejected with its one fault, a [`ParseError`]: what is missing at its end, or
-//! the first byte that no media type could have there, with its position. Positions count bytes from 0. A piece of a
-//! list that isn't a media type is [`Bad::Piece`]. A bad entry doesn't change the entries after its comma, unless it
-//! ends in an open quoted string. A last entry that isn't a media type, but could still become one, isn't yielded.
+//! the first byte that no media type could have there, with its position. Positions count bytes from 0. [`MimeIter`]
+//! yields a piece that isn't a media type as [`Bad::Piece`]. A bad entry doesn't affect the entries after its comma,
+//! unless it ends in an open quoted string. A last entry that isn't a media type, but could still become one, isn't
+//! yielded.
 //!
 //! # Memory
-//! `Mime::from_str`, `MimeIter::new` and `KnownText::into_mime` take the allocator. Reading or making a media
-//! type from more than 40 bytes, including white space, allocates at most once, and so does each `clone` of it. If memory
-//! runs out, an error is returned. Nothing else allocates: a rejected string doesn't, nor a media type from at most 40
-//! bytes, which is stored in the `Mime` itself, nor a constant, nor `*/*`.
+//! `Mime::from_str`, `MimeIter::new` and `KnownText::into_mime` take the allocator. Reading or making a media type from
+//! more than 40 bytes, including white space, allocates at most once, and so does each `clone` of it. If memory runs
+//! out, an error is returned. Nothing else allocates: rejecting a string doesn't, and a constant or a media type from
+//! at most 40 bytes is stored in the `Mime` itself.
 //!
 //! # Standards
 //! The grammar is that of RFC 7231 and RFC 7230, with the departures that docs/DIFFERENCES.md lists. RFC 9110 (8.3.1,
-//! 5.6.4, 5.6.6) replaced them in 2022. There a parameter may be missing after any semicolon, here only after the last
-//! one: `a/b;` is read, `a/b;;p=x` isn't.
+//! 5.6.4, 5.6.6) replaced them in 2022. RFC 9110 lets a parameter be missing after any semicolon, this crate only after
+//! the last one: it reads `a/b;`, but not `a/b;;p=x`.
 //!
 //! # Left out
-//! This crate doesn't interpret media types: `mime_http` has ranges, weights, the choice by `Accept` and
-//! quoted pairs, and a recipe has the endings of files. docs/DIFFERENCES.md lists the differences from the Rust crate
-//! and from RFC 7231, crates/mime/CALLING.md lists every contract, docs/RECIPES.md solves common tasks.
+//! This crate doesn't interpret media types: `mime_http` has ranges, weights, the choice by `Accept` and quoted pairs,
+//! and a recipe has file extensions. docs/DIFFERENCES.md lists the differences from the Rust crate and from RFC 7231,
+//! crates/mime/CALLING.md lists every contract, and docs/RECIPES.md solves common tasks.
 //!
-//! This is version 1.0.0; README.md says what may change within 1.
+//! This is version 1.0.0; README.md says what may change within 1.x.
 #![tactic(auto)]
 
 mod atoms;

@@ -17,15 +17,15 @@ use std::fmt;
 /// text, and then by the flag, `false` first. To compare with a string, see [`name_eq_str`].
 #[derive(Clone, Copy, PartialEq, Eq, PartialOrd, Ord, Hash)]
 pub struct Name<'a> {
-    /// The part's text. It has no ASCII capital in a name that this crate returns and that ignores case.
+    /// The part's text. If this crate returns a name that ignores case, its text has no ASCII capital.
     pub text: &'a str,
     /// Whether the name is compared with a string ignoring ASCII case.
     pub ignores_case: bool,
 }
 
 impl<'a> Name<'a> {
-    /// Returns the name's text: `TEXT.as_str()` is `"text"`. It is borrowed from what the name borrows from, so it may
-    /// outlive the `Name`.
+    /// Returns the name's text: `TEXT.as_str()` is `"text"`. The text has the lifetime `'a`, so it may outlive the
+    /// `Name`.
     pub fn as_str(&self) -> &'a str
         ensures { result.now ≡ self.now.text.now }
     {
@@ -53,8 +53,9 @@ impl fmt::Debug for Name<'_> {
     }
 }
 
-/// Returns `true` if a name is equal to the string `s`: ignoring ASCII case if the name does, else byte for byte (RFC
-/// 7231, 3.1.1.1). `name_eq_str(&TEXT, "Text")` is true; the boundary `ABC` isn't `abc`. It doesn't allocate.
+/// Returns `true` if a name is equal to the string `s`: ignoring ASCII case if the name ignores case, otherwise byte
+/// for byte (RFC 7231, 3.1.1.1). `name_eq_str(&TEXT, "Text")` is true, but the boundary `ABC` isn't equal to `abc`. It
+/// doesn't allocate.
 #[inline]
 pub fn name_eq_str(name: &Name<'_>, s: &str) -> bool
     ensures { IsTrue result ↔ NameIs name.now.text.now name.now.ignores_case s.now }
@@ -62,8 +63,8 @@ pub fn name_eq_str(name: &Name<'_>, s: &str) -> bool
     name.text == s || name.ignores_case && eq_ignore_ascii_case(name.text.as_bytes(), s.as_bytes())
 }
 
-/// A key that looks a parameter up by its name, with [`Mime::get_param`](crate::Mime::get_param): a `&str`, a
-/// [`TextKey`], a [`Name`], or a type of your own, for which `Accepts` says what it accepts.
+/// A key with which [`Mime::get_param`](crate::Mime::get_param) looks up a parameter by its name: a `&str`, a
+/// [`TextKey`], a [`Name`], or a type of your own, whose `Accepts` says which names it accepts.
 pub trait ParamKey: Drop {
     /// The names that the key accepts, by text and flag.
     ghost Accepts: { Self → List ℕ → Bool → Type 0 };
@@ -74,7 +75,7 @@ pub trait ParamKey: Drop {
         ensures { IsTrue result ↔ Accepts self.now name.entry.text.now name.entry.ignores_case };
 
     /// Returns the text that is equal, ignoring ASCII case, to each name that the key accepts, if there is one: `P` for
-    /// `TextKey("P")`. A look-up with a text is faster, and finds the same. By default there is none.
+    /// `TextKey("P")`. The text makes a look-up faster, and doesn't change its result. The default is `None`.
     #[inline]
     fn text(&self) -> Option<&str>
         ensures { IfSome result (λ text. (name : List ℕ) → Accepts self.now name true → lowered name ≡ lowered text.now) }
@@ -83,8 +84,8 @@ pub trait ParamKey: Drop {
     }
 }
 
-/// The key that accepts the names that are equal to this string, as [`name_eq_str`] compares them:
-/// `TextKey("Charset")` accepts `charset` (names ignore case: RFC 7231, 3.1.1.1).
+/// A key that accepts the names equal to this string, as [`name_eq_str`] compares them: `TextKey("Charset")` accepts
+/// `charset` (names ignore case: RFC 7231, 3.1.1.1).
 #[derive(Clone, Copy)]
 pub struct TextKey<'k>(pub &'k str);
 
@@ -102,7 +103,7 @@ impl ParamKey for TextKey<'_> {
     }
 }
 
-/// A string as a key accepts what [`TextKey`] of it accepts: `"Charset"` accepts `charset`, so that
+/// A string is a key that accepts the same names as its [`TextKey`]: `"Charset"` accepts `charset`, so that
 /// `get_param("charset")` returns `utf-8` for `text/html; charset=UTF-8` (names ignore case: RFC 7231, 3.1.1.1).
 impl ParamKey for &str {
     ghost Accepts = { λ key name ignores_case. NameIs name ignores_case key.now };
@@ -118,8 +119,8 @@ impl ParamKey for &str {
     }
 }
 
-/// A name as a key accepts the names that are equal to it, in text and flag: [`CHARSET`](crate::CHARSET)
-/// accepts `charset`. A `Name` with an ASCII capital, or with the flag `false`, finds no parameter.
+/// A name is a key that accepts the names equal to it, in text and flag: [`CHARSET`](crate::CHARSET) accepts `charset`.
+/// A `Name` with an ASCII capital, or with the flag `false`, finds no parameter.
 impl ParamKey for Name<'_> {
     ghost Accepts = { λ key name ignores_case. (name ≡ key.text.now) × (ignores_case ≡ key.ignores_case) };
 

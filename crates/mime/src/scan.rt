@@ -19,8 +19,8 @@ use crate::bytes::{
 pub use crate::scan::fault::{FromStrError, ParseError};
 pub(crate) use crate::scan::reader::{ByteReader, NEAR};
 
-/// The parts of an accepted string: their positions, in bytes from 0, and the number of its parameters. In this order the byte of any
-/// other variant of `Scanned` isn't beside a position, which would then be moved in two parts.
+/// The positions of an accepted string's parts, in bytes from 0, and the number of its parameters. In this order of
+/// fields, the byte of any other variant of `Scanned` isn't beside a position, which would then be moved in two parts.
 #[derive(Clone, Copy)]
 pub(crate) struct Positions {
     /// The plus before the suffix.
@@ -32,21 +32,21 @@ pub(crate) struct Positions {
     pub(crate) pair_count: usize,
 }
 
-/// What one pass over a string finds.
+/// The result of one pass over a string.
 #[derive(Clone, Copy)]
 pub(crate) enum Scanned {
-    /// It is accepted, and its parts have these positions.
+    /// The string is accepted, and its parts have these positions.
     Accepted(Positions),
-    /// It ends too early: this is missing.
+    /// The string ends too early, and this is missing.
     Unfinished(ParseError),
     /// No media type continues with this byte, the last one read, and the string before it isn't a media type.
     Stopped(u8),
-    /// The string before this byte, the last one read, is a media type, whose parts have these positions, and no media type
-    /// continues with the byte. The byte is last, so that the positions are where those of an accepted string are.
+    /// No media type continues with this byte, the last one read, but the string before it is a media type, whose parts
+    /// have these positions. The byte is the last field, so that the positions are where `Accepted` has them.
     Followed(Positions, u8),
 }
 
-/// Reads the bytes of a token, up to a plus unless `with_plus`, and returns the byte that ends them.
+/// Reads the bytes of a token, and returns the byte that ends it. A plus ends the token, too, unless `with_plus`.
 #[inline(always)]
 fn token(reader: &mut ByteReader<'_>, with_plus: bool) -> Option<u8>
     ensures { Passes (token_bytes with_plus) reader.old reader.new result }
@@ -116,8 +116,8 @@ fn content(reader: &mut ByteReader<'_>) -> Option<u8>
     stop
 }
 
-/// Reads what follows a subtype's first byte. Returns the position of its last plus, if there is one, and the
-/// byte that ends it. `from` is the reader's count at the start of the string.
+/// Reads a subtype after its first byte. Returns the position of the last plus that was read, if there is one, and the
+/// byte that ends the subtype. `from` is the reader's count at the start of the string.
 #[inline(always)]
 fn subtype(reader: &mut ByteReader<'_>, from: u128) -> (Option<usize>, Option<u8>)
     requires begun { from < reader.old.count }
@@ -125,7 +125,7 @@ fn subtype(reader: &mut ByteReader<'_>, from: u128) -> (Option<usize>, Option<u8
     ensures { PassesSubtype (reader.old.count - from) reader.old reader.new result }
 {
     reader.look_further();
-    // 0 means none yet: position 0 is in the type.
+    // 0 means that no plus was read yet: position 0 is in the type.
     let mut plus = 0;
     let mut stop = token(reader, false);
     while stop == Some(b'+') {

@@ -1,4 +1,4 @@
-//! Media types: reading, their parts, their parameters, printing.
+//! Media types: reading them, their parts and their parameters.
 
 ghost use Rattle.std.specs.Prelude.{◌≡◌, ◌≤◌, true, IfOk, IfErr, IsOk, IfSome, codes, option_map, length, string_bytes};
 ghost use Rattle.std.specs.List.{AllByRecursion};
@@ -31,7 +31,8 @@ use crate::value::short::{SHORT, ShortText};
 use std::alloc::{AllocError, Global};
 use std::marker::Model;
 
-/// The kept text of a media type: in the value itself if it was made from a short string or constant, else allocated.
+/// The kept text of a media type. It is stored in the value itself if it was made from at most `SHORT` bytes, otherwise
+/// allocated.
 #[derive(Drop)]
 enum Text {
     Owned(String),
@@ -39,7 +40,7 @@ enum Text {
 }
 
 impl Text {
-    /// Returns a text as it is, with no more room than it needs.
+    /// Returns a string as a kept text without spare capacity.
     #[inline(always)]
     fn of(alloc: Global, text: String) -> Result<Text, AllocError>
         ensures text { IfOk result (λ kept. bytes_of kept ≡ string_bytes text) }
@@ -72,10 +73,11 @@ impl Text {
 /// `text/plain;` as `text/plain`.
 #[derive(Drop)]
 pub struct Mime {
-    // In this order the byte of an error of `mime_http` is where the text has its tag, so that no word is moved in parts.
+    // In this order of fields, the byte of an error of `mime_http` is where the text has its tag, so no word is moved
+    // in parts.
     places: Places,
     text: Text,
-    /// The end of the essence: the semicolon after it, or the text's length if there is no parameter.
+    /// The end of the essence: the position of the semicolon after it, or the text's length if there is no parameter.
     essence_end: usize,
 }
 
@@ -102,11 +104,11 @@ impl Mime {
     /// `text/plain; ` as `text/plain`.
     ///
     /// # Errors
-    /// The one fault of a string that isn't a media type: what is missing at its end (`MissingSlash`,
-    /// `MissingSubtype`, `MissingEqual`, `MissingValue` or `MissingQuote`), as `MissingEqual` for `a/b;p`, or
-    /// else the position (`InvalidToken`, in bytes, from 0) of the first byte that no media type could have
-    /// there, as 5 for `text/;`. Reporting a fault doesn't allocate. [`ParseError::NoMemory`] is returned only
-    /// for a media type of more than 40 bytes.
+    /// Returns the fault of a string that isn't a media type. If something is missing at its end, this is
+    /// `MissingSlash`, `MissingSubtype`, `MissingEqual`, `MissingValue` or `MissingQuote`, as `MissingEqual` for
+    /// `a/b;p`. Otherwise it is `InvalidToken` with the first byte that no media type could have there, and its
+    /// position in bytes from 0, as 5 for `text/;`. Rejecting a string doesn't allocate. Returns
+    /// [`ParseError::NoMemory`] if memory runs out, which can happen only for a media type of more than 40 bytes.
     pub fn from_str(alloc: Global, s: &str) -> Result<Mime, FromStrError>
         // The result is the value of the string.
         ensures read { IfOk result (λ mime. Reads s.now mime.media) }
@@ -129,7 +131,7 @@ impl Mime {
                 return Err(FromStrError::new(ParseError::InvalidToken { pos, byte }));
             }
         };
-        // Each branch for a short text returns, so that the text isn't moved where they would join.
+        // Each branch for a short text returns, so that the text isn't moved where the branches join.
         if s.len() <= SHORT {
             if positions.pair_count == 0 {
                 return Ok(Mime::of_short(s, positions, ShortText::essence(s, positions)));
@@ -139,7 +141,7 @@ impl Mime {
         Mime::of_accepted(alloc, s, positions)
     }
 
-    /// Returns the media type of an accepted string, whose parts have these positions. The only error is that memory ran out.
+    /// Returns the media type of an accepted string whose parts have these positions. The only error is `NoMemory`.
     #[inline(always)]
     pub(crate) fn of_accepted(
         alloc: Global,
@@ -164,7 +166,7 @@ impl Mime {
         }
     }
 
-    /// Returns the media type of an accepted string, whose parts have these positions, with its kept text in the value.
+    /// Returns the media type of an accepted string whose parts have these positions, and whose kept text is `text`.
     #[inline(always)]
     fn of_short(s: &str, positions: Positions, text: ShortText) -> Mime
         requires accepted { HasPositions s.now positions }
@@ -210,7 +212,7 @@ impl Mime {
         Mime::fixed("*/*", positions)
     }
 
-    /// Returns the media type of a text in kept form, with the positions of its parts.
+    /// Returns the media type of a kept text whose parts have these positions.
     #[inline(always)]
     fn of_kept(text: Text, positions: Positions) -> Mime
         requires { IsKept (bytes_of text) positions }
@@ -225,7 +227,7 @@ impl Mime {
         }
     }
 
-    /// Returns the media type of a short string already in kept form, with the positions of its parts.
+    /// Returns the media type of a short kept text whose parts have these positions.
     #[inline(always)]
     pub(crate) fn fixed(text: &str, positions: Positions) -> Mime
         requires kept { IsKept text.now positions }
@@ -264,8 +266,8 @@ impl Mime {
         }
     }
 
-    /// Returns the suffix, after the subtype's last `+` that isn't its first byte, in lowercase:
-    /// `xml` in `image/svg+xml`, the empty string in `a/b+`, and `None` in `a/+xml` (RFC 6838, 4.2.8).
+    /// Returns the suffix, in lowercase: the text after the subtype's last `+`, unless this is the subtype's first
+    /// byte. It is `xml` in `image/svg+xml`, the empty string in `a/b+`, and `None` in `a/+xml` (RFC 6838, 4.2.8).
     pub fn suffix(&self) -> Option<Name<'_>>
         ensures text { option_map name_text result ≡ suffix_of self.now.media }
         ensures flag { IfSome result (λ name. name.ignores_case ≡ true) }
@@ -286,9 +288,9 @@ impl Mime {
         &self.text.as_str()[..self.essence_end]
     }
 
-    /// Returns the kept text, which is what is printed. If there is a parameter, it is the whole string that was read,
-    /// with type, subtype, parameter names and charset in lowercase; else it is the essence. For `a/b;P=X; ` it is
-    /// `a/b;p=X; `. It is read as an equal value with the same kept text.
+    /// Returns the kept text, which `Display` prints. If there is a parameter, it is the whole string that was read,
+    /// with type, subtype, parameter names and charset in lowercase; otherwise it is the essence. For `a/b;P=X; ` it is
+    /// `a/b;p=X; `. [`Mime::from_str`] reads it as an equal value with the same kept text.
     pub fn as_str(&self) -> &str
         ensures text { result.now ≡ self.now.media.kept }
         ensures reads { Reads result.now self.now.media }
@@ -305,7 +307,7 @@ impl Mime {
         Params::new(self.pairs())
     }
 
-    /// Returns the parameters as pairs of a name and a value, both strings.
+    /// Returns an iterator over the parameters as pairs of a name and a value, both strings.
     #[inline(always)]
     pub(crate) fn pairs(&self) -> Pairs<'_>
         ensures pairs { result ≡ self.now.media.pairs }
@@ -330,7 +332,8 @@ impl Mime {
         self.places.pair_count
     }
 
-    /// Returns the positions of the parts of a string that begins with the essence and a semicolon, before a parameter is read.
+    /// Returns the positions of the parts of a string that begins with the essence and a semicolon, before its
+    /// parameters are read.
     #[inline(always)]
     pub(crate) fn before_list(&self) -> Positions
         ensures { result ≡ positions_before_list self.now.media }
@@ -343,10 +346,10 @@ impl Mime {
         }
     }
 
-    /// Returns the value of the first parameter whose name the key accepts, or `None` if it accepts no name:
-    /// `TextKey("P")` finds `1` in `a/b;p=1;P=2`, and `CHARSET` finds `utf-8` in
-    /// `text/html; Charset="UTF-8"` (RFC 7231, 3.1.1.1). The value is without its quotes. Backslashes stay: that of
-    /// `a/b;p="\"x"` is `\"x`. It doesn't allocate.
+    /// Returns the value of the first parameter whose name the key accepts, or `None` if the key accepts no name:
+    /// `TextKey("P")` finds `1` in `a/b;p=1;P=2`, and `CHARSET` finds `utf-8` in `text/html; Charset="UTF-8"` (RFC
+    /// 7231, 3.1.1.1). The value is returned without quotes, but with backslashes: that of `a/b;p="\"x"` is `\"x`. It
+    /// isn't allocated.
     #[inline(always)]
     pub fn get_param<K: ParamKey>(&self, key: K) -> Option<Name<'_>>
         ensures found { IsFirstAccepted (K.Accepts key) (items_of self.now.media.pairs) (option_map name_seen result) }

@@ -1,4 +1,4 @@
-//! What a program reads from and writes to: a source, a sink, and a device that is one of them.
+//! Sources from which a program reads, sinks to which it writes, and devices, which are either.
 
 ghost use Rattle.std.specs.Prelude.{◌≡◌, List, ℕ, Bool, true, Option, Ok, IsErr, MatchResult, OnOk, OnErr, ⊤};
 ghost use Rattle.std.specs.Io.{ReadsAtMost};
@@ -7,7 +7,7 @@ ghost use Rattle.std.specs.Io.KnownBytes.{ReadConsumes, Appends, Keeps};
 use std::io;
 use std::io::{Read, Write};
 
-/// A read, a write or a flush failed, as a write to a full disk does. The cause isn't reported.
+/// The failure of a read, a write or a flush, such as a write to a full disk. The cause isn't reported.
 #[derive(Clone, Copy, PartialEq, Eq, Debug)]
 pub struct Failed;
 
@@ -30,7 +30,7 @@ pub trait Source {
 
 /// Something to write to, such as a [`Device`] over standard output.
 pub trait Sink {
-    /// The bytes that it holds, or `None` if the sink doesn't say.
+    /// The bytes that the sink holds, or `None` if the sink doesn't say.
     ghost held: { Self → Option (List ℕ) };
     /// Whether a call has failed.
     ghost has_failed: { Self → Bool };
@@ -44,18 +44,18 @@ pub trait Sink {
         ensures failed { OnErr result (has_failed self.new ≡ true) }
         ensures unfailed { OnOk result (has_failed self.new ≡ has_failed self.old) };
 
-    /// Flushes all that was written: what a buffer still holds goes to its file.
+    /// Flushes all that was written: bytes that are still buffered reach their destination.
     fn flush(&mut self) -> Result<(), Failed>
         ensures bytes { Keeps (held self.old) (held self.new) }
-        // Nothing else says that all is flushed.
+        // No other clause says that all is flushed.
         ensures flushed { OnOk result (IsFlushed self.new) }
         // A failure sets this flag, and nothing else changes it.
         ensures failed { OnErr result (has_failed self.new ≡ true) }
         ensures unfailed { OnOk result (has_failed self.new ≡ has_failed self.old) };
 }
 
-/// A reader as a source, a writer as a sink. Each call is forwarded to the inner call of the same name:
-/// `Device { inner: rt.stdin(), failed: false }` reads standard input.
+/// An adapter that makes a reader a source, and a writer a sink. Each call is forwarded to the inner call of the same
+/// name: `Device { inner: rt.stdin(), failed: false }` reads standard input.
 #[derive(Drop)]
 pub struct Device<T> {
     /// The reader or writer.
@@ -65,7 +65,7 @@ pub struct Device<T> {
 }
 
 impl<T> Device<T> {
-    /// Returns what an inner call returned, without the cause of an error, which sets the flag.
+    /// Returns the result of an inner call, without the cause of an error. An error sets the flag.
     fn flagged<V>(&mut self, answer: io::Result<V>) -> Result<V, Failed>
         ensures inner { self.new.inner ≡ self.old.inner }
         ensures answer { MatchResult answer (λ value. result ≡ Ok value) (λ _. IsErr result) }

@@ -19,7 +19,7 @@ pub enum RunError {
 }
 
 impl RunError {
-    /// Returns what the error prints.
+    /// Returns the text that the error prints.
     fn text(self) -> &'static str
         ensures { result.now ≡ stop_text self }
     {
@@ -32,7 +32,7 @@ impl RunError {
     }
 }
 
-/// Prints one word or two, `TooLong` as `too long`. A width is ignored.
+/// Prints one word or two: `TooLong` prints `too long`. A width and a precision are ignored.
 impl fmt::Display for RunError {
     ghost output = { λ error. Some (stop_text error) };
 

@@ -11,7 +11,7 @@ use crate::error::RunError;
 use mime_search::{Class, first_stop};
 use std::alloc::Global;
 
-/// The most bytes of an input.
+/// The maximum length of an input, in bytes.
 pub const LIMIT: usize = 1_048_576;
 
 /// The most bytes that one read asks for.
@@ -20,9 +20,10 @@ const AT_ONCE: usize = 8192;
 /// Reads a source to its end, and no further than one byte past the limit.
 ///
 /// # Errors
-/// `Read` if the source fails, `TooLong` if it gives more bytes than the limit, and `NoMemory` if memory runs out.
+/// Returns `Read` if the source fails, `TooLong` if it has more bytes than the limit, and `NoMemory` if memory runs
+/// out.
 pub fn read_to_limit<S: Source>(alloc: Global, source: &mut S) -> Result<Vec<u8>, RunError>
-    // What was left is read to its end, within the limit.
+    // All bytes that were left are read, within the limit.
     ensures bytes { IfOk result (λ input. Consumes (S.left source.old) (S.left source.new) input.items) }
     ensures end { OnOk result (IsAtEnd (S.left source.new)) }
     ensures limit { IfOk result (λ input. length input.items ≤ limit) }
@@ -38,10 +39,11 @@ pub fn read_to_limit<S: Source>(alloc: Global, source: &mut S) -> Result<Vec<u8>
     read(alloc, source, LIMIT)
 }
 
-/// Reads a source to its end or to one byte past the limit, which is kept. So an input of more bytes than the limit isn't whole.
+/// Reads a source to its end or to one byte past the limit. That byte is returned, too, so an input longer than the
+/// limit may not be whole.
 ///
 /// # Errors
-/// `Read` if the source fails, and `NoMemory` if memory runs out.
+/// Returns `Read` if the source fails, and `NoMemory` if memory runs out.
 pub fn read_past_limit<S: Source>(alloc: Global, source: &mut S) -> Result<Vec<u8>, RunError>
     ensures bytes { IfOk result (λ input. Consumes (S.left source.old) (S.left source.new) input.items) }
     ensures end { IfOk result (λ input. length input.items ≤ limit → IsAtEnd (S.left source.new)) }
@@ -56,7 +58,8 @@ pub fn read_past_limit<S: Source>(alloc: Global, source: &mut S) -> Result<Vec<u
     read(alloc, source, LIMIT + 1)
 }
 
-/// Reads a source to its end or to one byte past the limit, and keeps at most so many bytes: the limit, or one more.
+/// Reads a source to its end or to one byte past the limit. Returns at most `most` bytes, which is the limit or one
+/// more, and `TooLong` if there are more.
 fn read<S: Source>(alloc: Global, source: &mut S, most: usize) -> Result<Vec<u8>, RunError>
     requires least { limit ≤ most }
     requires greatest { most ≤ limit + 1 }
@@ -89,7 +92,7 @@ fn read<S: Source>(alloc: Global, source: &mut S, most: usize) -> Result<Vec<u8>
     Ok(input)
 }
 
-/// Returns the position of an input's first line feed, or the input's length.
+/// Returns the position of an input's first line feed, or the input's length if there is none.
 fn line_end(input: &[u8]) -> usize
     ensures line { result ≡ position_or_len (λ byte. byte == 10) input.now }
     ensures within { result ≤ length input.now }

@@ -8,10 +8,10 @@ use crate::device::Sink;
 use crate::error::RunError;
 use std::process::ExitCode;
 
-/// Writes a report to a sink, and flushes it.
+/// Writes a report to a sink, and flushes the sink.
 ///
 /// # Errors
-/// `Write` if the sink fails. A failed call isn't repeated.
+/// Returns `Write` if the sink fails. A failed call isn't repeated.
 pub fn write_report<T: Sink>(sink: &mut T, report: &[u8]) -> Result<(), RunError>
     ensures bytes { OnOk result (Appends (T.held sink.old) (T.held sink.new) report.now) }
     ensures flushed { OnOk result (T.IsFlushed sink.new) }
@@ -26,7 +26,7 @@ pub fn write_report<T: Sink>(sink: &mut T, report: &[u8]) -> Result<(), RunError
     Ok(())
 }
 
-/// Returns the exit status of a run, whose error is printed on standard error.
+/// Returns the exit status of a run: 0 if it succeeded, 1 if it failed. Prints its error on standard error.
 pub fn ended(rt: &impl Eprint, outcome: Result<(), RunError>) -> ExitCode
     ensures done { OnOk outcome (exit_status result ≡ 0) }
     ensures stopped { OnErr outcome (exit_status result ≡ 1) }

@@ -1,4 +1,5 @@
-//! Reads media types, one a line or, with the argument `list`, lists of them, and reports on each.
+//! Reads media types, one on each line, and reports on each. With the argument `list`, each line is a list of media
+//! types.
 #![tactic(auto)]
 
 ghost use Rattle.std.specs.Prelude.{◌≡◌, ◌<◌, ◌≤◌, Some, None, IsSomeAnd, slice_get, string_bytes};
@@ -19,10 +20,10 @@ use std::env;
 use std::env::Args;
 use std::process::ExitCode;
 
-/// Returns the mode that the arguments select, or `None` if they select none. The first of them is the name of the program.
+/// Returns the mode that the arguments select, or `None` if they select none. The first argument is the program's name.
 fn asked_mode(mut arguments: Args) -> Option<Mode>
     ensures parts { into_iter_len arguments ≤ 1 → result ≡ Some Mode.Parts }
-    // The argument after the program's name says which mode.
+    // The argument after the program's name selects the mode.
     ensures named { into_iter_len arguments ≡ 2
         → IsSomeAnd (slice_get (into_iter_items arguments) 1) (λ word. result ≡ mode_named (string_bytes word)) }
     ensures other { 2 < into_iter_len arguments → result ≡ None }
@@ -37,7 +38,7 @@ fn asked_mode(mut arguments: Args) -> Option<Mode>
     }
 }
 
-/// Returns the mode that an argument names, or `None`.
+/// Returns the mode that an argument names, or `None` if it names none.
 fn named_mode(word: &str) -> Option<Mode>
     ensures { result ≡ mode_named word.now }
 {

@@ -1,6 +1,6 @@
 //! What the program reports on each line.
 
-/// What is reported on each line.
+/// The kind of report on each line.
 #[derive(Clone, Copy, PartialEq, Eq, Debug)]
 pub enum Mode {
     /// The parts of the line's media type: for `a/b` the rows `ok a/b`, `type a` and `subtype b`.

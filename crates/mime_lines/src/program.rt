@@ -10,23 +10,22 @@ use crate::report::report_of;
 use mime_io::{RunError, Sink, Source, read_to_limit, write_report};
 use std::alloc::Global;
 
-/// Reads a source to its end, and then writes the report on what it read to a sink. For `a/b` this is
-/// the three lines `ok a/b`, `type a` and `subtype b` in [`Mode::Parts`], and only `ok a/b` in
-/// [`Mode::List`].
+/// Reads a source to its end, and then writes the report on its bytes to a sink. For `a/b` the report is the three
+/// lines `ok a/b`, `type a` and `subtype b` in [`Mode::Parts`], and only `ok a/b` in [`Mode::List`].
 ///
 /// # Errors
-/// `Read` if the source fails, and `Write` if the sink does; a failed call isn't repeated. `TooLong` if the
-/// source has more than 1,048,576 bytes. `NoMemory` if memory runs out. The first of these is returned. Only after
-/// `Write` may a part of the report have been written.
+/// Returns `Read` if the source fails, `Write` if the sink fails, `TooLong` if the source has more than 1,048,576
+/// bytes, and `NoMemory` if memory runs out, whichever happens first. A failed call isn't repeated. Only after `Write`
+/// may a part of the report have been written.
 pub fn run<S: Source, T: Sink>(
     alloc: Global,
     source: &mut S,
     sink: &mut T,
     mode: Mode,
 ) -> Result<(), RunError>
-    // A run that succeeds has read bytes to the end of the source, and not more than the limit. It has
-    // written the report on these bytes, nothing else, and flushed it. This also holds of a source or a
-    // sink that doesn't say which bytes it has.
+    // A run that succeeds has read bytes to the end of the source, and no more than the limit. It has written the
+    // report on these bytes, nothing else, and flushed it. This also holds of a source or a sink that doesn't say which
+    // bytes it has.
     ensures whole { OnOk result ((bytes : List ℕ) × (text : List ℕ)
         × Consumes (S.left source.old) (S.left source.new) bytes × (length bytes ≤ limit)
         × IsReportOf mode bytes text × Appends (T.held sink.old) (T.held sink.new) text) }

@@ -12,7 +12,7 @@ use mime::{Bad, Mime, MimeIter, ParseError};
 use mime_io::first_line;
 use std::alloc::{AllocError, Global};
 
-/// Returns the report on an input, whose lines are validated one by one.
+/// Returns the report on an input. Each line is checked for valid UTF-8 on its own.
 pub(crate) fn report_of(alloc: Global, input: &[u8], mode: Mode) -> Result<String, AllocError>
     ensures { IfOk result (λ report. IsReportOf mode input.now (string_bytes report)) }
 {
@@ -46,8 +46,8 @@ fn push_text(alloc: Global, report: &mut String, text: &str, mode: Mode) -> Resu
     }
 }
 
-/// Adds the rows of a string: those of its media type, or one with its fault. It isn't inlined: within the loop over
-/// the lines the scanner's loops would be slower.
+/// Adds the rows of the media type that a string is read as, or a row with the string's fault. It isn't inlined: within
+/// the loop over the lines, the scanner's loops would be slower.
 #[inline(never)]
 fn push_reading(alloc: Global, report: &mut String, text: &str) -> Result<(), AllocError>
     ensures { OnOk result (Adds (ReportsText Mode.Parts text.now) (string_bytes report.old) (string_bytes report.new)) }

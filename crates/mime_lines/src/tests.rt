@@ -13,7 +13,7 @@ use std::{fmt, io};
 /// More bytes than any run here reads or writes.
 const ENOUGH: usize = 1 << 22;
 
-/// What readers and writers do in runs of some cases, and what these return.
+/// The behavior of readers and writers in runs of some cases, and the result of these runs.
 #[derive(Clone, Copy)]
 struct Scenario {
     /// The most bytes of one read or write.
@@ -22,9 +22,9 @@ struct Scenario {
     reads: usize,
     writes: usize,
     flushes: usize,
-    /// How many times more the first byte of the input is read, before the input.
+    /// How many times the first byte of the input is read before the whole input.
     repeats: usize,
-    /// How many times more the report is written.
+    /// How many times the report is written again.
     again: usize,
     /// The bytes that a read after the end returns, as one from a terminal may.
     after_end: &'static [u8],
@@ -48,9 +48,9 @@ const PLAIN: Scenario = Scenario {
     cases: CASES,
 };
 
-/// A reader that returns `byte` `repeats` times, and then the bytes `left`, at most `most` in a read. After `reads` reads
-/// it fails, once or always, with `Interrupted`, which is a failure like any other. After its end, another read returns
-/// `after_end`, as a read from a terminal may return more.
+/// A reader that returns `byte` `repeats` times, and then the bytes `left`, at most `most` in a read. After `reads`
+/// reads it fails, once or always, with `Interrupted`, which is a failure like any other. After the end, another read
+/// returns `after_end`, as a read from a terminal may.
 #[derive(Drop)]
 struct Reader<'a> {
     byte: u8,
@@ -104,9 +104,9 @@ impl Read for Reader<'_> {
     }
 }
 
-/// A writer that accepts its bytes, and then accepts them `again` times, at most `most` a write and in at most `writes`
-/// writes. It fails at any other bytes, and at a flush after `flushes` flushes. If it fails only once, it accepts
-/// anything after that.
+/// A writer that accepts `bytes`, and then accepts them `again` more times, at most `most` in a write and in at most
+/// `writes` writes. It fails at any other bytes, and at a flush after `flushes` flushes. If it fails only once, it
+/// accepts anything after that.
 #[derive(Drop)]
 struct Writer<'a> {
     bytes: &'a [u8],
@@ -188,7 +188,7 @@ struct Case<'a> {
     report: &'a [u8],
 }
 
-/// Returns what a run of a scenario writes; a failed write stops it at this byte.
+/// Returns the bytes that a run of a scenario writes. A failed write stops the run at byte `at`.
 fn written<'a>(case: &Case<'a>, scenario: &Scenario, at: usize) -> &'a [u8] {
     match scenario.answer {
         Err(RunError::Write) if scenario.flushes > 0 => &case.report[..at.min(case.report.len())],
@@ -197,8 +197,9 @@ fn written<'a>(case: &Case<'a>, scenario: &Scenario, at: usize) -> &'a [u8] {
     }
 }
 
-/// Checks a run of a scenario, in which the read or the written byte of this number fails if its answer says so. It checks what the
-/// run returns, that its writer got all its bytes, that only what its answer names has failed, and that no call was made after that.
+/// Checks a run of a scenario. If its answer is `Read` or `Write`, the read or the written byte with the number `at`
+/// fails. The run must return the answer, and its writer must accept all its bytes. Only the device that the answer
+/// names may fail, and no call may follow the failure.
 fn check(
     rt: &impl Abort,
     alloc: Global,
@@ -347,8 +348,8 @@ fn an_earlier_failure_stops_nothing(rt: HostRuntime) {
     check_all(&rt, rt.alloc(), &FAILED);
 }
 
-/// Runs into a slice of bytes, which doesn't allocate. tools/refused_requests refuses each request for memory between
-/// the lines `now` and `end`.
+/// Runs a case with a slice of bytes as the sink, which doesn't allocate. tools/refused_requests refuses each request
+/// for memory between the lines `now` and `end`.
 fn run_into(
     rt: &HostRuntime,
     case: &Case<'_>,
@@ -364,8 +365,8 @@ fn run_into(
     answer
 }
 
-/// Returns `true` if a run into a slice of bytes succeeds and writes all of its report, or runs out of memory and writes
-/// nothing. It prints what the run returned.
+/// Returns `true` if a run with a slice of bytes as the sink succeeds and writes all of its report, or runs out of
+/// memory and writes nothing. It prints what the run returned.
 fn fills_slice(rt: &HostRuntime, case: &Case<'_>) -> bool {
     let mut room = [0u8; 256];
     let mut sink = Device {
@@ -429,7 +430,7 @@ fn an_endless_input_is_too_long(rt: HostRuntime) {
     check_all(&rt, rt.alloc(), &ENDLESS);
 }
 
-/// Bytes to be repeated, which have the same report.
+/// Bytes that have the same report when they are repeated.
 const LETTERS: &[Case<'static>] = &[
     Case {
         mode: Mode::List,
@@ -535,7 +536,7 @@ fn flushes_what_it_writes(rt: HostRuntime) {
 
 #[test]
 fn memory_is_found(rt: HostRuntime) {
-    // No clause says so of a text of more than 40 bytes.
+    // No clause says that memory is found for a text of more than 40 bytes.
     let text = "multipart/form-data; boundary=0123456789a";
     let error = Mime::from_str(rt.alloc(), text).err();
     assert!(rt; error.is_none(), "memory ran out");
@@ -548,7 +549,7 @@ fn prints(error: RunError, text: &[u8]) -> bool {
     fmt::Write::write_fmt(&mut writer, format_args!("{error}")).is_ok() && writer.left.is_empty()
 }
 
-/// Checks that an error prints this text, and that this fails if its writer does.
+/// Checks that an error prints this text, and that printing fails if the writer fails.
 fn check_print(rt: &impl Abort, error: RunError, text: &[u8]) {
     for room in 0..=text.len() {
         assert!(rt; prints(error, &text[..room]) == (room == text.len()));

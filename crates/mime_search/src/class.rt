@@ -8,7 +8,7 @@ use std::simd::prelude::*;
 /// The number of bytes that are compared at once.
 pub const BLOCK: usize = 16;
 
-/// A range of bytes, from its first to its last.
+/// An inclusive range of bytes: its first byte, and its last.
 #[derive(Clone, Copy)]
 pub struct Range(pub u8, pub u8);
 
@@ -20,7 +20,7 @@ pub struct Class {
     pub folded: Range,
     pub second: Range,
     pub third: Range,
-    /// Whether a search stops in the ranges; otherwise it stops outside them.
+    /// Whether a search stops at the bytes in the ranges; otherwise it stops at all others.
     pub inside: bool,
 }
 
@@ -68,9 +68,9 @@ impl Class {
     }
 }
 
-/// Returns which of 16 bytes are outside the ranges of a class, as a bit mask. The lowest bit is for the first byte. Comparisons
-/// take a few instructions on every processor. A look-up by shuffled bytes takes fewer, but is a loop on the oldest x86-64, for
-/// which the library for C is built.
+/// Returns which of 16 bytes are outside the ranges of a class, as a bit mask. The lowest bit is for the first byte.
+/// Comparisons take a few instructions on every processor. A table look-up by a shuffle takes fewer, but is compiled to
+/// a loop for the oldest x86-64, for which the library for C is built.
 #[inline(always)]
 fn outside_in_lanes(bytes: u8x16, class: &Class) -> u64
     ensures mask { result ≡ outside class.now bytes }

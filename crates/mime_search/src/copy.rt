@@ -1,10 +1,10 @@
-//! Copies of short strings without a call.
+//! Copies short strings without a call.
 
 ghost use Rattle.std.specs.Prelude.{◌≡◌, ◌+◌, ◌≤◌, length};
 
 use std::simd::Simd;
 
-/// Copies the first `N` bytes and the last `N`, which may overlap, and together are all bytes.
+/// Copies all bytes: the first `N` and the last `N`, which may overlap.
 #[inline(always)]
 fn copy_ends<const N: usize>(out: &mut [u8], bytes: &[u8])
     requires same { length out.old ≡ length bytes.now }
@@ -17,7 +17,7 @@ fn copy_ends<const N: usize>(out: &mut [u8], bytes: &[u8])
     Simd::<u8, N>::from_slice(&bytes[last..]).copy_to_slice(&mut out[last..]);
 }
 
-/// Copies a long string. It isn't inlined: few are.
+/// Copies a long string. It isn't inlined: few strings are long.
 #[inline(never)]
 fn copy_long(out: &mut [u8], bytes: &[u8])
     requires { length out.old ≡ length bytes.now }

@@ -75,8 +75,8 @@ pub fn first_difference_ignoring_case(a: &[u8], b: &[u8]) -> Option<usize>
     }
 }
 
-/// Returns `true` if two byte strings of equal length are equal ignoring ASCII case. The loop doesn't end early: over a known
-/// length it is a few vector instructions.
+/// Returns `true` if two byte strings of equal length are equal ignoring ASCII case. The loop doesn't end early, so
+/// that it is a few vector instructions if the length is known.
 #[inline(always)]
 fn eq_byte_by_byte(a: &[u8], b: &[u8]) -> bool
     requires same_length { length a.now ≡ length b.now }
@@ -91,9 +91,9 @@ fn eq_byte_by_byte(a: &[u8], b: &[u8]) -> bool
     differs == 0
 }
 
-/// Returns `true` if two byte strings of equal length, from `block` to twice `block`, are equal ignoring ASCII case: by their
-/// last and first `block` bytes, which together are all of them. Names differ more often in their last bytes than in their
-/// first.
+/// Returns `true` if two byte strings of equal length are equal ignoring ASCII case. The length is from `block` to
+/// twice `block`, so the last and the first `block` bytes are all bytes. The last are compared first, since names
+/// differ more often there.
 #[inline(always)]
 fn eq_at_both_ends(a: &[u8], b: &[u8], block: usize) -> bool
     requires same_length { length a.now ≡ length b.now }

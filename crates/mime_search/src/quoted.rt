@@ -7,8 +7,8 @@ ghost use Rattle.mime_search.specs.Quoted.{quote, backslash, len_from};
 use crate::class::{BLOCK, Class};
 use crate::search::{first_stop, stops_from};
 
-/// Returns the position after the quoted pair at this position, a backslash and a byte. A backslash that ends the text
-/// counts as a quoted pair.
+/// Returns the position after the quoted pair, a backslash and a byte, that begins at `from`. A backslash that ends the
+/// text counts as a quoted pair.
 #[inline(always)]
 fn after_quoted_pair(text: &[u8], from: usize) -> usize
     requires within { from < length text.now }
@@ -24,8 +24,8 @@ fn after_quoted_pair(text: &[u8], from: usize) -> usize
     from + 2
 }
 
-/// Returns the position after the quoted pairs in a row that begin at this position. A backslash that ends the text
-/// counts as a quoted pair.
+/// Returns the position after one or more of the quoted pairs in a row that begin at `from`: after all of them, unless
+/// fewer than eight bytes are left. A backslash that ends the text counts as a quoted pair.
 #[inline(always)]
 fn after_quoted_pairs(text: &[u8], from: usize) -> usize
     requires within { from < length text.now }
@@ -48,8 +48,9 @@ fn after_quoted_pairs(text: &[u8], from: usize) -> usize
     after_quoted_pair(text, last)
 }
 
-/// Returns the position of the first of `size` bytes that is a quote outside a quoted pair. If there is none, returns their
-/// end, or the end of a quoted pair that ends after them. `stops` are the quotes and backslashes.
+/// Returns the position of the first quote outside a quoted pair among the `size` bytes at `from`. If there is none,
+/// returns the end of these bytes, or of a quoted pair that ends after them. `stops` is the bit mask of the quotes and
+/// backslashes.
 #[inline(always)]
 fn after_quoted_pairs_among(text: &[u8], from: usize, size: usize, stops: u64) -> usize
     requires few { size ≤ BLOCK }
@@ -77,8 +78,8 @@ fn after_quoted_pairs_among(text: &[u8], from: usize, size: usize, stops: u64) -
     end
 }
 
-/// Skips the bytes up to the next quote or backslash, or a block of bytes with its quoted pairs, and returns the position
-/// after them.
+/// Skips bytes up to the next quote or backslash, or a block of bytes with its quoted pairs. Returns the position after
+/// the skipped bytes.
 #[inline(always)]
 fn after_plain(text: &[u8], from: usize) -> usize
     requires { from ≤ length text.now }
@@ -98,7 +99,8 @@ fn after_plain(text: &[u8], from: usize) -> usize
     first_stop(text, at, &class)
 }
 
-/// Returns the position of the first quote, from a position on, that isn't in a quoted pair, or the length.
+/// Returns the position of the first quote, at or after `from`, that isn't in a quoted pair, or the length if there is
+/// none.
 #[inline(always)]
 pub fn content_end(text: &[u8], from: usize) -> usize
     requires { from ≤ length text.now }

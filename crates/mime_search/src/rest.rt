@@ -8,8 +8,8 @@ use crate::class::{BLOCK, Class};
 use crate::search::{first_stop, first_stop_at_end, stops_in_block};
 use std::marker::Model;
 
-/// Returns the position of a byte, from a position on, or the length if it doesn't occur. It isn't inlined: most searches end
-/// in their first or last block.
+/// Returns the position of the first `byte` at or after `from`, or the length if there is none. It isn't inlined: most
+/// searches end in their first or last block.
 #[cold]
 #[inline(never)]
 fn position_far(text: &[u8], from: usize, byte: u8) -> usize
@@ -19,8 +19,8 @@ fn position_far(text: &[u8], from: usize, byte: u8) -> usize
     first_stop(text, from, &Class::of(byte, byte))
 }
 
-/// Returns the position of a byte, or the length if it doesn't occur, searched byte by byte. It isn't inlined: few strings with
-/// parameters are shorter than a block.
+/// Returns the position of the first `byte`, or the length if there is none. It searches byte by byte, and isn't
+/// inlined: few strings with parameters are shorter than a block.
 #[inline(never)]
 fn position_by_one(text: &[u8], byte: u8) -> usize
     ensures { result ≡ first_position byte text.now }
@@ -35,8 +35,8 @@ fn position_by_one(text: &[u8], byte: u8) -> usize
     position
 }
 
-/// The rest of a string, together with the string: if the rest is shorter than a block, the string's last block is
-/// searched instead, without a loop.
+/// The rest of a string, together with the whole string. If the rest is shorter than a block, the string's last block
+/// is searched, without a loop.
 #[derive(Drop)]
 pub struct Rest<'a> {
     whole: &'a str,
@@ -55,7 +55,7 @@ impl<'a> Model for Rest<'a> {
 }
 
 impl<'a> Rest<'a> {
-    /// Returns the rest of a string from this position on.
+    /// Returns the rest of a string from position `from` on.
     #[inline(always)]
     pub fn of(whole: &'a str, from: usize) -> Rest<'a>
         requires { IsCharBoundary whole.now from }
@@ -75,7 +75,7 @@ impl<'a> Rest<'a> {
         self.text
     }
 
-    /// Returns its length in bytes.
+    /// Returns the length of the rest, in bytes.
     #[inline(always)]
     pub fn len(&self) -> usize
         ensures { result ≡ length self.now }
@@ -83,7 +83,7 @@ impl<'a> Rest<'a> {
         self.text.len()
     }
 
-    /// Returns `true` if it begins with a byte.
+    /// Returns `true` if the rest begins with `byte`.
     #[inline(always)]
     pub fn begins_with(&self, byte: u8) -> bool
         ensures begins { IsTrue result ↔ (slice_get self.now 0 ≡ Some byte) }
@@ -92,7 +92,7 @@ impl<'a> Rest<'a> {
         !self.text.is_empty() && self.text.as_bytes()[0] == byte
     }
 
-    /// Returns what is left of the rest from this position on.
+    /// Returns the part of the rest from position `from` on.
     #[inline(always)]
     pub fn after(&self, from: usize) -> Rest<'a>
         requires { IsCharBoundary self.now from }
@@ -104,7 +104,7 @@ impl<'a> Rest<'a> {
         }
     }
 
-    /// Returns the first position of a byte, counted from 0 in the rest, or the rest's length if it doesn't occur.
+    /// Returns the position of the first `byte`, counted from 0 in the rest, or the rest's length if there is none.
     #[inline(always)]
     pub fn position_of(&self, byte: u8) -> usize
         ensures { result ≡ first_position byte self.now }
@@ -126,7 +126,8 @@ impl<'a> Rest<'a> {
         first_stop_at_end(whole, from, &class) - from
     }
 
-    /// Splits at the ASCII byte at `position`, which is dropped. At the end, returns the whole rest and an empty one.
+    /// Splits the rest at the ASCII byte at `position`, and drops this byte. At the end, returns the whole rest and an
+    /// empty one.
     #[inline(always)]
     pub fn split_around(&self, position: usize) -> (&'a str, Rest<'a>)
         requires within { position ≤ length self.now }
@@ -139,7 +140,7 @@ impl<'a> Rest<'a> {
         (&text[..position], self.after(position + dropped))
     }
 
-    /// Splits at the first `byte`, which must be ASCII and is dropped. If it doesn't occur, returns the whole rest
+    /// Splits the rest at the first `byte`, which must be ASCII, and drops it. If there is none, returns the whole rest
     /// and an empty one.
     #[inline(always)]
     pub fn split_at_first(&self, byte: u8) -> (&'a str, Rest<'a>)

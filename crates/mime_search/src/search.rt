@@ -16,8 +16,8 @@ pub(crate) fn stops_in_block(text: &[u8], at: usize, class: &Class) -> u64
     stops_in_lanes(u8x16::from_slice(&text[at..]), class)
 }
 
-/// Returns the position of the first byte, from a position on, at which a search stops, or the length. The text is searched
-/// byte by byte.
+/// Returns the position of the first byte, from a position on, at which a search stops, or the length if there is none.
+/// The text is searched byte by byte.
 #[inline(always)]
 fn first_stop_by_bytes(text: &[u8], from: usize, class: &Class) -> usize
     requires { from ≤ length text.now }
@@ -30,8 +30,8 @@ fn first_stop_by_bytes(text: &[u8], from: usize, class: &Class) -> usize
     at
 }
 
-/// Returns the position of the first byte, from a position on, at which a search stops, or the length. Less than a block is
-/// left, so the text's last block is searched at once.
+/// Returns the position of the first byte, from a position on, at which a search stops, or the length if there is none.
+/// Less than a block is left, so the text's last block is searched at once.
 #[inline(always)]
 pub(crate) fn first_stop_at_end(text: &[u8], from: usize, class: &Class) -> usize
     requires block { BLOCK ≤ length text.now }
@@ -48,8 +48,8 @@ pub(crate) fn first_stop_at_end(text: &[u8], from: usize, class: &Class) -> usiz
     }
 }
 
-/// Returns how many bytes are searched from a position on, a block or the rest of the text, and which of them stop the search,
-/// as a bit mask.
+/// Searches a block from a position on, or the rest of the text if this is shorter. Returns the number of bytes
+/// searched, and which of them stop the search, as a bit mask.
 #[inline(always)]
 pub(crate) fn stops_from(text: &[u8], from: usize, class: &Class) -> (usize, u64)
     requires block { BLOCK ≤ length text.now }
@@ -68,7 +68,7 @@ pub(crate) fn stops_from(text: &[u8], from: usize, class: &Class) -> (usize, u64
     )
 }
 
-/// Returns what `first_stop` returns. It isn't inlined: most searches don't need it.
+/// Returns the same as `first_stop`. It isn't inlined: most searches don't need it.
 #[cold]
 #[inline(never)]
 pub fn first_stop_far(text: &[u8], from: usize, class: &Class) -> usize

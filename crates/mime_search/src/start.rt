@@ -7,7 +7,7 @@ use crate::class::{BLOCK, Class, stops_in_lanes};
 use crate::search::stops_in_block;
 use std::simd::prelude::*;
 
-/// How many bytes are searched together at the start of a string: a mask has a bit for each.
+/// The most bytes that are searched together at the start of a string. A mask has a bit for each.
 pub const WINDOW: usize = 64;
 
 /// Half a block.
@@ -37,7 +37,7 @@ fn both_ends(text: &[u8]) -> u8x16
     first.shuffle(last, [0, 1, 2, 3, 4, 5, 6, 7, 8, 9, 10, 11, 12, 13, 14, 15])
 }
 
-/// Returns which bytes of a string stop a search. The string has from half a block to a block.
+/// Returns which bytes of a string stop a search, as a bit mask. The string has from half a block to a block.
 #[inline(always)]
 fn stops_in_halves(text: &[u8], class: &Class) -> u64
     requires room { HALF ≤ length text.now }
@@ -48,8 +48,8 @@ fn stops_in_halves(text: &[u8], class: &Class) -> u64
     joined(found % 256, found / 256, HALF, text.len())
 }
 
-/// Returns which bytes of a string stop a search. The string has from one block to four. `first` has those of its first
-/// block.
+/// Returns which bytes of a string stop a search, as a bit mask. The string has from one block to four. `first` is the
+/// mask of its first block.
 #[inline(always)]
 pub fn stops_in_window(text: &[u8], first: u64, class: &Class) -> u64
     requires room { BLOCK ≤ length text.now }
@@ -68,8 +68,8 @@ pub fn stops_in_window(text: &[u8], first: u64, class: &Class) -> u64
     joined(start, end, BLOCK + BLOCK, size)
 }
 
-/// Returns the length of a string's start, and which of its bytes stop a search. The start is a block, or the whole string if
-/// it is shorter, or nothing if it is shorter than half a block.
+/// Searches the start of a string: a block, the whole string if it is shorter than a block, or nothing if it is shorter
+/// than half a block. Returns the number of bytes searched, and which of them stop the search, as a bit mask.
 #[inline(always)]
 pub fn stops_at_start(text: &[u8], class: &Class) -> (usize, u64)
     ensures few { result.0 ≤ BLOCK }

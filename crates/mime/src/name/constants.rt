@@ -2,7 +2,7 @@
 
 use crate::name::Name;
 
-/// The name with this text that ignores case.
+/// The name that has this text and ignores case.
 macro_rules! name {
     ($text:literal) => {
         Name {
@@ -127,7 +127,8 @@ pub const BOUNDARY: Name<'static> = name!("boundary");
 /// The value `utf-8` of a `charset`, as in `text/html; charset=utf-8` (RFC 3629).
 pub const UTF_8: Name<'static> = name!("utf-8");
 
-/// All of them, for the law `name_constants`: an array in its body would be a statement a row for its proof.
+/// All constant names, for the law `name_constants`. In the body of the law, each row would be a statement for its
+/// proof.
 pub(crate) static NAMES: [Name<'static>; 38] = [
     STAR,
     TEXT,

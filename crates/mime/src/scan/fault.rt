@@ -1,4 +1,4 @@
-//! Why a string is rejected, and what that prints.
+//! Why a string is rejected, and how this is printed.
 
 ghost use Rattle.std.specs.Prelude.{◌≡◌, IfOk, Some};
 ghost use Rattle.std.specs.Fmt.InlineText.{inline_text};
@@ -9,7 +9,7 @@ use std::fmt;
 use std::fmt::{InlineText, Write};
 use std::marker::Model;
 
-/// Why a string isn't read as a media type (RFC 7231, 3.1.1.1).
+/// The reason why a string isn't read as a media type (RFC 7231, 3.1.1.1).
 #[derive(Clone, Copy, PartialEq, Eq, Debug)]
 pub enum ParseError {
     /// The string ends in its type, as in `text`, or is empty: at least a `/` and a subtype are missing.
@@ -23,20 +23,20 @@ pub enum ParseError {
     /// The string ends in a quoted string: its closing `"` is missing, as in `a/b;p="x`. After an unpaired backslash,
     /// as in `a/b;p="\`, the byte after it is missing, too.
     MissingQuote,
-    /// A byte that no media type has there, as the space in `a b`: some media type begins with the bytes before it, and
-    /// none with the bytes up to and including it.
+    /// The string has a byte that no media type has there, as the space in `a b`. Some media type begins with the bytes
+    /// before it, but none with the bytes up to and including it.
     InvalidToken {
         /// The position of the byte, in bytes from 0.
         pos: usize,
         /// The byte, which is the first of its character.
         byte: u8,
     },
-    /// The string is a media type, such as `text/plain`, and memory ran out.
+    /// The string is a media type of more than 40 bytes, and memory ran out.
     NoMemory,
 }
 
-/// Returns what `InvalidToken` prints, at most 69 bytes. It doesn't use the caller's formatter, whose width would pad each
-/// number.
+/// Returns the text that `InvalidToken` prints, of at most 69 bytes. It doesn't use the caller's formatter, whose width
+/// would pad each number.
 fn token_text(pos: usize, byte: u8) -> Result<InlineText<80>, fmt::Error>
     ensures { IfOk result (λ text. inline_text text ≡ token_text pos byte) }
 {
@@ -48,10 +48,10 @@ fn token_text(pos: usize, byte: u8) -> Result<InlineText<80>, fmt::Error>
     Ok(text)
 }
 
-/// Prints what is missing, or the byte in capital hexadecimal with its position in decimal, or that memory ran out. A
+/// Prints what is missing, or the byte in uppercase hexadecimal with its position in decimal, or that memory ran out. A
 /// width and a precision are ignored.
 ///
-/// `text/;` is rejected with `an invalid token was encountered, 3B at position 5`.
+/// The fault of `text/;` prints `an invalid token was encountered, 3B at position 5`.
 impl fmt::Display for ParseError {
     ghost use Rattle.mime.specs.Printed.{fault_text};
 
@@ -78,8 +78,8 @@ impl fmt::Display for ParseError {
 
 impl Error for ParseError {}
 
-/// Why a string isn't read as a media type (RFC 7231, 3.1.1.1): the error of `Mime::from_str`. That of `text` prints
-/// `mime parse error: a slash (/) was missing between the type and subtype`.
+/// The error of `Mime::from_str`: the reason why a string isn't read as a media type (RFC 7231, 3.1.1.1). The error of
+/// `text` prints `mime parse error: a slash (/) was missing between the type and subtype`.
 #[derive(Debug, Drop)]
 pub struct FromStrError {
     fault: ParseError,
@@ -101,7 +101,7 @@ impl FromStrError {
         FromStrError { fault }
     }
 
-    /// Returns the fault (RFC 7231, 3.1.1.1), with positions in bytes from 0. That of `text/;` is
+    /// Returns the fault (RFC 7231, 3.1.1.1), with positions in bytes from 0. The fault of `text/;` is
     /// `InvalidToken { pos: 5, byte: b';' }`.
     pub fn fault(&self) -> &ParseError
         ensures { result.now ≡ self.now }
@@ -110,7 +110,7 @@ impl FromStrError {
     }
 }
 
-/// Prints `mime parse error: ` and then what its fault prints. A width and a precision are ignored.
+/// Prints `mime parse error: ` and then the fault. A width and a precision are ignored.
 impl fmt::Display for FromStrError {
     ghost use Rattle.mime.specs.Printed.{error_text};
 

@@ -1,4 +1,4 @@
-//! A reader of a string's bytes that counts those it has returned or skipped.
+//! A reader of a string's bytes, which counts the bytes that it has returned or skipped.
 
 ghost use Rattle.std.specs.Prelude.{◌≡◌, ◌≢◌, ◌+◌, ◌-◌, ◌<◌, ◌≤◌, ◌^◌, [], true, false, length, drop, not, IsTrue, None, Some};
 ghost use Rattle.std.specs.List.{prefix_len};
@@ -12,7 +12,7 @@ use crate::scan::runs::{QUOTED_TEXT_STOPS, TOKEN_STOPS};
 use mime_search::{BLOCK, Class, WINDOW, first_stop_far, stops_at_start, stops_in_window};
 use std::marker::Model;
 
-/// The bytes of a string, of which the first are read.
+/// A reader of a string's bytes, which counts the bytes that it has returned or skipped.
 #[derive(Drop)]
 pub(crate) struct ByteReader<'a> {
     text: &'a [u8],
@@ -20,20 +20,20 @@ pub(crate) struct ByteReader<'a> {
     at: usize,
     /// The count before the first byte.
     before: u128,
-    /// How many bytes at the start of the string are known.
+    /// The number of known bytes at the start of the string: those that `stops` describes.
     known: usize,
-    /// Which of these aren't common token bytes, as a bit mask.
+    /// Which of the known bytes aren't common token bytes, as a bit mask.
     stops: u64,
-    /// How many bytes of a run are read in its caller's loop. The others are read by a call, which costs more for a short
-    /// run.
+    /// The number of bytes of a run that the caller's loop reads. The others are read by a call, which costs more for a
+    /// short run.
     near: usize,
 }
 
-/// How many bytes of a run are read in the loop of a `MimeIter`'s caller. Most tokens are shorter.
+/// The number of bytes of a run that the loop of a `MimeIter` reads. Most tokens are shorter.
 pub(crate) const NEAR: usize = 24;
 
-/// Returns the position of the byte, from a position on, that ends a run of a token's bytes, or the length. A plus ends it,
-/// too, unless `with_plus`.
+/// Returns the position of the first byte, at or after `from`, that ends a token, or the length if there is none. A
+/// plus ends the token, too, unless `with_plus`.
 #[inline(always)]
 fn end_of_token(text: &[u8], from: usize, with_plus: bool) -> usize
     requires { from ≤ length text.now }
@@ -50,8 +50,8 @@ fn end_of_token(text: &[u8], from: usize, with_plus: bool) -> usize
     at
 }
 
-/// Returns the position that `end_of_token` finds, if a plus ends a run. It isn't inlined: beside other loops, its own would have
-/// twice as many instructions.
+/// Returns the same as `end_of_token`, if a plus ends the token. It isn't inlined: beside other loops, its loop would
+/// have twice as many instructions.
 #[inline(never)]
 fn end_at_plus(text: &[u8], from: usize) -> usize
     requires { from ≤ length text.now }
@@ -61,7 +61,7 @@ fn end_at_plus(text: &[u8], from: usize) -> usize
     end_of_token(text, from, false)
 }
 
-/// Returns the position that `end_of_token` finds, if a plus doesn't end a run. It isn't inlined, like `end_at_plus`.
+/// Returns the same as `end_of_token`, if a plus doesn't end the token. Like `end_at_plus`, it isn't inlined.
 #[inline(never)]
 fn end_past_pluses(text: &[u8], from: usize) -> usize
     requires { from ≤ length text.now }
@@ -71,7 +71,7 @@ fn end_past_pluses(text: &[u8], from: usize) -> usize
     end_of_token(text, from, true)
 }
 
-/// Returns the position that `end_of_token` finds, by a call.
+/// Returns the same as `end_of_token`, by a call.
 #[inline(always)]
 fn end_far(text: &[u8], from: usize, with_plus: bool) -> usize
     requires { from ≤ length text.now }
@@ -97,9 +97,9 @@ impl<'a> Model for ByteReader<'a> {
 }
 
 impl<'a> ByteReader<'a> {
-    /// Returns a reader of all bytes of `text`, whose count begins at `count`. It looks only at bytes that it has counted, and at the
-    /// next one, so that its count is the number of steps of a `MimeIter`. The loop of its caller reads at most `near` bytes of a run;
-    /// a call reads the others.
+    /// Returns a reader of all bytes of `text`, whose count begins at `count`. The reader looks only at bytes that it
+    /// has counted, and at the next one, so that its count is the number of steps of a `MimeIter`. The caller's loop
+    /// reads at most `near` bytes of a run; a call reads the others.
     #[inline(always)]
     pub(crate) fn new(text: &'a str, count: u128, near: usize) -> ByteReader<'a>
         requires { count + length text.now < 2 ^ 128 }
@@ -116,8 +116,8 @@ impl<'a> ByteReader<'a> {
         }
     }
 
-    /// Returns a reader of all bytes of `text`, whose count begins at 0. It looks at blocks of bytes, and may skip some. It is
-    /// for callers that don't count steps.
+    /// Returns a reader of all bytes of `text`, whose count begins at 0. The reader looks at blocks of bytes, and may
+    /// skip some of these bytes. It is for callers that don't count steps.
     #[inline(always)]
     pub(crate) fn by_blocks(text: &'a str) -> ByteReader<'a>
         ensures left { result.left ≡ text.now }
@@ -148,14 +148,15 @@ impl<'a> ByteReader<'a> {
         Some(byte)
     }
 
-    /// Returns the position up to which the bytes of a run, from the next byte on, are read in the caller's loop.
+    /// Returns the position up to which the caller's loop reads a run that begins at the next byte.
     #[inline(always)]
     pub(crate) fn near_end(&self) -> usize {
-        // If the sum wraps, the whole run is read by a call.
+        // The sum wraps only if `near` is `usize::MAX`. Then `is_before` ignores the position.
         self.at.wrapping_add(self.near).min(self.text.len())
     }
 
-    /// Returns `true` if the next byte is before a position.
+    /// Returns `true` if the caller's loop reads the next byte: if a byte is left, and its position is before `end` or
+    /// `near` is `usize::MAX`.
     #[inline(always)]
     pub(crate) fn is_before(&self, end: usize) -> bool
         ensures { IsTrue result → 0 < length self.now.left }
@@ -166,7 +167,7 @@ impl<'a> ByteReader<'a> {
         self.at < end && self.at < self.text.len()
     }
 
-    /// Returns the next byte, of a string that hasn't ended.
+    /// Returns the next byte. The string must not have ended.
     #[inline(always)]
     pub(crate) fn next_byte(&mut self) -> u8
         requires { self.old.left ≢ [] }
@@ -177,7 +178,7 @@ impl<'a> ByteReader<'a> {
         byte
     }
 
-    /// Skips a token's bytes, if any byte is left, by a call.
+    /// Skips a token's bytes by a call, unless the string has ended.
     #[inline(always)]
     fn skip_far(&mut self, with_plus: bool)
         ensures { Passing (token_bytes with_plus) self.old self.new }
@@ -187,7 +188,7 @@ impl<'a> ByteReader<'a> {
         }
     }
 
-    /// Skips a token's bytes by a call, and returns the byte after them.
+    /// Skips a token's bytes by a call, and returns the byte after them, if there is one.
     #[inline(always)]
     pub(crate) fn next_far(&mut self, with_plus: bool) -> Option<u8>
         ensures reaches { Reaches (token_bytes with_plus) self.old self.new result }
@@ -197,7 +198,8 @@ impl<'a> ByteReader<'a> {
         self.next()
     }
 
-    /// Skips bytes at which a search doesn't stop, block by block.
+    /// Skips bytes, block by block, up to the first at which a search stops. If less than a block is left, skips
+    /// nothing.
     #[inline(always)]
     fn skip_blocks(&mut self, class: &Class)
         ensures { Passing (λ b. not (is_stop class.now b)) self.old self.new }
@@ -207,8 +209,8 @@ impl<'a> ByteReader<'a> {
         }
     }
 
-    /// Skips token bytes other than the plus that are known, and returns the first known byte that may end them. A later run
-    /// is read byte by byte, since many short ones may follow.
+    /// Skips common token bytes, and returns the first known byte that isn't one, or `None` if there is none. Tokens
+    /// after the known bytes are read byte by byte, since many short ones may follow.
     #[inline(always)]
     pub(crate) fn known_stop(&mut self) -> Option<u8>
         ensures { Reaches is_token_except_plus self.old self.new result }
@@ -227,7 +229,7 @@ impl<'a> ByteReader<'a> {
         Some(self.text[stop])
     }
 
-    /// Returns `false` if a known byte that no media type has there ends the token at the next byte. Such a string is
+    /// Returns `false` if the token at the next byte ends at a known byte that no media type has there. The string is
     /// rejected at that byte.
     #[inline(always)]
     fn may_go_on(&self) -> bool {
@@ -242,8 +244,8 @@ impl<'a> ByteReader<'a> {
         stop == b';' || is_token(stop)
     }
 
-    /// Looks at all bytes of a window, if only a block of them is known and the string may continue after the token at the
-    /// next byte. Most rejected strings stop before.
+    /// Makes all bytes of a window known, if only a block is known and the string isn't rejected where the token at the
+    /// next byte ends. Most rejected strings are rejected earlier.
     #[inline(always)]
     pub(crate) fn look_further(&mut self)
         ensures { self.new ≡ self.old }
@@ -255,7 +257,7 @@ impl<'a> ByteReader<'a> {
         }
     }
 
-    /// Skips bytes of quoted text if the next byte is known, but perhaps not all of them.
+    /// Skips bytes of quoted text if the next byte is known. It may leave some of the quoted text.
     #[inline(always)]
     pub(crate) fn skip_quoted_text(&mut self)
         ensures { Passing is_quoted_text_byte self.old self.new }
@@ -274,7 +276,8 @@ impl<'a> ByteReader<'a> {
         self.before + self.at as u128
     }
 
-    /// Returns the position of the byte that was read last, in bytes from 0. `from` was the count at the start of the string.
+    /// Returns the position of the byte that was read last, in bytes from 0. `from` is the count at the start of the
+    /// string.
     #[inline(always)]
     pub(crate) fn position(&self, from: u128) -> usize
         requires given { from < self.now.count }

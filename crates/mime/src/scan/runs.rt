@@ -2,7 +2,7 @@
 
 use mime_search::{Class, Range};
 
-/// All bytes except those that tokens mostly have: letters, digits, hyphens and dots.
+/// All bytes except the common token bytes: letters, digits, hyphens and dots.
 pub(crate) static TOKEN_STOPS: Class = Class {
     fold: 0x20,
     folded: Range(b'a', b'z'),
@@ -11,7 +11,7 @@ pub(crate) static TOKEN_STOPS: Class = Class {
     inside: false,
 };
 
-/// All bytes except those of quoted text in ASCII; but the tab, too.
+/// All bytes except the ASCII bytes of quoted text other than the tab.
 pub(crate) static QUOTED_TEXT_STOPS: Class = Class {
     fold: 0,
     folded: Range(b'#', b'['),

@@ -1,4 +1,4 @@
-//! What the parameters of a media type feed a hasher.
+//! Feeds the parameters of a media type to a hasher.
 
 ghost use Rattle.std.specs.Prelude.{◌≡◌, ◌<◌, length};
 ghost use Rattle.std.specs.List.{fold, flat_map};
@@ -10,10 +10,10 @@ use std::hash::Hasher;
 /// The number of bytes in a word of a hasher.
 const WORD: usize = 8;
 
-/// The byte that ends a part. UTF-8 has no such byte.
+/// The byte that ends a part. It never occurs in UTF-8.
 const END: u8 = 0xff;
 
-/// Returns the number whose lowest bytes are these, at most one, and whose next byte is `END`.
+/// Returns `rest`, which has at most one byte, and then `END`, as a little-endian number.
 #[inline(always)]
 fn number_up_to_one(rest: &[u8]) -> u64
     requires { length rest.now < 2 }
@@ -26,7 +26,7 @@ fn number_up_to_one(rest: &[u8]) -> u64
     rest[0] as u64 + END as u64 * 0x100
 }
 
-/// Returns the number whose lowest bytes are these, at most three, and whose next byte is `END`.
+/// Returns `rest`, which has at most three bytes, and then `END`, as a little-endian number.
 #[inline(always)]
 fn number_up_to_three(rest: &[u8]) -> u64
     requires { length rest.now < 4 }
@@ -40,7 +40,7 @@ fn number_up_to_three(rest: &[u8]) -> u64
     low as u64 + number_up_to_one(&rest[2..]) * 0x1_0000
 }
 
-/// Returns the number whose lowest bytes are these, at most seven, and whose next byte is `END`.
+/// Returns `rest`, which has at most seven bytes, and then `END`, as a little-endian number.
 #[inline(always)]
 fn number_up_to_seven(rest: &[u8]) -> u64
     requires { length rest.now < WORD }
@@ -53,8 +53,8 @@ fn number_up_to_seven(rest: &[u8]) -> u64
     low as u64 + number_up_to_three(&rest[4..]) * 0x1_0000_0000
 }
 
-/// Returns the last word of a part: its bytes after the whole words, `END`, and zeros. It is made as a number, whose lowest
-/// byte is the first, since most hashers hash words as numbers.
+/// Returns the last word of a part: the bytes after its whole words, `END`, and zeros. The word is computed as a
+/// little-endian number, since most hashers hash words as numbers.
 #[inline(always)]
 fn end_word(rest: &[u8]) -> [u8; WORD]
     requires { length rest.now < WORD }

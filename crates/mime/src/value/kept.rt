@@ -12,7 +12,7 @@ use crate::value::pairs::cut;
 use mime_search::{BLOCK, Rest, eq_ignore_ascii_case};
 use std::alloc::{AllocError, Global};
 
-/// Returns `true` if there is an ASCII capital among bytes.
+/// Returns `true` if any of the bytes is an ASCII capital.
 #[inline]
 pub(crate) fn has_capital(bytes: &[u8]) -> bool
     ensures { IsFalse result ↔ (lowered bytes.now ≡ bytes.now) }
@@ -43,7 +43,8 @@ fn lowercase_range(bytes: &mut [u8], from: usize, to: usize)
     bytes[from..to].make_ascii_lowercase();
 }
 
-/// Lowercases the first `len` bytes, in whole blocks if there are enough. The last block may begin within the one before it.
+/// Lowercases the first `len` bytes, in whole blocks if `len` is at least a block. The last block may overlap the one
+/// before it.
 #[inline(always)]
 fn lowercase_start(bytes: &mut [u8], len: usize)
     requires { len ≤ length bytes.old }
@@ -57,7 +58,7 @@ fn lowercase_start(bytes: &mut [u8], len: usize)
     lowercase_range(bytes, len - BLOCK, len);
 }
 
-/// Returns how many bytes of a value ignore case: all of them if its name is `charset`, else none.
+/// Returns how many bytes of a parameter's value are lowercased: all of them if its name is `charset`, otherwise none.
 #[inline(always)]
 fn low_len(name: &str, value: &str) -> usize
     ensures { result ≡ if is_charset name.now then length value.now else 0 }
@@ -65,8 +66,8 @@ fn low_len(name: &str, value: &str) -> usize
     if names_charset(name) { value.len() } else { 0 }
 }
 
-/// Lowercases, in a string with `count` pairs, everything up to the semicolon, the names, and the values of `charset`.
-/// `bytes` is a copy of the string's bytes. It isn't inlined: most strings have no capital.
+/// Lowercases everything up to the semicolon, the names of the first `count` pairs, and the values of `charset`.
+/// `bytes` is a copy of the bytes of `text`. This function isn't inlined: most strings have no capital.
 #[cold]
 #[inline(never)]
 pub(crate) fn lowercase_text(bytes: &mut [u8], text: &str, semicolon: usize, count: usize)
@@ -104,11 +105,11 @@ fn keep_pairs(
     }
     let mut bytes = Vec::from_slice(alloc, text.as_bytes())?;
     lowercase_text(&mut bytes, text, semicolon, count);
-    // SAFETY: these are the bytes of a `str`, in which only ASCII capitals were lowercased: so they are UTF-8.
+    // SAFETY: these are the bytes of a `str` in which only ASCII capitals were lowercased, so they are valid UTF-8.
     Ok(unsafe { String::from_utf8_unchecked(bytes) })
 }
 
-/// Returns the positions of the parts in the kept text: an empty parameter list is dropped.
+/// Returns the positions of the parts in the kept text, from which an empty parameter list is dropped.
 #[inline(always)]
 pub(crate) fn positions_in_kept(positions: Positions) -> Positions
     ensures { result ≡ kept_positions positions }

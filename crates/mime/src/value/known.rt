@@ -7,19 +7,20 @@ use crate::value::Mime;
 use std::alloc::{AllocError, Global};
 use std::marker::Model;
 
-/// A text that is known to be the kept text of a media type: the essence of `like`, and parameters after it (RFC 7231,
-/// 3.1.1.1). The code that makes one proves this, so the text isn't read again. It is for the crates of this
-/// repository, such as `mime_http`: what has to be proved is `IsKnown`, in a private file, which may change within 1.x.
+/// A text that is known to be the kept text of a media type: the essence of `like`, followed by parameters (RFC 7231,
+/// 3.1.1.1). Code that creates a `KnownText` proves this, so the text isn't scanned again. This type is for the crates
+/// of this repository, such as `mime_http`: the invariant `IsKnown`, which they prove, is in a private file, and may
+/// change within 1.x.
 ///
-/// `text/html; charset=utf-8` with 1 parameter is one, if `like` was read from `Text/HTML`. `text/html; charset=UTF-8`
-/// isn't, since the value of a charset is kept in lowercase.
+/// For example, `text/html; charset=utf-8` with 1 parameter is known if `like` was read from `Text/HTML`.
+/// `text/html; charset=UTF-8` isn't, since the value of a charset is kept in lowercase.
 #[derive(Drop)]
 pub struct KnownText<'a> {
     /// A media type with the essence of the text.
     pub like: &'a Mime,
     /// The text.
     pub text: String,
-    /// The number of its parameters, 1 or more.
+    /// The number of the text's parameters, 1 or more.
     pub count: usize,
 }
 
@@ -35,12 +36,12 @@ impl<'a> Model for KnownText<'a> {
 }
 
 impl<'a> KnownText<'a> {
-    /// Returns the media type that is read from the text, as [`Mime::from_str`] does, without looking at its bytes (RFC
-    /// 7231, 3.1.1.1). It doesn't allocate if the text has at most 40 bytes, or no more room than it needs; otherwise it
-    /// allocates once.
+    /// Returns the media type that [`Mime::from_str`] reads from the text, without scanning the text (RFC 7231,
+    /// 3.1.1.1). It doesn't allocate if the text has at most 40 bytes or no spare capacity; otherwise it allocates
+    /// once.
     ///
     /// # Errors
-    /// `AllocError` if memory runs out, which can happen only for a text of more than 40 bytes.
+    /// Returns `AllocError` if memory runs out, which can happen only for a text of more than 40 bytes.
     #[inline(always)]
     pub fn into_mime(self, alloc: Global) -> Result<Mime, AllocError>
         // The result is the value of the text.

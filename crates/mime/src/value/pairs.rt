@@ -16,19 +16,19 @@ use crate::name::{Name, ParamKey};
 use mime_search::{Class, Rest, content_end, first_stop};
 use std::marker::Model;
 
-/// The first pair of a list, and the list after its semicolon.
+/// The first pair of a list, and the rest of the list after the pair's semicolon.
 #[derive(Drop)]
 pub(crate) struct Pair<'a> {
     pub(crate) name: &'a str,
-    /// The position of the value in the list, in bytes from 0: after the opening quote of a quoted one.
+    /// The position of the value in the list, in bytes from 0. A quoted value begins after its opening quote.
     pub(crate) value_start: usize,
     /// The value without its quotes.
     pub(crate) value: &'a str,
     pub(crate) rest: Rest<'a>,
 }
 
-/// Returns the length in bytes of a quoted string's content, whose first quote doesn't end it. It isn't inlined: few
-/// values have a backslash before their first quote.
+/// Returns the length in bytes of a quoted string's content, of which the first quote may be in a quoted pair. This
+/// function isn't inlined: few values have a backslash before their first quote.
 #[cold]
 #[inline(never)]
 fn content_len_past_quoted_pairs(text: &[u8]) -> usize
@@ -45,14 +45,14 @@ fn content_len(text: &[u8], quote: usize) -> usize
     ensures { result ≡ content_len text.now }
 {
     if quote == 0 || text[quote - 1] != b'\\' {
-        // No backslash precedes it, so it isn't in a quoted pair.
+        // No backslash precedes the quote, so it isn't in a quoted pair.
         return quote;
     }
     content_len_past_quoted_pairs(text)
 }
 
-/// Returns the number of spaces and tabs with which a byte string begins, counted by blocks. It isn't inlined: few lists begin
-/// with more than one.
+/// Returns the number of leading spaces and tabs of a byte string. It searches block by block, and isn't inlined: few
+/// lists begin with more than one space.
 #[cold]
 #[inline(never)]
 fn count_spaces(bytes: &[u8]) -> usize
@@ -61,7 +61,8 @@ fn count_spaces(bytes: &[u8]) -> usize
     first_stop(bytes, 0, &Class::of(b' ', b'\t').others())
 }
 
-/// Returns what follows the first semicolon, or an empty rest. Most rests begin with it, or are empty.
+/// Returns the rest after the first semicolon, or an empty rest if there is none. Most rests begin with a semicolon, or
+/// are empty.
 #[inline(always)]
 fn after_semicolon<'a>(end: Rest<'a>) -> Rest<'a>
     ensures { result ≡ after_byte semicolon_byte end.entry }
@@ -75,7 +76,7 @@ fn after_semicolon<'a>(end: Rest<'a>) -> Rest<'a>
     end.split_at_first(b';').1
 }
 
-/// Cuts a quoted string at the quote that closes it: returns the content, and what follows that quote.
+/// Returns the content of a quoted string, and the rest after its closing quote. `text` begins after the opening quote.
 #[inline(always)]
 fn cut_content<'a>(text: &Rest<'a>) -> (&'a str, Rest<'a>)
     ensures content { result.0.now ≡ content_of text.now }
@@ -85,7 +86,7 @@ fn cut_content<'a>(text: &Rest<'a>) -> (&'a str, Rest<'a>)
     text.split_around(length)
 }
 
-/// Returns the quoted or plain value that follows a name's equals sign. What follows the value isn't searched.
+/// Returns the quoted or plain value that follows a name's equals sign. The text after the value isn't searched.
 #[inline(always)]
 fn value_after<'a>(end: &Rest<'a>) -> &'a str
     ensures { (list : ℕ) → (name : List ℕ) → result.now ≡ (cut_after_equals list name end.now).value }
@@ -96,8 +97,8 @@ fn value_after<'a>(end: &Rest<'a>) -> &'a str
     end.split_at_first(b';').0
 }
 
-/// Returns the pair of a name, with the quoted or plain value that follows its equals sign. `list` is the list's length in
-/// bytes.
+/// Returns the pair of a name and the quoted or plain value that follows its equals sign. `list` is the list's length
+/// in bytes.
 #[inline(always)]
 fn cut_value<'a>(list: usize, name: &'a str, end: &Rest<'a>) -> Pair<'a>
     requires { length end.now ≤ list }
@@ -125,8 +126,8 @@ fn cut_value<'a>(list: usize, name: &'a str, end: &Rest<'a>) -> Pair<'a>
     }
 }
 
-/// Returns a list without the spaces and tabs with which it begins. Each branch returns a rest, so that no number is added where they
-/// would join.
+/// Returns a list without its leading spaces and tabs. Each branch calls `after` itself, so that the first two add
+/// constants.
 #[inline(always)]
 fn without_spaces<'a>(list: &Rest<'a>) -> Rest<'a>
     ensures { result ≡ without_spaces list.now }
@@ -144,7 +145,7 @@ fn without_spaces<'a>(list: &Rest<'a>) -> Rest<'a>
     list.after(count_spaces(bytes))
 }
 
-/// Cuts the first name off a list, with the spaces before it: returns the name, and what follows its equals sign.
+/// Cuts the first name and the spaces before it off a list. Returns the name, and the rest after its equals sign.
 #[inline(always)]
 fn cut_name<'a>(list: &Rest<'a>) -> (&'a str, Rest<'a>)
     ensures name { result.0.now ≡ before_byte equals_byte (without_spaces list.now) }
@@ -153,8 +154,8 @@ fn cut_name<'a>(list: &Rest<'a>) -> (&'a str, Rest<'a>)
     without_spaces(list).split_at_first(b'=')
 }
 
-/// Cuts the first `size` bytes off a list as its first name, if an equals sign follows them or the list ends there. The name may
-/// have an equals sign itself.
+/// Cuts the first `size` bytes off a list as its first name, if an equals sign or the end of the list follows them;
+/// otherwise returns `None`. The name itself may contain an equals sign.
 #[inline(always)]
 fn cut_name_of_size<'a>(list: &Rest<'a>, size: usize) -> Option<(&'a str, Rest<'a>)>
     ensures other { result ≡ None → first_position equals_byte list.now ≢ size }
@@ -199,7 +200,7 @@ fn is_accepted<K: ParamKey>(key: &K, name: &str) -> bool
     })
 }
 
-/// Returns `true` if a byte string has an equals sign. The compiler computes the result for a constant.
+/// Returns `true` if a byte string contains an equals sign. For a constant, the compiler computes the result.
 #[inline(always)]
 fn has_equals(bytes: &[u8]) -> bool
     ensures { result ≡ has_equals bytes.now }
@@ -211,17 +212,18 @@ fn has_equals(bytes: &[u8]) -> bool
     found
 }
 
-/// The first name of a list, and what follows its equals sign.
+/// The first name of a list, and the rest after its equals sign.
 #[derive(Drop)]
 struct FirstName<'a> {
     name: &'a str,
     end: Rest<'a>,
-    /// Whether the key for which it was cut accepts it.
+    /// Whether the key accepts the name.
     is_accepted: bool,
 }
 
-/// Cuts the first name off a list for a key, with the spaces before it. If it is the only name and the key has a text, no equals sign
-/// is searched for: a name of that length is expected, and the result is `None` if the key doesn't accept the name.
+/// Cuts the first name and the spaces before it off a list. If `is_only` and the key has a text, no equals sign is
+/// searched for, since the key accepts only a name of the text's length. Then the result is `None` if the key doesn't
+/// accept the name.
 #[inline(always)]
 fn cut_name_for<'a, K: ParamKey>(list: &Rest<'a>, is_only: bool, key: &K) -> Option<FirstName<'a>>
     ensures other { result ≡ None → IsTrue is_only × ¬ (K.Accepts key.now (cut_of list.now).name true) }
@@ -253,7 +255,7 @@ fn cut_name_for<'a, K: ParamKey>(list: &Rest<'a>, is_only: bool, key: &K) -> Opt
     })
 }
 
-/// The pairs of a list that are left, each a name and a value.
+/// An iterator over the pairs of a list, each a name and a value.
 #[derive(Drop)]
 pub(crate) struct Pairs<'a> {
     /// The list from the next pair on.
@@ -272,7 +274,7 @@ impl<'a> Model for Pairs<'a> {
 }
 
 impl<'a> Pairs<'a> {
-    /// Returns no pair.
+    /// Returns an iterator over no pairs.
     #[inline(always)]
     pub(crate) fn none() -> Pairs<'a>
         ensures { result ≡ [] }
@@ -283,7 +285,8 @@ impl<'a> Pairs<'a> {
         }
     }
 
-    /// Returns the first `count` pairs after a string's semicolon, or no pair if it has no semicolon.
+    /// Returns an iterator over the first `count` pairs after a string's semicolon, or over no pairs if there is no
+    /// semicolon.
     #[inline(always)]
     pub(crate) fn of_text(text: &'a str, semicolon: Option<usize>, count: usize) -> Pairs<'a>
         requires { IfSome semicolon (λ at. slice_get text.now at ≡ Some semicolon_byte) }
@@ -301,7 +304,7 @@ impl<'a> Pairs<'a> {
         }
     }
 
-    /// Returns `true` if the only pair left is a charset, and the list begins with ` charset=`.
+    /// Returns `true` if only one pair is left, and the list begins with ` charset=`.
     #[inline(always)]
     pub(crate) fn is_lone_charset(&self) -> bool
         ensures { IsTrue result → IsLoneCharset self.now }
@@ -309,8 +312,8 @@ impl<'a> Pairs<'a> {
         self.left == 1 && self.list.text().as_bytes().starts_with(b" charset=")
     }
 
-    /// Returns the value of the first pair whose name a key accepts. If the last name isn't accepted, the end of its value
-    /// isn't searched for.
+    /// Returns the value of the first pair whose name a key accepts, if there is one. If the key doesn't accept the
+    /// last name, the value of that name isn't searched.
     #[inline(always)]
     pub(crate) fn first_accepted<K: ParamKey>(self, key: &K) -> Option<Name<'a>>
         requires { AreLowPairs self }

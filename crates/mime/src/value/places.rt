@@ -6,19 +6,20 @@ ghost use Rattle.mime.specs.Inner.KeptPlaces.{unless_zero, positions_at};
 
 use crate::scan::Positions;
 
-/// The positions of a text's parts, except the end of its essence, and its number of parameters, in one word each.
+/// The positions of a text's slash and plus, and the number of its parameters, a word each.
 #[derive(Clone, Copy)]
 pub(crate) struct Places {
     pub(crate) slash: usize,
     pub(crate) pair_count: usize,
-    /// The plus before the suffix, or 0 if there is none.
-    // It is last, where an error of `from_str` has its byte: LLVM writes a constant there in parts, unless it is 0 beside
-    // others.
+    /// The position of the plus before the suffix, or 0 if there is none.
+    // This field is last, where an error of `from_str` has its byte. LLVM writes a constant there in parts, unless it
+    // is 0 beside other constants.
     pub(crate) plus: usize,
 }
 
 impl Places {
-    /// Returns the positions, a word each, of a text whose essence ends at `end`: at the semicolon after it, or with the text.
+    /// Returns the positions, a word each, of a text whose essence ends at `end`: at the semicolon after it, or at the
+    /// end of the text.
     #[inline(always)]
     pub(crate) fn of(positions: Positions, end: usize) -> Places
         requires plus { positions.plus ≢ Some 0 }
@@ -32,7 +33,7 @@ impl Places {
         }
     }
 
-    /// Returns the position of the plus before the suffix.
+    /// Returns the position of the plus before the suffix, if there is one.
     #[inline(always)]
     pub(crate) fn plus(&self) -> Option<usize>
         ensures { result ≡ unless_zero self.now.plus }
@@ -40,7 +41,7 @@ impl Places {
         (self.plus != 0).then_some(self.plus)
     }
 
-    /// Returns the position of the semicolon after the essence, which ends at `end`.
+    /// Returns the position of the semicolon after the essence, which ends at `end`, or `None` without parameters.
     #[inline(always)]
     pub(crate) fn semicolon(&self, end: usize) -> Option<usize>
         ensures { result ≡ (positions_at self.now end).semicolon }

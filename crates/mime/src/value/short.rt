@@ -12,13 +12,13 @@ use crate::value::kept::{has_capital, lowercase_text};
 use mime_search::difference_from;
 use std::marker::Model;
 
-/// The most bytes that a short text has.
+/// The maximum length of a short text, in bytes.
 pub(crate) const SHORT: usize = 40;
 
 /// The size of the buffer in which a short text is lowercased: a multiple of 16, so that whole vectors are lowercased.
 const PADDED: usize = 48;
 
-/// A text of at most `SHORT` bytes. Zeros follow it.
+/// A text of at most `SHORT` bytes. The bytes after it are zeros.
 #[derive(Drop)]
 pub(crate) struct ShortText {
     len: u32,
@@ -35,7 +35,7 @@ impl Model for ShortText {
     ghost invariant = { λ it. (it.len ≤ 40) × IsUtf8 (take it.len it.bytes) × (drop it.len it.bytes ≡ replicate (40 - it.len) 0) };
 }
 
-/// Returns the bytes of a text, with zeros after it.
+/// Returns the bytes of a text, followed by zeros.
 #[inline(always)]
 fn padded(text: &str) -> [u8; PADDED]
     requires { length text.now ≤ SHORT }
@@ -47,7 +47,7 @@ fn padded(text: &str) -> [u8; PADDED]
     bytes
 }
 
-/// Lowercases what ignores case in a block that begins with a string with `count` pairs.
+/// Lowercases the parts that ignore case of the text at the start of a block. The text has `count` pairs.
 #[inline(always)]
 fn lowercase_pairs(block: &mut [u8; PADDED], text: &str, semicolon: usize, count: usize)
     requires short { length text.now ≤ SHORT }
@@ -68,7 +68,7 @@ impl ShortText {
     pub(crate) fn as_str(&self) -> &str
         ensures { result.now ≡ self.now }
     {
-        // SAFETY: these bytes are UTF-8: the invariant says so.
+        // SAFETY: the invariant says that these bytes are valid UTF-8.
         unsafe { str::from_utf8_unchecked(&self.bytes[..self.len as usize]) }
     }
 
@@ -83,8 +83,8 @@ impl ShortText {
         }
     }
 
-    /// Returns the first position at which two texts differ, or `None` if they are the same. Zeros count after the end of a
-    /// text.
+    /// Returns the first position at which two texts differ, or `None` if they are the same. The zeros after the texts
+    /// are compared, too. If only the lengths differ, returns `SHORT`.
     #[inline(always)]
     pub(crate) fn first_difference(&self, other: &ShortText) -> Option<usize>
         ensures same { result ≡ None → self.now ≡ other.now }
@@ -109,7 +109,7 @@ impl ShortText {
         }
     }
 
-    /// Returns the first `len` bytes as a text.
+    /// Returns the first `len` bytes of a block as a short text.
     #[inline(always)]
     fn of(block: &[u8; PADDED], len: usize) -> ShortText
         requires short { len ≤ SHORT }
@@ -125,7 +125,7 @@ impl ShortText {
         }
     }
 
-    /// Returns a text as it is.
+    /// Returns a string as a short text.
     #[inline(always)]
     pub(crate) fn copied(text: &str) -> ShortText
         requires { length text.now ≤ SHORT }
@@ -139,20 +139,20 @@ impl ShortText {
         }
     }
 
-    /// Returns a text in lowercase.
+    /// Returns a string in lowercase as a short text.
     #[inline(always)]
     fn lowercased(text: &str) -> ShortText
         requires { length text.now ≤ SHORT }
         ensures { result ≡ lowered text.now }
     {
         let mut bytes = padded(text);
-        // All bytes are lowercased at once: zeros stay zeros.
+        // All bytes of the buffer are lowercased at once. Zeros stay zeros.
         bytes.make_ascii_lowercase();
         ShortText::of(&bytes, text.len())
     }
 
-    /// Returns the kept text of an accepted string of at most `SHORT` bytes without a parameter: an empty parameter list is
-    /// dropped.
+    /// Returns the kept text of an accepted string of at most `SHORT` bytes without parameters. An empty parameter list
+    /// is dropped.
     #[inline(always)]
     pub(crate) fn essence(text: &str, positions: Positions) -> ShortText
         requires accepted { HasPositions text.now positions }
@@ -164,8 +164,8 @@ impl ShortText {
         ShortText::lowercased(&text[..end])
     }
 
-    /// Returns the kept text of an accepted string of at most `SHORT` bytes with a parameter: only what ignores case is
-    /// lowercased.
+    /// Returns the kept text of an accepted string of at most `SHORT` bytes with parameters. Only the parts that ignore
+    /// case are lowercased.
     #[inline(always)]
     pub(crate) fn with_pairs(text: &str, positions: Positions) -> ShortText
         requires accepted { HasPositions text.now positions }
@@ -176,7 +176,7 @@ impl ShortText {
         let Some(semicolon) = positions.semicolon else {
             unreachable!()
         };
-        // The block is lowercased where it is made, so that it isn't moved before it is kept.
+        // The block is filled here, not by `padded`, so that it isn't moved before it is lowercased.
         let mut block = [0; PADDED];
         block[..text.len()].copy_from_slice(text.as_bytes());
         lowercase_pairs(&mut block, text, semicolon, positions.pair_count);

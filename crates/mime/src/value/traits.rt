@@ -16,8 +16,8 @@ use std::cmp::Ordering;
 use std::fmt;
 use std::hash::{Hash, Hasher};
 
-/// Returns `true` if two values are equal, part by part. Equal values may be written differently, as `p=x` and `p="x"`. It
-/// isn't inlined: most calls of `eq` end before it.
+/// Returns `true` if two values are equal. It compares their parts, since equal values may be written differently, as
+/// `p=x` and `p="x"`. It isn't inlined: most calls of `eq` return before they call it.
 #[cold]
 #[inline(never)]
 fn same_parts(first: &Mime, second: &Mime) -> bool
@@ -26,8 +26,7 @@ fn same_parts(first: &Mime, second: &Mime) -> bool
     first.essence_str() == second.essence_str() && first.pairs().eq(second.pairs())
 }
 
-/// Returns `true` if two values have the same kept text. Two texts that are in their `Mime` are compared in whole
-/// blocks.
+/// Returns `true` if two values have the same kept text. Two short texts are compared in whole blocks.
 #[inline(always)]
 fn have_same_text(first: &Mime, second: &Mime) -> bool
     ensures same { IsTrue result → Same first.now.media second.now.media }
@@ -43,7 +42,7 @@ fn have_same_text(first: &Mime, second: &Mime) -> bool
     first.as_str() == second.as_str()
 }
 
-/// Returns `true` if two values have the same kept text, and neither has it in its `Mime`.
+/// Returns `true` if two values have the same kept text, and both texts are allocated.
 #[inline(always)]
 fn have_same_owned_text(first: &Mime, second: &Mime) -> bool
     ensures { IsTrue result → Same first.now.media second.now.media }
@@ -57,7 +56,7 @@ fn have_same_owned_text(first: &Mime, second: &Mime) -> bool
     }
 }
 
-/// Compares the parameters of two values. It isn't inlined, like `same_parts`.
+/// Compares the parameters of two values. Like `same_parts`, it isn't inlined.
 #[inline(never)]
 fn order_pairs(first: &Mime, second: &Mime) -> Ordering
     ensures { result ≡ slice_cmp pair_cmp first.now.media.pairs second.now.media.pairs }
@@ -67,12 +66,13 @@ fn order_pairs(first: &Mime, second: &Mime) -> Ordering
     pairs.cmp(others)
 }
 
-/// Compares two values if both kept texts are in their `Mime`, and are the same or first differ in their essences.
+/// Compares two values if both kept texts are short, and are equal or first differ within both essences. Otherwise
+/// returns `None`.
 #[inline(always)]
 fn order_short(first: &Mime, second: &Mime) -> Option<Ordering>
     ensures { IfSome result (λ order. order ≡ media_cmp first.now.media second.now.media) }
 {
-    // Each test of a text's form is such a `match`, so that the compiler sees that a later one asks the same.
+    // Each test of a text's variant is such a `match`, so that the compiler recognizes later tests as the same.
     let text = match &first.text {
         Text::Owned(_) => return None,
         Text::Short(text) => text,
@@ -93,8 +93,8 @@ fn order_short(first: &Mime, second: &Mime) -> Option<Ordering>
     None
 }
 
-/// Two values are equal if their essences are the same and so are their parameters, in the same
-/// order: `a/b; p="x"` and `A/B;P=x` are (RFC 7231, 3.1.1.1). It doesn't allocate.
+/// Two values are equal if they have the same essence, and the same parameters in the same order, as `a/b; p="x"` and
+/// `A/B;P=x` have (RFC 7231, 3.1.1.1). Comparing doesn't allocate.
 impl PartialEq for Mime {
     ghost eq = { on (λ mime. mime.media) (eq_by_cmp media_cmp) };
 
@@ -105,7 +105,8 @@ impl PartialEq for Mime {
         ensures computed { result ≡ eq_by_cmp media_cmp self.now.media other.now.media }
         ensures same { IsTrue result ↔ Same self.now.media other.now.media }
     {
-        // Lists of different lengths differ, and so do essences of different lengths. To find this, the texts aren't read.
+        // Values with different numbers of parameters differ, and so do essences of different lengths. Neither test
+        // reads the texts.
         if self.param_count() != other.param_count() {
             return false;
         }
@@ -116,7 +117,7 @@ impl PartialEq for Mime {
         if have_same_text(self, other) {
             return true;
         }
-        // Without parameters the kept text is the essence, and the essences differ.
+        // Without parameters, the kept text is the essence, so the essences differ.
         if self.param_count() == 0 {
             return false;
         }
@@ -140,8 +141,8 @@ impl PartialOrd for Mime {
 }
 
 /// Values are ordered by the bytes of their essences, and then by their parameters, pair by pair, each by its name and
-/// then its value; a list that is a prefix of another is before it: `a/b`, `a/b;p=1`, `a/b;p=2`, `a/c`. It doesn't
-/// allocate.
+/// then its value. A list is before a longer one that begins with it. For example, `a/b`, `a/b;p=1`, `a/b;p=2` and
+/// `a/c` are in order. Comparing doesn't allocate.
 impl Ord for Mime {
     ghost cmp = { on (λ mime. mime.media) media_cmp };
 
@@ -175,9 +176,9 @@ impl Ord for Mime {
     }
 }
 
-/// Feeds a hasher the parameters and the essence. Equal values feed it the same bytes: `a/b; p="x"` and `A/B;P=x`. What
-/// a value feeds is never a prefix of what an unequal one feeds, so a map keyed by `(Mime, String)` hashes as well as
-/// one keyed by `Mime`. Which bytes are fed may change between versions. It doesn't allocate.
+/// Feeds the parameters and the essence to a hasher. Equal values, such as `a/b; p="x"` and `A/B;P=x`, feed the same
+/// bytes. The bytes of a value are never a prefix of the bytes of an unequal value, so a map keyed by `(Mime, String)`
+/// hashes as well as one keyed by `Mime`. The bytes may change between versions. Hashing doesn't allocate.
 impl Hash for Mime {
     ghost hash_input = { λ mime. media_input mime.media };
 
@@ -191,8 +192,8 @@ impl Hash for Mime {
     }
 }
 
-/// Returns a copy with the same kept text. It allocates at most once, and its error says that memory ran out. Cloning a
-/// constant, `*/*`, or a value that was read or made from at most 40 bytes doesn't allocate.
+/// Returns a copy with the same kept text. It allocates at most once, and returns `AllocError` if memory runs out.
+/// Cloning a constant, `*/*`, or a value that was read or made from at most 40 bytes doesn't allocate.
 impl Clone for Mime {
     ghost is_clone = { λ mime copy. copy ≡ mime };
 
@@ -211,7 +212,8 @@ impl Clone for Mime {
     }
 }
 
-/// Prints the kept text, padded to the width, if one is given: `Text/Plain;` prints `text/plain`.
+/// Prints the kept text, padded to the width, if one is given: a media type read from `Text/Plain;` prints
+/// `text/plain`.
 impl fmt::Display for Mime {
     ghost output = { λ mime. Some mime.media.kept };
 
@@ -222,7 +224,8 @@ impl fmt::Display for Mime {
     }
 }
 
-/// Prints the kept text in quotes, with escapes, as a `str` does: `a/b;p="x"` prints `"a/b;p=\"x\""`.
+/// Prints the kept text in quotes, with escapes, as a `str` does: a media type read from `a/b;p="x"` prints
+/// `"a/b;p=\"x\""`.
 impl fmt::Debug for Mime {
     ghost debug_output = { λ mime. debug_str mime.media.kept };
 
