@@ -105,10 +105,10 @@ impl Mime {
     ///
     /// # Errors
     /// Returns the fault of a string that isn't a media type. If something is missing at its end, this is
-    /// `MissingSlash`, `MissingSubtype`, `MissingEqual`, `MissingValue` or `MissingQuote`, as `MissingEqual` for
-    /// `a/b;p`. Otherwise it is `InvalidToken` with the first byte that no media type could have there, and its
-    /// position in bytes from 0, as 5 for `text/;`. Rejecting a string doesn't allocate. Returns
-    /// [`ParseError::NoMemory`] if memory runs out, which can happen only for a media type of more than 40 bytes.
+    /// `MissingSlash`, `MissingSubtype`, `MissingEqual`, `MissingValue` or `MissingQuote`: it is `MissingEqual` for
+    /// `a/b;p`. Otherwise it is `InvalidToken`, with the first byte that no media type could have there, and its
+    /// position in bytes from 0: 5 for `text/;`. Rejecting a string doesn't allocate. Returns [`ParseError::NoMemory`]
+    /// if memory runs out, which can happen only for a media type of more than 40 bytes.
     pub fn from_str(alloc: Global, s: &str) -> Result<Mime, FromStrError>
         // The result is the value of the string.
         ensures read { IfOk result (λ mime. Reads s.now mime.media) }

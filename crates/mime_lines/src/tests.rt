@@ -198,8 +198,8 @@ fn written<'a>(case: &Case<'a>, scenario: &Scenario, at: usize) -> &'a [u8] {
 }
 
 /// Checks a run of a scenario. If its answer is `Read` or `Write`, the read or the written byte with the number `at`
-/// fails. The run must return the answer, and its writer must accept all its bytes. Only the device that the answer
-/// names may fail, and no call may follow the failure.
+/// fails, or a flush if the scenario allows none. The run must return the answer, and its writer must accept all its
+/// bytes. Only the device that the answer names may fail, and no call may follow the failure.
 fn check(
     rt: &impl Abort,
     alloc: Global,

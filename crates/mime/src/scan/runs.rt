@@ -11,7 +11,7 @@ pub(crate) static TOKEN_STOPS: Class = Class {
     inside: false,
 };
 
-/// All bytes except the ASCII bytes of quoted text other than the tab.
+/// The tab, and all bytes except the ASCII bytes of quoted text.
 pub(crate) static QUOTED_TEXT_STOPS: Class = Class {
     fold: 0,
     folded: Range(b'#', b'['),
