@@ -1,4 +1,4 @@
-//! A description of an `Accept` header, a line for each range.
+//! Describes an `Accept` header, in a line for each range.
 
 use mime_http::{Accept, weight_of};
 use std::alloc::{AllocError, Global};
@@ -7,7 +7,7 @@ use std::fmt::Write;
 /// Returns the ranges of an `Accept` header with their weights in thousandths, and the number of bad entries, for a log.
 ///
 /// # Errors
-/// `AllocError` if memory runs out.
+/// Returns `AllocError` if memory runs out.
 pub fn explained(alloc: Global, lines: &[&[u8]]) -> Result<String, AllocError> {
     let accept = Accept::from_lines(alloc, lines)?;
     let mut said = String::new(alloc);

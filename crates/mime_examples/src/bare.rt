@@ -7,10 +7,10 @@ use mime::laws::{essence_is_read, one_reading};
 use mime::{FromStrError, Mime, ParseError};
 use std::alloc::Global;
 
-/// Returns the same media type without its parameters.
+/// Returns a media type without its parameters.
 ///
 /// # Errors
-/// `FromStrError` says that memory ran out.
+/// Returns a `FromStrError` with the fault `NoMemory` if memory runs out.
 pub fn bare_of(alloc: Global, mime: &Mime) -> Result<Mime, FromStrError>
     ensures value { IfOk result (λ bare. bare.media ≡ without_parameters mime.now.media) }
     ensures memory { IfErr result (λ error. error ≡ ParseError.NoMemory) }

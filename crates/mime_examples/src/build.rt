@@ -1,4 +1,4 @@
-//! A media type from its parts.
+//! Makes a media type from a name.
 
 ghost use Rattle.std.specs.Prelude.{◌++◌, IfOk, IfSome, codes};
 ghost use Rattle.mime.specs.Values.{Reads};
@@ -6,11 +6,11 @@ ghost use Rattle.mime.specs.Values.{Reads};
 use mime::{Mime, ParseError};
 use std::alloc::{AllocError, Global};
 
-/// Returns the media type of a kind of document in JSON: `application/vnd.cart+json` for `cart`. Returns `None` if the name isn't part
-/// of a token, as `a/b`, or would add a parameter, as `a; q=1` would.
+/// Returns the media type of a kind of document in JSON: `application/vnd.cart+json` for `cart`. Returns `None` if the name can't be part
+/// of a token, such as `a/b`, or would add a parameter, such as `a; q=1`.
 ///
 /// # Errors
-/// `AllocError` if memory runs out.
+/// Returns `AllocError` if memory runs out.
 pub fn vendor_json(alloc: Global, name: &str) -> Result<Option<Mime>, AllocError>
     ensures { IfOk result (λ answer. IfSome answer (λ mime. Reads (codes "application/vnd." ++ (name.now ++ codes "+json")) mime.media)) }
 {

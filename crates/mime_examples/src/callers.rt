@@ -10,10 +10,10 @@ use mime::laws::one_reading;
 use mime::{FromStrError, Mime};
 use std::alloc::Global;
 
-/// Returns `true` if a content type has a suffix, as `image/svg+xml` has.
+/// Returns `true` if the media type of a text has a suffix, as `image/svg+xml` has.
 ///
 /// # Errors
-/// `FromStrError` has the text's one fault, or says that memory ran out, here and below.
+/// Returns a `FromStrError` with the text's one fault, or with `NoMemory` if memory runs out. The functions below return the same errors.
 pub fn has_suffix(alloc: Global, text: &str) -> Result<bool, FromStrError>
     ensures explained { IfErr result (λ error. Explains text.now error) }
     ensures told { IfOk result (λ yes. (value : MediaType) × Reads text.now value × (yes ≡ is_some (suffix_of value))) }
@@ -22,7 +22,7 @@ pub fn has_suffix(alloc: Global, text: &str) -> Result<bool, FromStrError>
     Ok(mime.suffix().is_some())
 }
 
-/// Returns `true` if a media type has a parameter of this name, in any case.
+/// Returns `true` if a media type has a parameter of this name, ignoring ASCII case.
 pub fn has_param(mime: &Mime, name: &str) -> bool
     ensures { (found : Option (List ℕ × Bool))
         × IsFirstAccepted (λ n flag. NameIs n flag name.now) (items_of mime.now.media.pairs) found
@@ -31,7 +31,7 @@ pub fn has_param(mime: &Mime, name: &str) -> bool
     mime.get_param(name).is_some()
 }
 
-/// Reads a text. What is printed of it is read as the same media type.
+/// Reads a text as a media type. The text that is printed for it is read as the same media type.
 pub fn printed(alloc: Global, text: &str) -> Result<Mime, FromStrError>
     ensures explained { IfErr result (λ error. Explains text.now error) }
     ensures same { IfOk result (λ mime. Reads text.now mime.media × Reads mime.media.kept mime.media) }
@@ -41,7 +41,7 @@ pub fn printed(alloc: Global, text: &str) -> Result<Mime, FromStrError>
     Ok(mime)
 }
 
-/// Returns `true` if a text that is read twice is read as equal media types: it is, since it has one reading.
+/// Reads a text twice, and returns whether the media types are equal. They always are, since a text is read as only one media type.
 pub fn reads_alike(alloc: Global, text: &str) -> Result<bool, FromStrError>
     ensures { IfOk result (λ same. same ≡ true) }
 {

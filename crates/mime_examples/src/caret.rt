@@ -7,7 +7,7 @@ use std::alloc::{AllocError, Global};
 /// or memory ran out.
 ///
 /// # Errors
-/// `AllocError` if memory runs out.
+/// Returns `AllocError` if memory runs out.
 pub fn caret_line(alloc: Global, text: &str, error: &FromStrError) -> Result<String, AllocError> {
     let mut line = String::new(alloc);
     for (at, _) in text.char_indices() {

@@ -1,4 +1,4 @@
-//! Is the charset UTF-8?
+//! Tests for the charset UTF-8.
 
 use mime::{CHARSET, Mime, name_eq_str};
 

@@ -19,7 +19,7 @@ pub type Counts = HashMap<Mime, u64, RandomState>;
 /// Returns empty counts.
 ///
 /// # Errors
-/// An error of the system's source of random bytes.
+/// Returns the error of the system's source of random bytes, if that fails.
 pub fn no_counts(rt: &HostRuntime) -> io::Result<Counts> {
     let keys = RandomState::new(rt)?;
     Ok(HashMap::with_hasher(rt.alloc(), keys))
@@ -28,7 +28,7 @@ pub fn no_counts(rt: &HostRuntime) -> io::Result<Counts> {
 /// Counts a media type. `TEXT/HTML;Charset="UTF-8"` counts as `text/html; charset=utf-8`.
 ///
 /// # Errors
-/// `AllocError` if memory runs out.
+/// Returns `AllocError` if memory runs out.
 pub fn count(counts: &mut Counts, mime: Mime) -> Result<(), AllocError>
     ensures { OnOk result (Updates ⟦<Mime as PartialEq>⟧.eq counts.old counts.new mime
         (Some (min (unwrap_or (get ⟦<Mime as PartialEq>⟧.eq counts.old mime) 0 + 1) u64.MAX))) }
@@ -41,7 +41,7 @@ pub fn count(counts: &mut Counts, mime: Mime) -> Result<(), AllocError>
 /// Returns the media types with their counts, in the order of media types.
 ///
 /// # Errors
-/// `AllocError` if memory runs out.
+/// Returns `AllocError` if memory runs out.
 pub fn sorted(alloc: Global, counts: Counts) -> Result<Vec<(Mime, u64)>, AllocError>
     ensures all { IfOk result (λ rows. IsPermutation counts.entries (vec_items rows)) }
     ensures ordered { IfOk result (λ rows. IsSorted (λ row other. ordering_then (⟦<Mime as Ord>⟧.cmp row.0 other.0) (nat_cmp row.1 other.1))

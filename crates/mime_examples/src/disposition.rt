@@ -1,4 +1,4 @@
-//! The field name and the file name of a form's part.
+//! Reads the field name and the file name of a form's part.
 
 ghost use Rattle.std.specs.Prelude.{ℕ, List, Option, IfOk, MatchOption, option_map};
 ghost use Rattle.std.specs.Vec.{vec_items};
@@ -18,7 +18,7 @@ pub struct Disposition {
     pub file_name: Option<Vec<u8>>,
 }
 
-/// Returns what the first parameter of a name means, if there is one.
+/// Returns the bytes that the value of the first parameter of this name means, if there is one.
 fn meaning(alloc: Global, mime: &Mime, name: &str) -> Result<Option<Vec<u8>>, AllocError>
     ensures { IfOk result (λ answer. FirstMeans mime.now.media.pairs name.now (option_map vec_items answer)) }
 {
@@ -30,21 +30,20 @@ fn meaning(alloc: Global, mime: &Mime, name: &str) -> Result<Option<Vec<u8>>, Al
     Ok(Some(meaning))
 }
 
-/// Reads the value of a `Content-Disposition` of a part of `multipart/form-data` (RFC 7578, 4.2), without white space before it:
-/// `form-data; name="field"; filename="a \"b\".txt"` names the field `field` and the file `a "b".txt`. Returns `None` exactly if
-/// it isn't `form-data` with a `name` and with parameters that HTTP allows, in UTF-8. Of two parameters with one name the first
-/// counts.
+/// Reads the value of a `Content-Disposition` of a part of `multipart/form-data` (RFC 7578, 4.2), which must have no white space before it:
+/// `form-data; name="field"; filename="a \"b\".txt"` names the field `field` and the file `a "b".txt`. Returns `None` exactly if the value
+/// isn't `form-data` with a `name` and with parameters that HTTP allows, in UTF-8. Of two parameters of the same name, the first counts.
 ///
-/// Many clients write `%22` for a quote, which isn't decoded. A parameter `filename*` isn't read.
+/// Many clients write `%22` for a quote. It isn't decoded. A parameter `filename*` isn't read.
 ///
 /// # Errors
-/// `AllocError` if memory runs out.
+/// Returns `AllocError` if memory runs out.
 pub fn read_disposition(alloc: Global, value: &[u8]) -> Result<Option<Disposition>, AllocError>
     ensures { IfOk result (λ answer. MatchOption answer
         ((name : List ℕ) (file_name : Option (List ℕ)) → ¬ (IsDisposition value.now name file_name))
         (λ found. IsDisposition value.now (vec_items found.name) (option_map vec_items found.file_name))) }
 {
-    // After `x/` a disposition with its parameters is a media type.
+    // With `x/` before it, a disposition with its parameters is a media type.
     let mut text = b"x/".to_vec(alloc)?;
     text.extend_from_slice(value)?;
     let mime = match content_type(alloc, &text) {

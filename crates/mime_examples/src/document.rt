@@ -10,7 +10,7 @@ use std::alloc::Global;
 /// A body and its media type.
 #[derive(Drop)]
 pub struct Document<'a> {
-    /// The media type of its `Content-Type`.
+    /// The media type of the body's `Content-Type`.
     pub mime: Mime,
     /// The body as it was sent.
     pub body: &'a [u8],
@@ -19,7 +19,7 @@ pub struct Document<'a> {
 /// Returns a body with the media type of its `Content-Type`.
 ///
 /// # Errors
-/// Those of [`content_type`].
+/// Returns the errors of [`content_type`].
 pub fn received<'a>(alloc: Global, value: &[u8], body: &'a [u8]) -> Result<Document<'a>, FieldError>
     ensures { IfOk result (λ document. HttpReads value.now document.mime.media × (document.body.now ≡ body.now)) }
 {

@@ -1,4 +1,4 @@
-//! A file's name as a parameter: written, and read back.
+//! Writes a file's name as a parameter, and reads it back.
 
 ghost use Rattle.std.specs.Prelude.{◌≡◌, ◌↔◌, ℕ, List, Bool, Some, IsTrue, is_some, IfOk, IfSome, codes};
 ghost use Rattle.mime.specs.HeaderLaws.{AreHeaderBytes};
@@ -13,11 +13,11 @@ use mime_http::laws::written_is_meant;
 use mime_http::{unescape, with_parameter};
 use std::alloc::{AllocError, Global};
 
-/// Returns the media type with a file's name in place of its own, or `None` exactly if the name has a control character other
+/// Returns the media type with a file's name as its parameter `name`, or `None` exactly if the file's name has a control character other
 /// than the tab. `image/png` with the name `a "b".png` is `image/png; name="a \"b\".png"`.
 ///
 /// # Errors
-/// `AllocError` if memory runs out, here and below.
+/// Returns `AllocError` if memory runs out, as do the functions below.
 pub fn with_file_name(alloc: Global, mime: &Mime, name: &str) -> Result<Option<Mime>, AllocError>
     ensures exact { IfOk result (λ answer. IsTrue (is_some answer) ↔ AreHeaderBytes name.now) }
     ensures made { IfOk result (λ answer. IfSome answer (λ named. named.media ≡ with_pair mime.now.media (codes "name") (escaped name.now))) }
@@ -25,7 +25,7 @@ pub fn with_file_name(alloc: Global, mime: &Mime, name: &str) -> Result<Option<M
     with_parameter(alloc, mime, "name", name)
 }
 
-/// Returns the file name of a media type, without quotes and backslashes: `a "b".png`.
+/// Returns the file name that the parameter `name` of a media type means, such as `a "b".png`, or `None` if there is none.
 pub fn file_name(alloc: Global, mime: &Mime) -> Result<Option<Vec<u8>>, AllocError>
     ensures { IfOk result (λ answer. IfSome answer (λ name. (value : List ℕ) × (flag : Bool)
         × IsFirstAccepted (λ name flag. NameIs name flag (codes "name")) (items_of mime.now.media.pairs) (Some (value, flag))
@@ -39,7 +39,7 @@ pub fn file_name(alloc: Global, mime: &Mime) -> Result<Option<Vec<u8>>, AllocErr
     Ok(Some(name))
 }
 
-/// Writes a file's name and returns the name that is then read, which is the same.
+/// Writes a file's name, reads it back and returns it. It is the same name.
 pub fn written_and_read(
     alloc: Global,
     mime: &Mime,

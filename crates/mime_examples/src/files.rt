@@ -1,4 +1,4 @@
-//! A file's media type by the ending of its name.
+//! Finds a file's media type by the extension of its name.
 
 ghost use Rattle.std.specs.Prelude.{◌≡◌, ◌≢◌, ℕ, List, None, IfSome, Contains, map};
 ghost use Rattle.mime.specs.Values.{lowered};
@@ -6,8 +6,8 @@ ghost use Rattle.mime.specs.Values.{lowered};
 /// The media type of any other file (RFC 2046, 4.5.1).
 const OTHER: &str = "application/octet-stream";
 
-/// The media types of files by their endings, in lowercase: those of the constants, and those of Debian's package media-types that
-/// servers send most. Some clients read a text without a charset in the wrong one, so texts have the charset UTF-8.
+/// The media types of files by their extensions, which are in lowercase: those of the constants, and those of Debian's package media-types
+/// that servers send most. Some clients read a text without a charset in a wrong charset, so texts have the charset UTF-8.
 static TYPES: [(&str, &str); 95] = [
     ("7z", "application/x-7z-compressed"),
     ("aac", "audio/aac"),
@@ -115,7 +115,7 @@ static TYPES: [(&str, &str); 95] = [
     ("zst", "application/zstd"),
 ];
 
-/// Returns the media type of a row with this ending, ignoring ASCII case.
+/// Returns the media type of the first row with this extension, ignoring ASCII case, or `None` if there is no such row.
 pub fn type_of_ending(table: &[(&'static str, &'static str)], ending: &str) -> Option<&'static str>
     ensures found { IfSome result (λ type. (known : List ℕ)
         × Contains {X = List ℕ × List ℕ} (map (λ row. (row.0.now, row.1.now)) table.now) (known, type.now)
@@ -132,8 +132,8 @@ pub fn type_of_ending(table: &[(&'static str, &'static str)], ending: &str) -> O
     None
 }
 
-/// Returns the media type of a file by what follows the last dot of its name, in any case; `application/octet-stream` if the table
-/// doesn't have it, or there is no dot.
+/// Returns the media type of a file by its extension after the last dot of its name, ignoring ASCII case. Returns
+/// `application/octet-stream` if the table doesn't have the extension, or there is no dot.
 pub fn type_of_file(name: &str) -> &'static str {
     match name.rsplit_once('.') {
         Some((_, ending)) => type_of_ending(&TYPES, ending).unwrap_or(OTHER),

@@ -1,18 +1,18 @@
-//! A handler chosen by constants.
+//! Chooses a handler by constants.
 
 ghost use Rattle.std.specs.Prelude.{◌≡◌, ◌↔◌, codes, None};
 ghost use Rattle.mime.specs.Values.{type_of, subtype_of, suffix_of};
 
 use mime::{APPLICATION, JSON, Mime, WWW_FORM_URLENCODED};
 
-/// What a server does with a body.
+/// The way in which a server handles a body.
 #[derive(Clone, Copy, PartialEq, Eq, Debug)]
 pub enum Handler {
-    /// It reads the body as JSON.
+    /// Reads the body as JSON.
     Json,
-    /// It reads the body as the fields of a form.
+    /// Reads the body as the fields of a form.
     Form,
-    /// It rejects the body.
+    /// Rejects the body.
     Refuse,
 }
 

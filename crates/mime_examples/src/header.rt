@@ -1,4 +1,4 @@
-//! A media type as the value of a header.
+//! Returns a media type as the value of a header.
 
 ghost use Rattle.std.specs.Prelude.{◌≡◌};
 ghost use Rattle.mime.specs.HeaderLaws.{AreHeaderBytes};

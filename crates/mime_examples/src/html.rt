@@ -1,4 +1,4 @@
-//! Does a client accept HTML?
+//! Tests whether a client accepts HTML.
 
 ghost use Rattle.std.specs.Prelude.{◌↔◌, ◌<◌, IsTrue, IfOk, map, codes};
 ghost use Rattle.mime.specs.Values.{MediaType, Reads};
@@ -9,11 +9,11 @@ use mime::TEXT_HTML;
 use mime_http::Accept;
 use std::alloc::{AllocError, Global};
 
-/// Returns `true` if the lines of an `Accept` header give HTML a weight above 0 (RFC 9110, 12.5.1): `text/*;q=0.3` does, and
-/// `text/html ; q=0, */*` doesn't.
+/// Returns `true` if HTML weighs more than 0 by the lines of an `Accept` header (RFC 9110, 12.5.1), as by `text/*;q=0.3`, but not by
+/// `text/html ; q=0, */*`.
 ///
 /// # Errors
-/// `AllocError` if memory runs out.
+/// Returns `AllocError` if memory runs out.
 pub fn accepts_html(alloc: Global, lines: &[&[u8]]) -> Result<bool, AllocError>
     ensures { IfOk result (λ accepts. (header : Header) × IsHeader (map (λ line. line.now) lines.now) header
         × (html : MediaType) × Reads (codes "text/html") html × (IsTrue accepts ↔ (0 < given_weight header.ranges html))) }

@@ -6,7 +6,7 @@ ghost use Rattle.mime.specs.Items.{items_of, IsFirstAccepted};
 
 use mime::{Mime, Name, ParamKey, name_eq_str};
 
-/// The key that accepts either of two names, in any case.
+/// A key that accepts either of two names, ignoring ASCII case.
 #[derive(Clone, Copy)]
 pub struct EitherKey<'k>(pub &'k str, pub &'k str);
 

@@ -1,4 +1,4 @@
-//! Solutions to common tasks, a module each, which docs/RECIPES.md lists. README.md and CALLING.md quote some of them whole.
+//! Solutions to common tasks, each in its own module. docs/RECIPES.md lists them. README.md and CALLING.md quote some of them whole.
 //! crates/mime_tests tests them.
 #![tactic(auto)]
 

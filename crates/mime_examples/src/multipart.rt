@@ -14,18 +14,17 @@ use std::alloc::{AllocError, Global};
 /// The parts of a body.
 #[derive(Drop)]
 pub struct Body<'a> {
-    /// Each part: its own header, an empty line, and its content.
+    /// The parts, each with its own header, an empty line, and its content.
     pub parts: Vec<&'a [u8]>,
-    /// Whether a delimiter closes the body. If not, the body was cut off, and what follows the last delimiter isn't a
-    /// part.
+    /// Whether a delimiter closes the body. If not, the body was cut off, and the bytes after the last delimiter aren't a part.
     pub is_whole: bool,
 }
 
-/// Returns the delimiter before each part of a body, at the start of a line: two hyphens and the boundary (RFC 2046, 5.1.1).
-/// Returns `None` exactly if the type isn't `multipart`, or has no boundary.
+/// Returns the delimiter with which the line before each part of a body begins: two hyphens and the boundary (RFC 2046, 5.1.1). Returns
+/// `None` exactly if the type isn't `multipart`, or the media type has no boundary.
 ///
 /// # Errors
-/// `AllocError` if memory runs out, here and below.
+/// Returns `AllocError` if memory runs out, as do the functions below.
 pub fn delimiter(alloc: Global, mime: &Mime) -> Result<Option<Vec<u8>>, AllocError>
     ensures { IfOk result (λ answer. MatchOption answer ((boundary : List ℕ) → ¬ (IsBoundaryOf mime.now.media boundary))
         (λ delimiter. (boundary : List ℕ) × IsBoundaryOf mime.now.media boundary × (vec_items delimiter ≡ codes "--" ++ boundary))) }
@@ -38,7 +37,7 @@ pub fn delimiter(alloc: Global, mime: &Mime) -> Result<Option<Vec<u8>>, AllocErr
     Ok(Some(delimiter))
 }
 
-/// Returns what follows the delimiter, if a line begins with it at this position.
+/// Returns the rest of a body after the delimiter, if a line begins at position `at` with the delimiter.
 fn after_delimiter<'a>(body: &'a [u8], at: usize, delimiter: &[u8]) -> Option<&'a [u8]>
     requires { at ≤ length body.now }
     ensures { MatchOption result ((after : List ℕ) → EndsLine (take at body.now) → drop at body.now ≢ delimiter.now ++ after)
@@ -50,7 +49,8 @@ fn after_delimiter<'a>(body: &'a [u8], at: usize, delimiter: &[u8]) -> Option<&'
     body[at..].strip_prefix(delimiter)
 }
 
-/// Cuts a body at the first line that begins with the delimiter: returns what precedes it, and what follows it.
+/// Cuts a body at the first line that begins with the delimiter. Returns the bytes before the delimiter and those after it, or `None` if
+/// there is no such line.
 pub fn cut<'a>(body: &'a [u8], delimiter: &[u8]) -> Option<(&'a [u8], &'a [u8])>
     ensures cut { IfSome result (λ halves. IsCut delimiter.now body.now halves.0.now halves.1.now) }
     ensures none { result ≡ None → delimiter.now ≢ [] → HasNoDelimiter delimiter.now body.now }
@@ -63,7 +63,7 @@ pub fn cut<'a>(body: &'a [u8], delimiter: &[u8]) -> Option<(&'a [u8], &'a [u8])>
     None
 }
 
-/// Returns the first line, without its line feed, and what follows it, or `None` if there is no line feed.
+/// Returns the first line, without its line feed, and the rest of the text, or `None` if there is no line feed.
 fn split_line(text: &[u8]) -> Option<(&[u8], &[u8])>
     ensures { MatchOption result (IsLine text.now) (λ halves. IsLine halves.0.now × (text.now ≡ halves.0.now ++ (10 ∷ halves.1.now))) }
 {
@@ -75,7 +75,7 @@ fn split_line(text: &[u8]) -> Option<(&[u8], &[u8])>
     None
 }
 
-/// Returns the part before a delimiter: without the end of its last line, which belongs to the delimiter.
+/// Returns the part before a delimiter, without the line ending at its end, which belongs to the delimiter.
 fn without_end(before: &[u8]) -> &[u8]
     ensures { EndsLine before.now → IsPart before.now result.now }
 {
@@ -85,8 +85,8 @@ fn without_end(before: &[u8]) -> &[u8]
     }
 }
 
-/// Returns the part that these bytes begin with, up to the next delimiter, and what follows that. A delimiter precedes
-/// these bytes.
+/// Returns the next part and the bytes after the delimiter that ends it. `left` begins after the delimiter before the part. Returns `None`
+/// if that delimiter closes the body, or the body is cut off.
 fn next_part<'a>(left: &'a [u8], delimiter: &[u8]) -> Option<(&'a [u8], &'a [u8])>
     requires { delimiter.now ≢ [] }
     ensures part { IfSome result (λ halves. IsNextPart delimiter.now left.now halves.0.now halves.1.now) }
@@ -130,9 +130,8 @@ fn parts_between<'a>(
     })
 }
 
-/// Returns the parts of a body, which are between lines that begin with the delimiter. The last such line is one that continues
-/// with two hyphens, if there is one. Returns `None` exactly if the media type has no boundary. Parts aren't examined, and may have
-/// no header.
+/// Returns the parts of a body, which are between lines that begin with the delimiter. A line that continues with two hyphens is the last
+/// of these. Returns `None` exactly if the media type has no boundary. Parts aren't examined, and may have no header.
 pub fn parts<'a>(alloc: Global, mime: &Mime, body: &'a [u8]) -> Result<Option<Body<'a>>, AllocError>
     ensures { IfOk result (λ answer. MatchOption answer ((boundary : List ℕ) → ¬ (IsBoundaryOf mime.now.media boundary))
         (λ found. (boundary : List ℕ) × IsBoundaryOf mime.now.media boundary
@@ -145,7 +144,7 @@ pub fn parts<'a>(alloc: Global, mime: &Mime, body: &'a [u8]) -> Result<Option<Bo
     Ok(Some(found))
 }
 
-/// Returns the value of a line that is a field of this name, if it is one.
+/// Returns the value in a line, if the line is a field of this name.
 fn value_in<'a>(line: &'a [u8], name: &str) -> Option<&'a [u8]>
     ensures { MatchOption result ((value : List ℕ) → ¬ (IsField name.now line.now value)) (λ value. IsField name.now line.now value.now) }
 {
@@ -183,8 +182,8 @@ fn value_of<'a>(part: &'a [u8], name: &str) -> Option<&'a [u8]>
     None
 }
 
-/// Returns the names of the field and of the file in a part's first `Content-Disposition`. Returns `None` exactly if there is none, or
-/// it names no field. The second line of a value isn't read (RFC 5322, 2.2.3).
+/// Returns the names of the field and of the file in a part's first `Content-Disposition`. Returns `None` exactly if there is no
+/// `Content-Disposition`, or [`read_disposition`] returns `None`. Only the first line of a value is read (RFC 5322, 2.2.3).
 pub fn disposition_of(alloc: Global, part: &[u8]) -> Result<Option<Disposition>, AllocError>
     ensures { IfOk result (λ answer. (first : Option (List ℕ)) × IsFirstField (codes "content-disposition") part.now first
         × MatchOption answer ((value name : List ℕ) (file_name : Option (List ℕ)) → first ≡ Some value → ¬ (IsDisposition value name file_name))
@@ -197,14 +196,14 @@ pub fn disposition_of(alloc: Global, part: &[u8]) -> Result<Option<Disposition>,
     }
 }
 
-/// Returns `true` if bytes can be the boundary of a part: if they are a boundary, and the part doesn't contain them.
+/// Returns `true` if bytes can be the boundary of a part: they are a boundary, and the part doesn't contain them.
 pub fn may_delimit(bytes: &[u8], part: &[u8]) -> bool
     ensures { IsTrue result ↔ IsBoundary bytes.now × ((before after : List ℕ) → part.now ≢ before ++ (bytes.now ++ after)) }
 {
     is_boundary(bytes) && !stand_in(bytes, part)
 }
 
-/// Returns `true` if a part contains these bytes, of which there is at least one.
+/// Returns `true` if a part contains these bytes. `bytes` must not be empty.
 fn stand_in(bytes: &[u8], part: &[u8]) -> bool
     ensures stand { IsTrue result → (before after : List ℕ) × (part.now ≡ before ++ (bytes.now ++ after)) }
     ensures none { result ≡ false → bytes.now ≢ [] → (before after : List ℕ) → part.now ≢ before ++ (bytes.now ++ after) }

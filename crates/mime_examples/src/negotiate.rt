@@ -1,4 +1,4 @@
-//! The offer that a server sends.
+//! Chooses the offer that a server sends.
 
 ghost use Rattle.std.specs.Prelude.{◌≡◌, ◌⊎◌, ℕ, Err, Some, None, IfOk, IfErr, map, slice_get};
 ghost use Rattle.mime_http.specs.HttpList.{Header, IsHeader};
@@ -8,12 +8,12 @@ use mime::Mime;
 use mime_http::Accept;
 use std::alloc::Global;
 
-/// Returns the best of what a server offers for the lines of a request's `Accept` header. The range
-/// `application/json; charset=utf-8` doesn't cover `application/json`, so offer that with the charset, too. Send `Vary: Accept` with
-/// the offer, or with 406, since caches need it (RFC 9110, 12.5.5).
+/// Returns the best of a server's offers for the lines of a request's `Accept` header. The range `application/json; charset=utf-8` doesn't
+/// cover `application/json`, so also offer JSON with the charset. Send `Vary: Accept` with the offer, or with 406, since caches need it
+/// (RFC 9110, 12.5.5).
 ///
 /// # Errors
-/// The status to return: 406 if the client accepts none (RFC 9110, 15.5.7), 503 if memory ran out (15.6.4).
+/// Returns the status of the reply: 406 if the client accepts no offer (RFC 9110, 15.5.7), or 503 if memory ran out (15.6.4).
 pub fn chosen<'o>(alloc: Global, lines: &[&[u8]], offers: &'o [Mime]) -> Result<&'o Mime, u16>
     ensures best { IfOk result (λ offer. (header : Header) × IsHeader (map (λ line. line.now) lines.now) header
         × (at : ℕ) × (best_offer header.ranges (map (λ offer. offer.media) offers.now) ≡ Some at) × (slice_get offers.now at ≡ Some offer.now)) }

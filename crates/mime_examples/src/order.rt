@@ -1,4 +1,4 @@
-//! All offers that a client accepts, the best first.
+//! Returns all offers that a client accepts, the best first.
 
 ghost use Rattle.std.specs.Prelude.{IfOk, map};
 ghost use Rattle.std.specs.Vec.{vec_items};
@@ -13,7 +13,7 @@ use std::alloc::{AllocError, Global};
 /// produced, try the next.
 ///
 /// # Errors
-/// `AllocError` if memory runs out.
+/// Returns `AllocError` if memory runs out.
 pub fn in_order(alloc: Global, lines: &[&[u8]], offers: &[Mime]) -> Result<Vec<usize>, AllocError>
     ensures { IfOk result (λ order. (header : Header) × IsHeader (map (λ line. line.now) lines.now) header
         × AreInOrder header.ranges (map (λ offer. offer.media) offers.now) (vec_items order)) }

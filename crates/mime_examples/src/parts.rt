@@ -1,13 +1,13 @@
-//! The parts of a media type, a line each.
+//! Describes the parts of a media type.
 
 use mime::Mime;
 use std::alloc::{AllocError, Global};
 use std::fmt::Write;
 
-/// Returns the type, the subtype, the suffix and the parameters of a media type, a line each.
+/// Returns the type, the subtype, the suffix and the parameters of a media type, each in a line.
 ///
 /// # Errors
-/// `AllocError` if memory runs out.
+/// Returns `AllocError` if memory runs out.
 pub fn described(alloc: Global, mime: &Mime) -> Result<String, AllocError> {
     let mut lines = format!(in alloc; "type {}\nsubtype {}\n", mime.type_(), mime.subtype())?;
     if let Some(suffix) = mime.suffix() {

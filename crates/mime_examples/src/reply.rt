@@ -1,4 +1,4 @@
-//! The `Content-Type` of a reply.
+//! Makes the `Content-Type` of a reply.
 
 ghost use Rattle.std.specs.Prelude.{◌≡◌, IfOk, IfSome, codes};
 ghost use Rattle.mime.specs.Values.{MediaType, Reads, lowered};
@@ -13,7 +13,7 @@ use std::alloc::{AllocError, Global};
 /// token.
 ///
 /// # Errors
-/// `AllocError` if memory runs out, here and below.
+/// Returns `AllocError` if memory runs out, as does the function below.
 pub fn page_in(alloc: Global, charset: &str) -> Result<Option<Mime>, AllocError>
     ensures made { IfOk result (λ answer. IfSome answer (λ page. (html : MediaType) × Reads (codes "text/html") html
         × (page.media ≡ with_pair html (codes "charset") (lowered charset.now)))) }
@@ -25,8 +25,8 @@ pub fn page_in(alloc: Global, charset: &str) -> Result<Option<Mime>, AllocError>
     with_charset(alloc, &TEXT_HTML.mime(), charset)
 }
 
-/// Returns the media type of a form whose parts have this boundary: `multipart/form-data; boundary=x`. Returns `None` if it isn't
-/// a boundary.
+/// Returns the media type of a form whose parts have this boundary: `multipart/form-data; boundary=x` for `x`. Returns `None` if the string
+/// isn't a boundary.
 pub fn form_with(alloc: Global, boundary: &str) -> Result<Option<Mime>, AllocError>
     ensures { IfOk result (λ answer. IfSome answer (λ made. (form : MediaType) × Reads (codes "multipart/form-data") form
         × (made.media ≡ with_pair form (codes "boundary") boundary.now))) }

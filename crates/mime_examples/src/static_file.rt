@@ -1,4 +1,4 @@
-//! A file as a reply.
+//! Chooses the media type of a file that is sent as a reply.
 
 ghost use Rattle.std.specs.Prelude.{◌≡◌, ◌≢◌, ◌⊎◌, IfOk, IfErr, map};
 ghost use Rattle.mime_http.specs.HttpList.{Header, IsHeader};
@@ -9,11 +9,11 @@ use mime::Mime;
 use mime_http::Accept;
 use std::alloc::Global;
 
-/// Returns the media type of a file by its name, if the lines of a request's `Accept` header accept it. A text has a
+/// Returns the media type of a file by its name, if the lines of a request's `Accept` header accept it. The media type of a text has a
 /// charset.
 ///
 /// # Errors
-/// The status to return: 406 if the client doesn't accept it (RFC 9110, 15.5.7), 503 if memory ran out (15.6.4).
+/// Returns the status of the reply: 406 if the client doesn't accept the media type (RFC 9110, 15.5.7), or 503 if memory ran out (15.6.4).
 pub fn type_for(alloc: Global, name: &str, lines: &[&[u8]]) -> Result<Mime, u16>
     ensures accepted { IfOk result (λ mime. (header : Header) × IsHeader (map (λ line. line.now) lines.now) header
         × (given_weight header.ranges mime.media ≢ 0)) }
