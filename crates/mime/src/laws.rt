@@ -82,31 +82,31 @@ pub fn no_completion()
     ensures { NoCompletion }
 {}
 
-/// A rejected text has exactly one fault: that of `text/;` is its byte at position 5, counted from 0.
+/// A rejected text has exactly one fault: the fault of `text/;` is its byte at position 5, counted from 0.
 #[tactic(auto, using(crate::proofs::GrammarLemmas::Faults::one_fault))]
 pub fn one_fault()
     ensures { OneFault }
 {}
 
-/// A string has exactly one longest viable prefix: that of `a/b c` is `a/b`.
+/// A string has exactly one longest viable prefix: the prefix `a/b` for `a/b c`.
 #[tactic(auto, using(crate::proofs::GrammarLemmas::Faults::one_longest_prefix))]
 pub fn one_longest_prefix()
     ensures { OneLongestPrefix }
 {}
 
-/// The longest viable prefix of a string of valid UTF-8 ends between characters: that of `a/bé` before the `é`.
+/// The longest viable prefix of a string of valid UTF-8 ends between characters: for `a/bé` it ends before the `é`.
 #[tactic(auto, using(crate::proofs::GrammarLemmas::Characters::prefix_ends_between_characters))]
 pub fn prefix_ends_between_characters()
     ensures { PrefixEndsBetweenCharacters }
 {}
 
-/// In a string of valid UTF-8 the longest viable prefix is the same whether it may be completed by any bytes or only
-/// to a text of valid UTF-8: that of `a/b;p="é` is all of it, since `a/b;p="éx"` is accepted.
+/// In a string of valid UTF-8, the longest viable prefix is the same whether any bytes may complete it, or only bytes
+/// that make a text of valid UTF-8: for `a/b;p="é` it is the whole string, since `a/b;p="éx"` is accepted.
 pub fn prefix_is_in_utf8()
     ensures { PrefixIsInUtf8 }
 {}
 
-/// The plus of a value is the last one of its essence after the subtype's first byte, if there is one: that of
+/// The plus of a value is the last plus of its essence after the subtype's first byte, if there is one: the plus of
 /// `a/b+c+d` is at position 5 (RFC 6838, 4.2.8).
 pub fn plus_is_last()
     ensures { PlusIsLast }
@@ -220,7 +220,7 @@ pub fn first_difference_decides()
     ensures { FirstDifferenceDecides }
 {}
 
-/// A string has exactly one cut: that of `a/b, e, c/d` has the items `a/b`, the bad piece `e`, and `c/d`.
+/// A string has exactly one cut: the cut of `a/b, e, c/d` has the items `a/b`, the bad piece `e`, and `c/d`.
 #[tactic(auto, using(crate::proofs::CutLemmas::Containment::one_cut))]
 pub fn one_cut()
     ensures { OneCut }

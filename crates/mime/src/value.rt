@@ -348,7 +348,7 @@ impl Mime {
 
     /// Returns the value of the first parameter whose name the key accepts, or `None` if the key accepts no name:
     /// `TextKey("P")` finds `1` in `a/b;p=1;P=2`, and `CHARSET` finds `utf-8` in `text/html; Charset="UTF-8"` (RFC
-    /// 7231, 3.1.1.1). The value is returned without quotes, but with backslashes: that of `a/b;p="\"x"` is `\"x`. It
+    /// 7231, 3.1.1.1). The value is returned without quotes, but with backslashes: it is `\"x` for `a/b;p="\"x"`. It
     /// isn't allocated.
     #[inline(always)]
     pub fn get_param<K: ParamKey>(&self, key: K) -> Option<Name<'_>>

@@ -59,7 +59,7 @@ pub fn read_past_limit<S: Source>(alloc: Global, source: &mut S) -> Result<Vec<u
 }
 
 /// Reads a source to its end or to one byte past the limit. Returns at most `most` bytes, which is the limit or one
-/// more, and `TooLong` if there are more.
+/// more. If `most` is the limit and there are more bytes, returns `TooLong`.
 fn read<S: Source>(alloc: Global, source: &mut S, most: usize) -> Result<Vec<u8>, RunError>
     requires least { limit ≤ most }
     requires greatest { most ≤ limit + 1 }

@@ -1,4 +1,4 @@
-//! What the program reports on each line.
+//! The mode of the program.
 
 /// The kind of report on each line.
 #[derive(Clone, Copy, PartialEq, Eq, Debug)]

@@ -88,7 +88,7 @@ pub(crate) fn lowercase_text(bytes: &mut [u8], text: &str, semicolon: usize, cou
     }
 }
 
-/// Returns the kept text of a string with `count` pairs: only what ignores case is lowercased.
+/// Returns the kept text of a string with `count` pairs. Only the parts that ignore case are lowercased.
 #[inline(always)]
 fn keep_pairs(
     alloc: Global,
