@@ -184,7 +184,8 @@ impl Atom {
     }
 }
 
-/// Prints the constant as a string, padded to the width, if one is given: `TEXT_PLAIN` prints `text/plain`.
+/// Prints the constant as its string is printed, padded to a width and cut to a precision: `TEXT_PLAIN` prints
+/// `text/plain`.
 impl fmt::Display for Atom {
     ghost output = { λ atom. Some (atom_text atom) };
 

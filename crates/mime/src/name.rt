@@ -33,7 +33,8 @@ impl<'a> Name<'a> {
     }
 }
 
-/// Prints the text, padded to the width, if one is given: [`TEXT`](crate::TEXT) prints `text`.
+/// Prints the text as a `str` is printed, padded to a width and cut to a precision: [`TEXT`](crate::TEXT) prints
+/// `text`.
 impl fmt::Display for Name<'_> {
     ghost output = { λ name. Some name.text.now };
 

@@ -212,8 +212,8 @@ impl Clone for Mime {
     }
 }
 
-/// Prints the kept text, padded to the width, if one is given: a media type read from `Text/Plain;` prints
-/// `text/plain`.
+/// Prints the kept text as a `str` is printed, padded to a width and cut to a precision: a media type read from
+/// `Text/Plain;` prints `text/plain`.
 impl fmt::Display for Mime {
     ghost output = { λ mime. Some mime.media.kept };
 
