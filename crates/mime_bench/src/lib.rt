@@ -1,7 +1,7 @@
-//! Calls over byte slices for the operations that bench/ measures.
+//! The operations that bench/ measures, as a call over byte slices.
 //!
-//! They repeat an operation, so that the difference of two calls is only the operation. No clause says what they return:
-//! the driver compares that with what the Rust crate returns.
+//! The call repeats an operation, so that the times of two calls differ only by the operation. No clause states the results. The driver
+//! compares them with those of the Rust crate.
 #![tactic(auto)]
 
 use mime::{BOUNDARY, CHARSET, Mime, MimeIter, ParamKey, TextKey, mime_eq_str};
@@ -14,7 +14,7 @@ use std::fmt::Write;
 use std::hash::{FoldHasher, Hash, Hasher};
 use std::str;
 
-/// The sum of what an operation returns for each of these values, over all rounds.
+/// Sums the results of an operation for each of these values, over all rounds.
 macro_rules! sum {
     ($rounds:ident, $it:pat in $all:expr => $turn:expr) => {{
         let mut sum = 0usize;
@@ -27,8 +27,8 @@ macro_rules! sum {
     }};
 }
 
-/// Repeats an operation on each line of `texts`, or on its media type, and returns the sum of its results. Some operations
-/// also use the same line of `others`. The operation is a position in the list of bench/driver.rs.
+/// Repeats an operation on each line of `texts`, or on the line's media type, and returns the sum of the results. Some operations also use
+/// the same line of `others`. `operation` is a position in the list of bench/driver.rs.
 #[unsafe(no_mangle)]
 pub extern "C" fn mime_bench(
     alloc: Global,
@@ -127,7 +127,7 @@ fn look_up_missing(values: &[Mime], rounds: usize) -> usize {
     sum!(rounds, mime in values => length_found(mime, TextKey("level")))
 }
 
-/// Returns the length of a parameter's value, or 0 if there is none of this name.
+/// Returns the length of the value that a key finds, or 0 if it finds none.
 #[inline(always)]
 fn length_found<K: ParamKey + Drop>(mime: &Mime, key: K) -> usize {
     match mime.get_param(key) {
@@ -214,7 +214,7 @@ fn clone(values: &[Mime], rounds: usize) -> usize {
     })
 }
 
-/// Prints into a string that has room.
+/// Prints into a string that is used again.
 #[inline(never)]
 fn print(alloc: Global, values: &[Mime], rounds: usize) -> usize {
     let mut printed = String::new(alloc);
@@ -225,7 +225,7 @@ fn print(alloc: Global, values: &[Mime], rounds: usize) -> usize {
     })
 }
 
-/// Iterates over the media types of lists. The result is the lengths of their kept texts.
+/// Iterates over the media types of lists. The result is the sum of the lengths of their kept texts.
 #[inline(never)]
 fn items(alloc: Global, texts: &[&str], rounds: usize) -> usize {
     sum!(rounds, text in texts => {

@@ -1,4 +1,4 @@
-//! Values and headers of 2 to 64 KB, such as a client may send on purpose.
+//! The job of a server that reads values and headers of 2 to 60 KB, which a client may send to slow it down.
 
 use crate::digest::Digest;
 use crate::random::Random;
@@ -8,7 +8,7 @@ use mime_http::{Accept, content_type};
 use std::alloc::{AllocError, Global};
 use std::hash::{FoldHasher, Hash, Hasher};
 
-/// How a long string begins, what it repeats, and how it ends.
+/// The shape of a long string: its start, the string that it repeats, and its end.
 struct Shape {
     start: &'static str,
     unit: &'static str,
@@ -175,7 +175,7 @@ static OFFERS: [&str; 4] = [
     "a/b",
 ];
 
-/// Returns three strings of each shape, of 2 to 64 KB.
+/// Returns three strings of each shape, of 2 to 60 KB.
 fn texts_of(alloc: Global, shapes: &[Shape], random: &mut Random) -> Result<Vec<Text>, AllocError> {
     let mut texts = Vec::new(alloc);
     for (at, shape) in shapes.iter().enumerate() {
@@ -189,7 +189,7 @@ fn texts_of(alloc: Global, shapes: &[Shape], random: &mut Random) -> Result<Vec<
     Ok(texts)
 }
 
-/// Adds the results of calls that read all of a value.
+/// Adds the results of calls that read a whole value.
 fn look_up(alloc: Global, mime: &Mime, digest: &mut Digest) -> Result<(), AllocError> {
     digest.media_type(mime);
     digest.found(mime.get_param(CHARSET));
@@ -220,7 +220,7 @@ fn read_value(alloc: Global, value: &[u8], digest: &mut Digest) -> Result<(), Al
     }
 }
 
-/// Adds the ranges of a header, and its best offer.
+/// Adds the number of a header's ranges, the lengths of its bad entries, the best offer's position and the first offer's weight.
 fn read_header(
     alloc: Global,
     line: &[u8],

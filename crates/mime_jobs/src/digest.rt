@@ -37,7 +37,7 @@ impl Digest {
         self.number(flag as usize);
     }
 
-    /// Adds a media type by its essence, since untidy values were printed differently at the start.
+    /// Adds the essence of a media type, but not its text, since the start printed untidy values differently.
     #[inline]
     pub(crate) fn media_type(&mut self, mime: &Mime) {
         self.text(mime.essence_str());

@@ -1,4 +1,4 @@
-//! A log of media types is counted, sorted and printed.
+//! The job of a program that counts, sorts and prints a log of media types.
 
 use crate::digest::Digest;
 use crate::random::Random;
@@ -11,10 +11,11 @@ use std::fmt::Write;
 /// The number of values of a log.
 const VALUES: usize = 8192;
 
-/// The number of its lines.
+/// The number of lines of a log.
 const LINES: usize = 16_384;
 
-/// The writings of a value. They don't differ in the mark and in the case of the first four letters, which tell its occurrences apart.
+/// Three ways to write each value. They don't differ in the mark and in the first four letters, whose case tells occurrences of a value
+/// apart.
 static WRITINGS: [[&str; 3]; 9] = [
     [
         "text/#; charset=utf-8",
@@ -78,7 +79,7 @@ impl Value {
         self.came = 0;
     }
 
-    /// Returns the next writing, which isn't the same twice in one log.
+    /// Returns the next string of the value. No string is returned twice in one log.
     fn next(&mut self) -> &str {
         let came = self.came;
         self.came = came.wrapping_add(1);
@@ -172,13 +173,13 @@ fn push_entry(list: &mut String, text: &str) -> Result<(), AllocError> {
     list.push_str(text)
 }
 
-/// Returns the position of a value at random. The first positions are more frequent.
+/// Returns a random position of a value. Low positions are more frequent.
 fn skewed(random: &mut Random) -> usize {
     let one = random.below(VALUES);
     one * one / VALUES
 }
 
-/// Counts the lines of one log, of which each fourth is an entry of a list of three.
+/// Counts the lines of one log. Each fourth line isn't counted, but is an entry of a list of three.
 fn one_log(
     alloc: Global,
     values: &mut [Value],

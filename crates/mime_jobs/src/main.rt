@@ -1,7 +1,7 @@
 //! Runs jobs that users of `mime` and `mime_http` have, over many different strings, and prints a digest of all results.
 //!
 //! `mime_jobs JOB SEED ROUNDS` does one of `requests`, `negotiation`, `log`, `writing` and `awkward`; `all` does each once. Each seed makes
-//! different strings of the same kinds and sizes. A round is a pass over the job's strings, in which each of them is changed by a mark.
+//! different strings of the same kinds and sizes. A round is a pass over the job's strings, in which the mark of each string changes.
 #![tactic(auto)]
 
 mod awkward;

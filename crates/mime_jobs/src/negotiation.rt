@@ -95,7 +95,7 @@ fn all_offers(alloc: Global) -> Result<Vec<Vec<Mime>>, AllocError> {
     Ok(all)
 }
 
-/// Reads a header, of which each tenth has a second line.
+/// Reads a header. Each tenth header has a second line.
 fn accept_of(alloc: Global, text: &Text, at: usize) -> Result<Accept, AllocError> {
     let first = text.bytes();
     if at % 10 == 0 {
@@ -116,7 +116,7 @@ fn add_read(accept: &Accept, digest: &mut Digest) {
     }
 }
 
-/// Adds what a server asks of one header: mostly the best offer.
+/// Adds the results that a server needs from one header: mostly the best offer.
 fn choose(
     alloc: Global,
     accept: &Accept,

@@ -29,7 +29,7 @@ impl Random {
         (self.next() % limit as u64) as usize
     }
 
-    /// Returns one of some strings.
+    /// Returns one of these strings at random.
     pub(crate) fn one_of<'a>(&mut self, strings: &[&'a str]) -> &'a str
         requires { 0 < length strings.now }
     {

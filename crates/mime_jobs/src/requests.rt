@@ -54,7 +54,7 @@ static PATTERNS: [&str; 40] = [
     "application #",
 ];
 
-/// Adds what a server asks of one value.
+/// Adds the results that a server needs from one value.
 fn look_at(
     alloc: Global,
     value: &[u8],

@@ -8,19 +8,19 @@ use std::alloc::{AllocError, Global};
 /// The number of letters in a mark.
 const MARK: usize = 7;
 
-/// The number of its letters that are the string's own. The others count rounds.
+/// The number of letters of a mark that stand for the string's number. The others count rounds.
 const OWN: usize = 3;
 
 /// The bytes that may replace a pattern's `@`.
 const DIGITS: [u8; 16] = *b"0123456789abcdef";
 
-/// A string with a mark: seven letters, of which the first three are those of the string's number.
+/// A string with a mark: seven letters, of which the first three stand for the string's number.
 #[derive(Drop)]
 pub(crate) struct Text {
     bytes: Vec<u8>,
     /// The position of the mark.
     mark: usize,
-    /// The letters that are capitals, a bit for each.
+    /// The letters that are uppercase, a bit for each.
     capitals: u32,
 }
 
@@ -72,7 +72,7 @@ impl Text {
         })
     }
 
-    /// Returns a pattern, a string that is repeated up to `size` bytes, and the string `end`.
+    /// Returns a pattern, `unit` repeated up to `size` bytes, and `end`.
     pub(crate) fn long(
         alloc: Global,
         pattern: &str,
@@ -102,8 +102,7 @@ impl Text {
         }
     }
 
-    /// Makes capitals of those first four letters and letters of the mark whose bits are set, and lowercases the
-    /// others.
+    /// Makes the first four letters and those of the mark uppercase if their bits are set, and lowercase otherwise.
     pub(crate) fn capitalize(&mut self, bits: u32) {
         let mut changed = bits ^ self.capitals;
         self.capitals = bits;

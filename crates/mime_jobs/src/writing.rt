@@ -44,14 +44,14 @@ static BOUNDARIES: [&str; 4] = [
     "=_#: with (marks), as ' / ?",
 ];
 
-/// The buffers of each turn.
+/// The buffers that are used again for each string.
 #[derive(Drop)]
 struct Buffers {
     printed: String,
     meant: Vec<u8>,
 }
 
-/// Adds a media type as it is printed.
+/// Adds the printed header of a media type.
 fn add_printed(
     made: &Option<Mime>,
     buffers: &mut Buffers,
@@ -68,7 +68,7 @@ fn add_printed(
     Ok(())
 }
 
-/// Writes a name of a file, and reads it again.
+/// Writes the name of a file, and reads it back.
 fn write_file(
     alloc: Global,
     base: &Mime,
@@ -89,7 +89,7 @@ fn write_file(
     Ok(())
 }
 
-/// Writes a boundary, and reads it again.
+/// Writes a boundary, and reads it back.
 fn write_boundary(
     alloc: Global,
     base: &Mime,

@@ -104,7 +104,7 @@ static NAMES: &[(&str, Name<'static>)] = &[
     ("UTF_8", UTF_8),
 ];
 
-/// Returns the value that a field stands for: that of a constant, or that of a string.
+/// Returns the value that a field stands for: the constant with this identifier, or else the media type that the field is read as.
 pub(crate) fn value_of(alloc: Global, field: &str) -> Result<Mime, FromStrError> {
     for (identifier, atom) in ATOMS {
         if *identifier == field {
@@ -114,7 +114,7 @@ pub(crate) fn value_of(alloc: Global, field: &str) -> Result<Mime, FromStrError>
     Mime::from_str(alloc, field)
 }
 
-/// Returns the constant name with an identifier.
+/// Returns the constant name with an identifier, if there is one.
 pub(crate) fn constant_name(field: &str) -> Option<Name<'static>> {
     for (identifier, name) in NAMES {
         if *identifier == field {
@@ -139,7 +139,7 @@ impl fmt::Debug for Shown<'_> {
     }
 }
 
-/// Compiles only for a type whose values threads may pass on and share.
+/// A trait for types whose values may be sent to and shared between threads. An impl for any other type doesn't compile.
 trait CrossesThreads: Send + Sync {}
 
 impl CrossesThreads for Mime {}

@@ -11,8 +11,8 @@ fn character_of(sign: char) -> char {
     }
 }
 
-/// Returns the string that a field stands for: the signs from U+2400 on stand for the controls, U+2421 for the byte 127, and
-/// `⟨part×count⟩` for `count` parts.
+/// Returns the string that a field stands for. The signs from U+2400 on stand for the control characters, U+2421 stands for the byte 127,
+/// and `⟨part×count⟩` stands for `part` repeated `count` times.
 fn string_of(alloc: Global, field: &str) -> String {
     let mut text = String::new(alloc);
     if field.is_ascii() {
@@ -39,7 +39,7 @@ pub(crate) fn strings_of(alloc: Global, fields: &str) -> Vec<String> {
     strings
 }
 
-/// Returns one of the strings of a row, or an empty one.
+/// Returns the string of a row at a position, or an empty string if there is none.
 pub(crate) fn string_at(strings: &[String], at: usize) -> &str {
     match strings.get(at) {
         Some(text) => text.as_str(),

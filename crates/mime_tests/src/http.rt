@@ -15,13 +15,13 @@ pub(crate) fn show<T: Display>(out: &mut String, answer: &T) {
     let _ = write!(out, "{answer}|");
 }
 
-/// Shows a text, or that there is none.
+/// Shows a text, or `none`.
 pub(crate) fn show_text(out: &mut String, answer: Option<&str>) {
     let _ = out.push_str(answer.unwrap_or("none"));
     let _ = out.push('|');
 }
 
-/// Returns bytes as a text.
+/// Returns bytes as a text, or `not text` if they aren't UTF-8.
 pub(crate) fn shown(bytes: &[u8]) -> &str {
     str::from_utf8(bytes).unwrap_or("not text")
 }
@@ -35,7 +35,7 @@ pub(crate) fn lines_of(alloc: Global, field: &str) -> Result<Vec<&[u8]>, AllocEr
     Ok(lines)
 }
 
-/// Reads the header of a field's lines.
+/// Reads the `Accept` header whose lines a field stands for.
 fn header_of(alloc: Global, field: &str) -> Result<Accept, AllocError> {
     Accept::from_lines(alloc, &lines_of(alloc, field)?)
 }
@@ -49,7 +49,7 @@ fn latin_1(alloc: Global, text: &str) -> Vec<u8> {
     bytes
 }
 
-/// Returns the media types of the fields after the first.
+/// Returns the media types of the fields after the first. Skips rejected fields.
 pub(crate) fn offers_of(alloc: Global, strings: &[String]) -> Result<Vec<Mime>, AllocError> {
     let mut offers = Vec::new(alloc);
     for at in 1..strings.len() {
@@ -60,7 +60,7 @@ pub(crate) fn offers_of(alloc: Global, strings: &[String]) -> Result<Vec<Mime>, 
     Ok(offers)
 }
 
-/// Shows the media type of a value, or why there is none.
+/// Shows the media type of a value, or the error.
 pub(crate) fn show_value(out: &mut String, read: Result<Mime, FieldError>) {
     match read {
         Ok(mime) => show(out, &mime),
@@ -165,7 +165,7 @@ pub(crate) fn show_weight_of(alloc: Global, out: &mut String, range: &str) {
     }
 }
 
-/// Shows what a value means, and then what a second value means, in this buffer.
+/// Shows the bytes that two values mean, which are unescaped into this buffer, one after the other.
 fn show_meant(out: &mut String, mut buffer: Vec<u8>, value: &str, other: &str) {
     let _ = unescape(value, &mut buffer);
     let _ = unescape(other, &mut buffer);
@@ -176,7 +176,7 @@ pub(crate) fn show_unescaped(alloc: Global, out: &mut String, value: &str, other
     show_meant(out, Vec::new(alloc), value, other);
 }
 
-/// Shows what a value means, and then what a second value means, in a buffer that has room for both.
+/// Shows the bytes that two values mean, which are unescaped into a buffer with capacity for both.
 pub(crate) fn show_unescaped_in_room(alloc: Global, out: &mut String, value: &str, other: &str) {
     let room = value.len().saturating_add(other.len());
     if let Ok(buffer) = Vec::with_capacity(alloc, room) {

@@ -14,8 +14,8 @@ fn show_item(out: &mut String, item: Result<Mime, Bad<'_>>) {
     };
 }
 
-/// Shows the items that are left, the steps, the size hint before the items, and whether it was `(0, None)` after each item and no item
-/// follows the last.
+/// Shows the items that are left, the number of steps, and the size hint before the items. Then shows whether the size hint was `(0, None)`
+/// after each item, and no item follows the last.
 pub(crate) fn show_items(out: &mut String, mut iter: MimeIter<'_>) {
     let hint = iter.size_hint();
     let mut is_right = true;
@@ -27,7 +27,7 @@ pub(crate) fn show_items(out: &mut String, mut iter: MimeIter<'_>) {
     let _ = writeln!(out, "steps {:?}", (iter.steps(), hint, is_right));
 }
 
-/// Shows the first item of a string, and those that are left: first those of a clone of the iterator, then its own.
+/// Shows the first item of a string, then the items that are left in a clone of the iterator, and then those left in the iterator itself.
 pub(crate) fn show_again(alloc: Global, out: &mut String, text: &str) {
     let mut iter = MimeIter::new(alloc, text);
     if let Some(item) = iter.next() {
@@ -46,7 +46,8 @@ fn is_equal(alloc: Global, one: &Mime, text: &str) -> bool {
     }
 }
 
-/// Shows which items of the first string are equal (`=`) to the media types of the others.
+/// Shows a sign for each string after the first: `=` if its media type is equal to the item at the same place in the first string, or else
+/// a space.
 pub(crate) fn show_list(alloc: Global, out: &mut String, strings: &[String]) {
     let mut iter = MimeIter::new(alloc, string_at(strings, 0));
     for at in 1..strings.len() {

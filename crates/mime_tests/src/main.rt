@@ -16,7 +16,7 @@ use crate::rows::show_row;
 use std::io;
 use std::io::Read;
 
-/// The number of bytes that a row prints without allocating.
+/// The capacity for the answers to a row. Writing more bytes allocates.
 const ROOM: usize = 65_536;
 
 /// Prints each row of standard input, with its answers.
@@ -42,7 +42,7 @@ fn print_row(rt: &HostRuntime, out: &mut String, line: &str) -> io::Result<()> {
     rt.print(out.as_str())
 }
 
-/// Writes the answers to a row, between printing the lines `now` and `end`.
+/// Writes the answers to a row to `out`. Prints the line `now` before and the line `end` after that.
 fn show_line(rt: &HostRuntime, out: &mut String, line: &str) {
     let (word, fields) = line.split_once('\t').unwrap_or((line, ""));
     let strings = strings_of(rt.alloc(), fields);

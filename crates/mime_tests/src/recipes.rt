@@ -32,7 +32,7 @@ use mime_examples::static_file::type_for;
 use std::alloc::{AllocError, Global};
 use std::fmt::{Display, Write};
 
-/// Shows whether something is true, or why that isn't known.
+/// Shows an answer, or the error.
 pub(crate) fn show_whether<E: Display + Drop>(out: &mut String, answer: Result<bool, E>) {
     match answer {
         Ok(answer) => show(out, &answer),
@@ -40,7 +40,7 @@ pub(crate) fn show_whether<E: Display + Drop>(out: &mut String, answer: Result<b
     }
 }
 
-/// Shows a status, or that there is none.
+/// Shows a status, or `none`.
 pub(crate) fn show_status(out: &mut String, status: Option<u16>) {
     match status {
         Some(status) => show(out, &status),
@@ -68,7 +68,7 @@ pub(crate) fn show_caret_line(alloc: Global, out: &mut String, text: &str) {
     }
 }
 
-/// Shows the offer that a server sends, or its status.
+/// Shows the offer that a server sends, or the status of its reply.
 pub(crate) fn show_chosen(alloc: Global, out: &mut String, strings: &[String]) {
     let Ok(lines) = lines_of(alloc, string_at(strings, 0)) else {
         return;
@@ -82,7 +82,8 @@ pub(crate) fn show_chosen(alloc: Global, out: &mut String, strings: &[String]) {
     }
 }
 
-/// Shows the count of the first field's media type, and then each media type with its count, in their order.
+/// Counts the media types of the fields after the first. Shows the count of the first field's media type, and then each media type with its
+/// count, sorted by media type.
 pub(crate) fn show_counts(rt: &HostRuntime, out: &mut String, strings: &[String]) {
     let Ok(mut counts) = no_counts(rt) else {
         return;
@@ -166,7 +167,7 @@ pub(crate) fn show_received(alloc: Global, out: &mut String, value: &str, body: 
     }
 }
 
-/// Shows the media type of a file, and whether it is kept as it is.
+/// Shows the media type of a file, and whether its kept text is the same string.
 pub(crate) fn show_type_of_file(alloc: Global, out: &mut String, name: &str) {
     let type_ = type_of_file(name);
     show_text(out, Some(type_));
@@ -175,7 +176,7 @@ pub(crate) fn show_type_of_file(alloc: Global, out: &mut String, name: &str) {
     }
 }
 
-/// Shows the media type of a file that a server sends, or its status.
+/// Shows the media type of a file that a server sends, or the status of its reply.
 pub(crate) fn show_type_for(alloc: Global, out: &mut String, name: &str, lines: &str) {
     let Ok(lines) = lines_of(alloc, lines) else {
         return;
@@ -186,7 +187,7 @@ pub(crate) fn show_type_for(alloc: Global, out: &mut String, name: &str, lines: 
     }
 }
 
-/// Shows whether files of the constants' media types are sent compressed.
+/// Shows the constants whose files aren't sent compressed.
 pub(crate) fn show_is_compressible(out: &mut String) {
     for (name, atom) in ATOMS {
         if !is_compressible(*atom) {
@@ -195,7 +196,7 @@ pub(crate) fn show_is_compressible(out: &mut String) {
     }
 }
 
-/// Shows a media type that was made, or that it wasn't.
+/// Shows a media type that was made, `none`, or the error.
 fn show_made(out: &mut String, made: Result<Option<Mime>, AllocError>) {
     match made {
         Ok(Some(mime)) => show(out, &mime),
@@ -216,7 +217,7 @@ pub(crate) fn show_form_with(alloc: Global, out: &mut String, boundary: &str) {
     show_made(out, form_with(alloc, boundary));
 }
 
-/// Shows a media type with a file's name, and the name that is read back from it, twice.
+/// Shows a media type with a file's name, and the names that `file_name` and `written_and_read` return.
 pub(crate) fn show_file_name(alloc: Global, out: &mut String, field: &str, name: &str) {
     let Some(mime) = read_or_not(alloc, out, field) else {
         return;
@@ -235,7 +236,7 @@ pub(crate) fn show_file_name(alloc: Global, out: &mut String, field: &str, name:
     }
 }
 
-/// Shows the name of a field and that of a file, or why they aren't known.
+/// Shows the name of a field and that of a file, `none`, or the error.
 fn show_names_of(out: &mut String, answer: Result<Option<Disposition>, AllocError>) {
     match answer {
         Ok(Some(found)) => {
@@ -276,7 +277,7 @@ pub(crate) fn show_may_delimit(out: &mut String, boundary: &str, part: &str) {
     show(out, &may_delimit(boundary.as_bytes(), part.as_bytes()));
 }
 
-/// Shows the positions of the offers in order.
+/// Shows the positions of the acceptable offers, the best first.
 pub(crate) fn show_in_order(alloc: Global, out: &mut String, strings: &[String]) {
     let Ok(lines) = lines_of(alloc, string_at(strings, 0)) else {
         return;

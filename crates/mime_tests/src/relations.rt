@@ -9,8 +9,8 @@ use std::collections::{BTreeSet, HashSet};
 use std::fmt::Write;
 use std::hash::{Hash, Hasher};
 
-/// A hasher that keeps what it is fed, as a number whose digits to the base 257 are a 1 and the bytes, modulo 2 ^ 128. So two runs of
-/// at most 15 bytes are the same run if their numbers are equal. It has no hash of its own.
+/// A hasher that keeps the bytes that it is fed, as a number modulo 2 ^ 128 whose digits to the base 257 are a 1 and these bytes. So two
+/// runs of at most 15 bytes are the same if their numbers are equal. `finish` always returns 0.
 #[derive(Clone, Copy)]
 struct Fed(u128);
 
@@ -34,14 +34,14 @@ impl Hasher for Fed {
     }
 }
 
-/// Returns what a value feeds a hasher, as a number.
+/// Returns the bytes that a value feeds a hasher, as a number.
 fn hash_input<T: Hash>(value: &T) -> u128 {
     let mut fed = Fed(1);
     value.hash(&mut fed);
     fed.0
 }
 
-/// Returns how two values compare, or `?` if order, equality and what they feed a hasher don't agree.
+/// Returns a sign for how two values compare, or `?` if their order, their equality and the bytes that they feed a hasher don't agree.
 fn relation<T: Ord + Hash>(one: &T, other: &T) -> char {
     let order = one.cmp(other);
     let is_equal = *one == *other;
@@ -66,7 +66,8 @@ pub(crate) fn show_compared(alloc: Global, out: &mut String, field: &str, text: 
     show_debug(out, &(relation(&one, &other), mime_eq_str(&one, text)));
 }
 
-/// Returns the name that a field stands for: a constant, or a text, after `~` if it ignores case, else after `=`.
+/// Returns the name that a field stands for: a constant, or the text after a `~` or `=`. The name ignores case if the field begins with
+/// `~`.
 fn name_of(field: &str) -> Name<'_> {
     match constant_name(field) {
         Some(name) => name,
@@ -77,8 +78,7 @@ fn name_of(field: &str) -> Name<'_> {
     }
 }
 
-/// Shows a name, then it and a second one in quotes, how they compare, and whether the first is equal to the second's
-/// text.
+/// Shows a name. Then shows this name and a second one by Debug, how they compare, and whether the first is equal to the second's text.
 pub(crate) fn show_names(out: &mut String, one: &str, other: &str) {
     let one = name_of(one);
     let other = name_of(other);
@@ -87,7 +87,8 @@ pub(crate) fn show_names(out: &mut String, one: &str, other: &str) {
     let _ = writeln!(out, "{one}\n{:?}", (one, sign, other, is_text));
 }
 
-/// Shows whether two values are equal, in order and by their hashes, and whether the first equals the second's string.
+/// Shows whether two values are equal by `==` and by their order, whether they are equal by hash, and whether the first equals the second's
+/// string.
 pub(crate) fn show_pair(alloc: Global, out: &mut String, field: &str, text: &str) {
     let Some(one) = value_or_fault(alloc, out, field) else {
         return;

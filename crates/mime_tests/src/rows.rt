@@ -1,17 +1,17 @@
 //! The rows of a table, and the answers to each. A row is a word and fields, separated by tabs.
 //!
-//! The rows about `mime`, with a `VALUE` for a string that is read, or the identifier of a constant:
+//! These are the rows about `mime`. A `VALUE` is a string that is read, or the identifier of a constant:
 //!
 //! - `read VALUE`, `clone VALUE`, `items STRING`: reads the string, clones its media type, or yields the media types in it;
-//! - `again STRING`: yields those that are left after the first, by a clone of the iterator and then by itself;
-//! - `list STRING STRINGS`: compares each media type in the first string with that of the next of the others;
+//! - `again STRING`: yields the first media type, and then the others, by a clone of the iterator and by the iterator itself;
+//! - `list STRING STRINGS`: compares each media type in the first string with the string at the same place among the others;
 //! - `parts VALUE`: the parts of a value, or why it is rejected;
-//! - `long VALUE KEPT`: the numbers of a value, and whether its string is `KEPT`;
-//! - `print VALUE`: a value in 12 places, and by Debug;
-//! - `key VALUE KEY OTHER`: the value that a key finds, which is a string or a constant, and whether it equals the other string;
-//! - `compare VALUE VALUE`, `pair VALUE VALUE`: two values, how they compare, or whether they are equal by each trait; and the first
-//!   against the second's string;
-//! - `sets VALUE VALUE`: whether the first is found in sets that have the second;
+//! - `long VALUE KEPT`: the size hint and the number of a value's parameters, and whether its string is `KEPT`;
+//! - `print VALUE`: a value with a width of 12, and by Debug;
+//! - `key VALUE KEY OTHER`: the value that a string or a constant finds as a key, and whether the value equals the other string;
+//! - `compare VALUE VALUE`: how two values compare, and whether the first equals the second's string;
+//! - `pair VALUE VALUE`: whether two values are equal by each trait, and whether the first equals the second's string;
+//! - `sets VALUE VALUE`: whether the first value is found in sets that contain the second;
 //! - `against VALUE STRING`: whether a value equals a string;
 //! - `names NAME NAME`: two names, each a constant, or a string with `~` before it if it ignores case, or else with `=`;
 //! - `bytes`, `copies`: the classes of bytes, and the copies of the constants;
@@ -63,7 +63,7 @@ pub(crate) fn show_row(rt: &HostRuntime, out: &mut String, word: &str, strings: 
     }
 }
 
-/// Writes the answers of `mime` to a row, if its word is one of these.
+/// Writes the answers of `mime` to a row and returns `true`, if the row's word is one of these.
 fn show_of_library(alloc: Global, out: &mut String, word: &str, strings: &[String]) -> bool {
     let one = string_at(strings, 0);
     let two = string_at(strings, 1);
@@ -91,7 +91,7 @@ fn show_of_library(alloc: Global, out: &mut String, word: &str, strings: &[Strin
     true
 }
 
-/// Writes the answers of `mime_http` to a row, if its word is one of these.
+/// Writes the answers of `mime_http` to a row and returns `true`, if the row's word is one of these.
 fn show_of_headers(alloc: Global, out: &mut String, word: &str, strings: &[String]) -> bool {
     let one = string_at(strings, 0);
     let two = string_at(strings, 1);
@@ -118,7 +118,7 @@ fn show_of_headers(alloc: Global, out: &mut String, word: &str, strings: &[Strin
     true
 }
 
-/// Writes the answers of the recipes to a row, if its word is one of these.
+/// Writes the answers of the recipes to a row and returns `true`, if the row's word is one of these.
 fn show_of_recipes(rt: &HostRuntime, out: &mut String, word: &str, strings: &[String]) -> bool {
     let alloc = rt.alloc();
     let one = string_at(strings, 0);

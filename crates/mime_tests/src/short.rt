@@ -1,4 +1,4 @@
-//! All short strings, by a rule that needs no table.
+//! Tests all short strings by a rule that needs no table.
 
 use mime::{Mime, ParseError};
 use std::alloc::Global;
@@ -7,13 +7,13 @@ use std::fmt::Write;
 /// The characters of the short strings.
 static ALPHABET: [char; 8] = ['a', '/', ';', '=', '"', '\\', ' ', ','];
 
-/// The most characters of a short string, and the number of short strings: one, and for each length 8 times as many as for the one
-/// before.
+/// The maximum number of characters of a short string.
 const MOST: usize = 7;
 
+/// The number of short strings: the sum of the powers of 8 from 8 ^ 0 to 8 ^ 7.
 const COUNT: usize = 2_396_745;
 
-/// Writes the short string of a number: its digits, the lowest first, from 1 to 8.
+/// Writes the short string with a number. Its characters are the number's digits to the base 8, the lowest first, with digits from 1 to 8.
 fn spell(text: &mut String, number: usize) {
     text.clear();
     let mut rest = number;
@@ -41,7 +41,8 @@ fn is_completed_by(alloc: Global, text: &str, completion: &str) -> bool {
     fault_of(alloc, whole.as_str()).is_none()
 }
 
-/// The completion of a string, the end of such a string, and its fault. No short string ends with `?`, so none has the last fault.
+/// A completion, an end and a fault: a string has the fault exactly if it has this end, and is a media type with the completion after it.
+/// No short string ends with `?`, so none has the last fault.
 static COMPLETIONS: &[(&str, &str, ParseError)] = &[
     ("x/x", "", ParseError::MissingSlash),
     ("x", "/", ParseError::MissingSubtype),
@@ -51,7 +52,7 @@ static COMPLETIONS: &[(&str, &str, ParseError)] = &[
     ("", "?", ParseError::NoMemory),
 ];
 
-/// Writes a string if the verdict on it doesn't agree with those on the completed string.
+/// Writes a string if its fault doesn't agree with `COMPLETIONS`.
 fn show_difference(alloc: Global, out: &mut String, text: &str) {
     let fault = fault_of(alloc, text);
     for (completion, end, missing) in COMPLETIONS {
@@ -62,7 +63,7 @@ fn show_difference(alloc: Global, out: &mut String, text: &str) {
     }
 }
 
-/// Shows the short strings whose verdicts don't agree, and the number of all.
+/// Shows the short strings whose faults don't agree with `COMPLETIONS`, and the number of all short strings.
 pub(crate) fn show_short_verdicts(alloc: Global, out: &mut String) {
     let Ok(mut text) = String::with_capacity(alloc, MOST) else {
         return;

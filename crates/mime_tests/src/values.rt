@@ -18,7 +18,7 @@ pub(crate) fn show_fault(out: &mut String, error: &FromStrError) {
     let _ = writeln!(out, "bad {error:99}");
 }
 
-/// Returns the value that a field stands for. If there is none, writes why.
+/// Returns the value that a field stands for, or writes its fault and returns `None`.
 pub(crate) fn value_or_fault(alloc: Global, out: &mut String, field: &str) -> Option<Mime> {
     match value_of(alloc, field) {
         Ok(mime) => Some(mime),
@@ -29,7 +29,7 @@ pub(crate) fn value_or_fault(alloc: Global, out: &mut String, field: &str) -> Op
     }
 }
 
-/// Returns the media type that a string is read as. If there is none, writes so.
+/// Returns the media type that a string is read as, or writes `not read` and returns `None`.
 pub(crate) fn read_or_not(alloc: Global, out: &mut String, text: &str) -> Option<Mime> {
     match Mime::from_str(alloc, text) {
         Ok(mime) => Some(mime),
@@ -53,7 +53,7 @@ pub(crate) fn show_parse(alloc: Global, out: &mut String, field: &str) {
     show_media_type(out, &mime);
 }
 
-/// Writes the copy of a value.
+/// Writes the copy of a value, and whether it is equal to the original.
 pub(crate) fn show_copy(out: &mut String, original: &Mime) {
     let _ = match original.clone() {
         Ok(copy) => writeln!(out, "ok {copy}, equal: {}", copy == *original),
@@ -98,7 +98,7 @@ pub(crate) fn show_long(alloc: Global, out: &mut String, field: &str, kept: &str
     show_debug(out, &(hint, count, mime.as_str() == kept));
 }
 
-/// Shows a value in 12 places and quoted, and its parameters by Debug.
+/// Shows a value with a width of 12, the value by Debug, and its parameters by Debug.
 pub(crate) fn show_printed(alloc: Global, out: &mut String, field: &str) {
     let Some(mime) = value_or_fault(alloc, out, field) else {
         return;
@@ -118,8 +118,8 @@ impl ParamKey for Foo {
     }
 }
 
-/// Shows the value that a key finds, whether it is equal to a second string, what it finds as a key itself, and what the key `Foo`
-/// finds.
+/// Shows the value that a key finds, whether that value is equal to a second string, the value that it finds as a key itself, and the value
+/// that the key `Foo` finds.
 pub(crate) fn show_found(alloc: Global, out: &mut String, field: &str, key: &str, other: &str) {
     let Some(mime) = value_or_fault(alloc, out, field) else {
         return;
