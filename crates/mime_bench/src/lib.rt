@@ -195,8 +195,7 @@ fn cmp(values: &[Mime], others: &[Mime], rounds: usize) -> usize {
     sum!(rounds, (mime, other) in values.iter().zip(others) => mime.cmp(other).is_lt() as usize)
 }
 
-/// Hashes by the default hasher of a map. The result is how often the hash isn't 1, since the hashes of the two sides
-/// differ.
+/// Hashes by the default hasher of a map. The result is how often the hash isn't 1, since the hashes of the two libraries differ.
 #[inline(never)]
 fn hash(values: &[Mime], rounds: usize) -> usize {
     sum!(rounds, mime in values => {
@@ -248,7 +247,7 @@ fn field(alloc: Global, texts: &[&str], rounds: usize) -> usize {
     })
 }
 
-/// Reads header values, and looks up what a server does: the essence, the charset and the boundary.
+/// Reads header values, and looks up the essence, the charset and the boundary, as a server does.
 #[inline(never)]
 fn serve(alloc: Global, texts: &[&str], rounds: usize) -> usize {
     sum!(rounds, text in texts => match content_type(alloc, text.as_bytes()) {

@@ -372,8 +372,8 @@ fn put_range(out: &mut [u8], at: usize, range: &Mime) -> usize
     put(out, end, "")
 }
 
-/// Reads a line of an Accept header (RFC 9110, 12.5.1), and writes the strings of each range to `out`, which must have at least `3 *
-/// text.len() + 3` bytes: the weight in thousandths, as four digits, the parts, and an empty string. Sets `bad` to the number of bad
+/// Reads a line of an Accept header (RFC 9110, 12.5.1), and writes the strings of each range to `out`, which must have at least
+/// `3 * text.len() + 3` bytes: the weight in thousandths, as four digits, the parts, and an empty string. Sets `bad` to the number of bad
 /// entries. Returns `MIME_OK`, `MIME_NO_ROOM` or `MIME_NO_MEMORY`.
 #[unsafe(no_mangle)]
 pub extern "C" fn mime_accept(
@@ -422,9 +422,9 @@ fn has_bad(offered: &Accept) -> bool
     !offered.bad().is_empty()
 }
 
-/// Sets `best` to the position of the best offer for an Accept header (RFC 9110, 12.5.1) in a list of offers, such as `text/html,
-/// application/json`. A request without the header, for which `is_there` is false, accepts everything. Returns `MIME_OK`, `MIME_BAD_OFFER`,
-/// `MIME_NOT_ACCEPTABLE` or `MIME_NO_MEMORY`.
+/// Sets `best` to the position of the best offer for an Accept header (RFC 9110, 12.5.1) in a list of offers, such as
+/// `text/html, application/json`. A request without the header, for which `is_there` is false, accepts everything. Returns `MIME_OK`,
+/// `MIME_BAD_OFFER`, `MIME_NOT_ACCEPTABLE` or `MIME_NO_MEMORY`.
 #[unsafe(no_mangle)]
 pub extern "C" fn mime_best(
     alloc: Global,

@@ -96,7 +96,7 @@ fn begins(label: &[u8], line: &[u8]) -> bool
     line.len() >= label.len() && line[..label.len()].eq_ignore_ascii_case(label)
 }
 
-/// Adds to a field's value those of the first lines that continue it, each trimmed and after one space.
+/// Adds to a field's value the lines at the start of `lines` that continue it, each trimmed and after one space.
 fn push_continued(value: &mut Vec<u8>, lines: &[&[u8]]) -> Result<(), AllocError>
     ensures { OnOk result (vec_items value.new ≡ vec_items value.old ++ continued (map (λ line. line.now) lines.now)) }
 {

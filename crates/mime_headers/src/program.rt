@@ -32,7 +32,7 @@ pub fn run<S: Source, T: Sink>(
         × Consumes (S.left source.old) (S.left source.new) bytes × (length bytes ≤ limit + 1) × (length bytes ≤ limit → IsAtEnd (S.left source.new))
         × IsReportOf (map (λ offer. offer.media) offers.now) bytes text verdict × Appends (T.held sink.old) (T.held sink.new) text) }
     ensures flushed { OnOk result (T.IsFlushed sink.new) }
-    // If the result is `Read`, the source has failed. If it is `Write`, the sink has failed. Otherwise, the run made neither fail.
+    // If the result is `Read`, the source has failed. If it is `Write`, the sink has failed. Otherwise, neither has failed in this run.
     ensures read { result ≡ Err RunError.Read → S.has_failed source.new ≡ true }
     ensures write { result ≡ Err RunError.Write → T.has_failed sink.new ≡ true }
     ensures source_unfailed { result ≢ Err RunError.Read → S.has_failed source.new ≡ S.has_failed source.old }

@@ -123,7 +123,7 @@ impl Accept {
         let is_ascii = is_short_ascii(line);
         let mut from = 0;
         loop {
-            // An empty piece is skipped at once.
+            // An empty piece is skipped without being read.
             if is_empty_piece(line, from) {
                 from += 1;
                 continue;

@@ -43,8 +43,8 @@ impl Model for Closest {
 }
 
 impl Closest {
-    /// Keeps the range at position `at` if it covers the offer, and none so far is more specific. If it names fewer parts than the range
-    /// kept so far, nothing else of it is examined.
+    /// Keeps the range at position `at` if it covers the offer, unless a range so far is more specific, or equally specific with a higher
+    /// weight. If it names fewer parts than the range kept so far, nothing else of it is examined.
     #[inline(always)]
     fn look_at(&mut self, range: &Mime, offer: Offer<'_>, at: usize)
         ensures { self.new ≡ ord_max (option_cmp rank_cmp) self.old (closeness offer.entry.mime.now.media (at, range.now.media)) }

@@ -168,8 +168,8 @@ fn mime_with(
 ///
 /// A value is printed as it is if it is a token. Any other value is printed in quotes, with a backslash before each quote and each
 /// backslash (5.6.4). [`unescape`](crate::unescape) recovers the value that was passed, in lowercase for a `charset`. The other parameters
-/// are printed in the same way, but with only the backslashes that they have: `a/b;p="x"` with the parameter `q` and the value `1` is `a/b;
-/// p=x; q=1`.
+/// are printed in the same way, but with only the backslashes that they have: `a/b;p="x"` with the parameter `q` and the value `1` is
+/// `a/b; p=x; q=1`.
 ///
 /// It allocates the text, which may grow, and at most one more block: for the kept text, if that has more than 40 bytes.
 ///
@@ -213,8 +213,8 @@ pub fn with_charset(alloc: Global, mime: &Mime, charset: &str) -> Result<Option<
 }
 
 /// Returns the media type with this boundary in place of its own, as [`with_parameter`] writes it. Returns `None` exactly if the string
-/// isn't a boundary (RFC 2046, 5.1.1), as [`is_boundary`] defines it. `multipart/mixed` with the boundary `a b` is `multipart/mixed;
-/// boundary="a b"`. Any media type is accepted, though a boundary has a meaning only for the type `multipart`.
+/// isn't a boundary (RFC 2046, 5.1.1), as [`is_boundary`] defines it. `multipart/mixed` with the boundary `a b` is
+/// `multipart/mixed; boundary="a b"`. Any media type is accepted, though a boundary has a meaning only for the type `multipart`.
 ///
 /// # Errors
 /// Returns `AllocError` if memory runs out, which never happens if the result is `None`.

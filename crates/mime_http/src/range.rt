@@ -1,4 +1,4 @@
-//! Whether a range covers an offer, and how specific it is.
+//! Tests whether a range covers an offer, and how specific the range is.
 
 ghost use Rattle.std.specs.Prelude.{◌≡◌, ◌++◌, Some, None, length, drop, option_map, unwrap_or, is_some, if◌then◌else◌, codes, bytes_eq};
 ghost use Rattle.std.specs.List.{list_all};

@@ -99,7 +99,7 @@ fn read_written(alloc: Global, text: &[u8]) -> Result<Mime, FieldError>
         → IfOk result (λ mime. mime.media ≡ media_of parts) }
     ensures memory { IfErr result (λ error. (error ≡ FieldError.NoMemory) × (40 < length text.now)) }
 {
-    // SAFETY: what is written anew of UTF-8 is UTF-8.
+    // SAFETY: the text that is written anew for a value in UTF-8 is UTF-8.
     let text = unsafe { str::from_utf8_unchecked(text) };
     match Mime::from_str(alloc, text) {
         Ok(mime) => Ok(mime),
@@ -123,8 +123,8 @@ fn read_in_block(alloc: Global, value: &str, len: usize) -> Result<Mime, FieldEr
 }
 
 /// Returns the fault of a value, if it follows from `fault`, for which `mime` rejects the value without the white space around it. Where
-/// `mime` stops, HTTP continues only at white space and at a semicolon. At the value's end HTTP misses the same as `mime`, unless white
-/// space is there.
+/// `mime` stops, HTTP continues only at white space and at a semicolon. If something is missing at the value's end for `mime`, the same is
+/// missing for HTTP, unless white space is there.
 fn same_fault(value: &[u8], fault: ParseError) -> Option<ParseError>
     requires { Explains (trimmed value.now) fault }
     ensures { IfSome result (λ same. IsHttpFault value.now same) }

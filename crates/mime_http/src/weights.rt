@@ -1,4 +1,4 @@
-//! A weight in thousandths.
+//! Reads a weight in thousandths.
 
 ghost use Rattle.std.specs.Prelude.{◌≡◌, ◌≤◌, ◌*◌, ◌-◌};
 ghost use Rattle.mime_http.specs.Digits.{worth};
