@@ -13,7 +13,7 @@ use std::alloc::Global;
 /// Returns `true` if the media type of a text has a suffix, as `image/svg+xml` has.
 ///
 /// # Errors
-/// Returns a `FromStrError` with the text's one fault, or with `NoMemory` if memory runs out. The functions below return the same errors.
+/// Returns a `FromStrError` with the text's one fault, or with `NoMemory` if memory runs out. So do the functions below that read a text.
 pub fn has_suffix(alloc: Global, text: &str) -> Result<bool, FromStrError>
     ensures explained { IfErr result (λ error. Explains text.now error) }
     ensures told { IfOk result (λ yes. (value : MediaType) × Reads text.now value × (yes ≡ is_some (suffix_of value))) }

@@ -39,7 +39,7 @@ pub fn file_name(alloc: Global, mime: &Mime) -> Result<Option<Vec<u8>>, AllocErr
     Ok(Some(name))
 }
 
-/// Writes a file's name, reads it back and returns it. It is the same name.
+/// Writes a file's name, and returns the name that is read back, which is the same, or `None` if [`with_file_name`] returns `None`.
 pub fn written_and_read(
     alloc: Global,
     mime: &Mime,

@@ -18,8 +18,8 @@ impl ParamKey for EitherKey<'_> {
     }
 }
 
-/// Returns the quality of a media type as it is written: the value of its first parameter `q` or `qs`, or `1` if it has none
-/// (RFC 9110, 12.4.2).
+/// Returns the weight of a media type as it is written: the value of its first parameter `q` or `qs`, or `1` if it has none (RFC 9110,
+/// 12.4.2).
 pub fn quality_of(mime: &Mime) -> &str
     ensures { (found : Option (List ℕ × Bool))
         × IsFirstAccepted (λ name flag. NameIs name flag (codes "q") ⊎ NameIs name flag (codes "qs")) (items_of mime.now.media.pairs) found

@@ -1,4 +1,4 @@
-//! Returns all offers that a client accepts, the best first.
+//! Orders all offers that a client accepts, the best first.
 
 ghost use Rattle.std.specs.Prelude.{IfOk, map};
 ghost use Rattle.std.specs.Vec.{vec_items};

@@ -195,7 +195,7 @@ pub(crate) fn show_boundary(alloc: Global, out: &mut String, field: &str) {
     }
 }
 
-/// Shows a media type that was made.
+/// Shows a media type that was made, or `none`.
 fn show_made(out: &mut String, made: Result<Option<Mime>, AllocError>) {
     match made {
         Ok(Some(mime)) => show(out, &mime),

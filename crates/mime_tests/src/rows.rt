@@ -13,7 +13,7 @@
 //! - `pair VALUE VALUE`: whether two values are equal by each trait, and whether the first equals the second's string;
 //! - `sets VALUE VALUE`: whether the first value is found in sets that contain the second;
 //! - `against VALUE STRING`: whether a value equals a string;
-//! - `names NAME NAME`: two names, each a constant, or a string with `~` before it if it ignores case, or else with `=`;
+//! - `names NAME NAME`: two names and how they compare, each a constant, or a string after `~` if it ignores case, or else after `=`;
 //! - `bytes`, `copies`: the classes of bytes, and the copies of the constants;
 //! - `short_verdicts`: all short strings, by a rule that needs no table.
 //!
