@@ -225,7 +225,7 @@ def next_call(check, given):
 
 def holds(words, texts):
     """Whether all checks hold of these texts."""
-    texts, count = iter(texts), 0
+    texts, count = iter(dict.fromkeys(texts)), 0
     try:
         while some := [*islice(texts, 4000)]:
             count += len(some)

@@ -75,13 +75,14 @@ def told(what, well, more=""):
     return well
 
 
-def is_right(command, is_wanted, folder=TOP, **how):
-    """Whether a shell command succeeds and writes what is wanted."""
+def is_right(command, wanted, folder=TOP, **how):
+    """Whether a shell command succeeds and writes what is wanted: this text, any if it is None, or one of which a function says so."""
     try:
         text, status = output(["bash", "-euo", "pipefail", "-c", command], folder, **how)
     except TimeoutError as error:
         text, status = str(error), 1
-    return told(command.splitlines()[-1][:60], not status and bool(is_wanted(text)), f", and not as wanted: {command}\n{text[-3000:]}")
+    well = not status and (wanted(text) if callable(wanted) else wanted in (None, text))
+    return told(command.splitlines()[-1].strip()[:60], well, f", and not as wanted: {command}\n{text[-3000:]}")
 
 
 def exit_status(tries, least=1):
