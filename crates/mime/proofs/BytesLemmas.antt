@@ -1,5 +1,5 @@
 -- Bytes: their classes and tables, the byte at a position of joined bytes, and where a text may be cut at an ASCII byte.
-use Rattle.std.proofs.Common.{◌≡◌, ℕ, ◌<◌, Bool, List, get_or, map, ap, sym, ◌∙◌, arith, length, true, suc, ◌+◌, [], ◌∷◌, ◌++◌, Some, slice_get, refl, false, ◌==◌}
+use Rattle.std.proofs.Common.{◌≡◌, ℕ, ◌<◌, Bool, List, get_or, map, ap, sym, ◌∙◌, arith, length, true, suc, ◌+◌, [], ◌∷◌, ◌++◌, Some, slice_get, refl, false, ◌==◌, rules}
 use Rattle.std.specs.List.{range_with_len, list_all}
 use Rattle.std.proofs.lemmas.List.{get_or-map}
 use Rattle.std.proofs.lemmas.List.Folds.{list_all-append}
@@ -75,13 +75,11 @@ are_other-token = are_other is_token_byte
 
 -- a token isn't empty
 pub token-size : (token : List ℕ) → IsToken token → 0 < length token
-token-size [] is = absurd is
-token-size (b ∷ token) is = omega arith
+token-size token is = search rules
 
 -- a token is token bytes
 pub AreTokenBytes-from_token : (bytes : List ℕ) → IsToken bytes → AreTokenBytes bytes
-AreTokenBytes-from_token [] token = absurd token
-AreTokenBytes-from_token (b ∷ bytes) token = token
+AreTokenBytes-from_token bytes token = search rules
 
 -- a text may be cut after an ASCII byte
 pub boundary_after : (text : List ℕ) (at b : ℕ) → IsUtf8 text → slice_get text at ≡ Some b → b < 128 → IsCharBoundary text (at + 1)

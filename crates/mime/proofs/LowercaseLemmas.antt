@@ -113,8 +113,7 @@ last_plus-lowered at (b ∷ bytes) =
 
 -- the pair of a lowercased parameter is its pair, lowercased
 pair_of-lowered : (p : Parameter) → pair_of (lowered_parameter p) ≡ lowered_pair (pair_of p)
-pair_of-lowered (plain name value) = refl
-pair_of-lowered (quoted name content n) = refl
+pair_of-lowered p = search rules
 
 -- the pairs of a lowercased list or tail are its pairs, lowercased
 pairs_of_list-lowered : (list : Parameters) → pairs_of_list (lowered_list list) ≡ map lowered_pair (pairs_of_list list)

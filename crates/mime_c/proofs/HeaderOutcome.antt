@@ -1,5 +1,5 @@
 -- Each call for a header, and for what parameters mean, has one outcome, unless memory runs out.
-use Rattle.std.proofs.Common.{◌≡◌, ◌≢◌, ℕ, ◌+◌, ◌*◌, ◌⊎◌, inl, inr, Bool, true, List, [], ◌∷◌, Option, Some, None, length, refl, sym, ap, ◌∙◌, arith, ⊎_elim}
+use Rattle.std.proofs.Common.{◌≡◌, ◌≢◌, ℕ, ◌+◌, ◌*◌, ◌⊎◌, inl, inr, Bool, true, List, [], ◌∷◌, Option, Some, None, length, refl, sym, ap, ◌∙◌, arith, ⊎_elim, rules}
 use Rattle.std.specs.List.{list_all}
 use Rattle.std.specs.Str.{IsUtf8}
 use Rattle.std.proofs.lemmas.Bool.{cases_lt, cases_Bool, true≢false}
@@ -142,10 +142,7 @@ module _ {value old : List ℕ} where
   one_meaning : {n m : ℕ} {new bytes : List ℕ} {size other : ℕ} → n ≢ MIME_NO_MEMORY → m ≢ MIME_NO_MEMORY
       → UnescapesTo value old n new size → UnescapesTo value old m bytes other
       → (m ≡ n) × ◌≡◌ {A = List ℕ × ℕ} (bytes, other) (new, size)
-  one_meaning h k (is_unescaped room) (is_unescaped too) = (refl, refl)
-  one_meaning h k (unescaped_has_no_room short) (unescaped_has_no_room too) = (refl, refl)
-  one_meaning h k (is_unescaped room) (unescaped_has_no_room short) = absurd (omega (arith, room, short))
-  one_meaning h k (unescaped_has_no_room short) (is_unescaped room) = absurd (omega (arith, room, short))
+  one_meaning h k is is_too = search rules
 
 pub unescapes_to_one : UnescapesToOne
 unescapes_to_one value old =

@@ -1,5 +1,5 @@
 -- Each call has one outcome, unless memory runs out.
-use Rattle.std.proofs.Common.{◌≡◌, ◌≢◌, ℕ, ◌+◌, ◌*◌, ◌⊎◌, inl, inr, Bool, true, false, zero, suc, ◌<◌, ◌≤◌, List, length, take, refl, sym, ap, ◌∙◌, subst, arith, ⊎_elim}
+use Rattle.std.proofs.Common.{◌≡◌, ◌≢◌, ℕ, ◌+◌, ◌*◌, ◌⊎◌, inl, inr, Bool, true, false, zero, suc, ◌<◌, ◌≤◌, List, length, take, refl, sym, ap, ◌∙◌, subst, arith, ⊎_elim, rules}
 use mir.Val.{bool_byte}
 use Rattle.std.specs.Prelude.{IsTrue, ◌↔◌, if◌then◌else◌}
 use Rattle.std.specs.Str.{IsUtf8, IsValidUpTo, is_utf8}
@@ -11,10 +11,8 @@ use Rattle.mime.specs.Values.{MediaType, Reads}
 use Rattle.mime.specs.Comparison.{Same, media_cmp}
 use Rattle.mime.specs.Faults.{IsFault, Explains}
 use Rattle.mime.specs.declared.scan.fault.ParseError.{ParseError}
-use Rattle.mime.specs.declared.scan.fault.ParseError.TheVariants.{NoMemory}
 use Rattle.mime.proofs.HandedOut.{one_fault, rejected-from_fault, Explains-from_fault, one_reading, eq_by_cmp-tells, eq_by_cmp-same, accepted_or_rejected, has_cut, cut_unique}
-use Rattle.mime.specs.Cut.{CutItem}
-use Rattle.mime_c.specs.Strings.{strings, texts_of, item_texts, written}
+use Rattle.mime_c.specs.Strings.{strings, texts_of, written}
 use Rattle.mime_c.specs.Answers.{number_of, found_at, found_of, found_of_fault, Fails, is_rejected, is_not_text, ReadsTo, is_read, fails, has_no_room, ListsTo, is_listed, has_no_memory, Compares, are_read, first_fails, second_fails}
 use Rattle.mime_c.specs.Answers as answers
 use Rattle.mime_c.specs.Laws.{HasOne, ReadsToOne, ListsToOne, ComparesAsOne}
@@ -64,12 +62,10 @@ valid_up_to text isnt =
 
 -- `NoMemory` isn't a fault,
 is_fault : (text : List ℕ) (fault : ParseError) → Explains text fault → number_of fault ≢ MIME_NO_MEMORY → IsFault text fault
-is_fault text NoMemory why some = absurd (some refl)
-is_fault text fault why some = why
+is_fault text fault why some = search rules
 
 its_fault : (text : List ℕ) (fault : ParseError) → IsFault text fault → number_of fault ≢ MIME_NO_MEMORY
-its_fault text NoMemory is = absurd is.0
-its_fault text fault is = λ same. omega (arith, same)
+its_fault text fault is = search rules
 
 module _ {text : List ℕ} where
   -- a text that is read doesn't fail,
@@ -120,19 +116,7 @@ module _ {text old : List ℕ} where
 
   one_listing : {n m : ℕ} {new bytes : List ℕ} {size other : ℕ} → n ≢ MIME_NO_MEMORY → m ≢ MIME_NO_MEMORY
       → ListsTo text old n new size → ListsTo text old m bytes other → (m ≡ n) × ◌≡◌ {A = List ℕ × ℕ} (bytes, other) (new, size)
-  one_listing h k (has_no_memory some room utf8 needs) lists = absurd (h refl)
-  one_listing h k lists (has_no_memory some room utf8 needs) = absurd (k refl)
-  one_listing h k (is_listed items rest r u cut b) (is_listed others end q v too c) =
-      let same = (cut_unique text items rest cut others end too).0 in
-      (refl, ap (λ (it : List CutItem). (written (strings (item_texts it)) old, length (strings (item_texts it)))) same)
-  one_listing h k (is_listed items rest r utf8 cut b) (answers.ListsTo.is_not_text q isnt) = absurd (isnt utf8)
-  one_listing h k (answers.ListsTo.is_not_text r isnt) (is_listed items rest q utf8 cut b) = absurd (isnt utf8)
-  one_listing h k (answers.ListsTo.is_not_text r isnt) (answers.ListsTo.is_not_text q too) = (refl, refl)
-  one_listing h k (answers.ListsTo.has_no_room short) (answers.ListsTo.has_no_room too) = (refl, refl)
-  one_listing h k (answers.ListsTo.has_no_room short) (is_listed items rest room u c b) = absurd (omega (arith, short, room))
-  one_listing h k (answers.ListsTo.has_no_room short) (answers.ListsTo.is_not_text room isnt) = absurd (omega (arith, short, room))
-  one_listing h k (is_listed items rest room u c b) (answers.ListsTo.has_no_room short) = absurd (omega (arith, short, room))
-  one_listing h k (answers.ListsTo.is_not_text room isnt) (answers.ListsTo.has_no_room short) = absurd (omega (arith, short, room))
+  one_listing h k is is_too = search (rules, cut_unique)
 
 pub reads_to_one : ReadsToOne
 reads_to_one text old =

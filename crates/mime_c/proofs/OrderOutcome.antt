@@ -22,8 +22,7 @@ use Rattle.mime_c.proofs.HeaderOutcome.{header_of, same_header, empty_or_not}
 -- ---- what a list contains
 
 one_of : {X : Type 0} (x y : X) (xs : List X) → Contains (x ∷ xs) y → (x ≡ y) ⊎ Contains xs y
-one_of x y xs (zero, within, is) = inl is
-one_of x y xs (suc k, within, is) = inr (k, omega (arith, within), is)
+one_of x y xs is = search rules
 
 the_first : {X : Type 0} (x y : X) (xs : List X) → x ≡ y → Contains (x ∷ xs) y
 the_first x y xs is = (0, omega arith, is)

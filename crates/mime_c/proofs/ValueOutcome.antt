@@ -1,19 +1,17 @@
 -- Each call for one value has one outcome, unless memory runs out.
-use Rattle.std.proofs.Common.{◌≡◌, ◌≢◌, ℕ, ◌+◌, ◌*◌, ◌⊎◌, inl, inr, true, false, List, [], ◌∷◌, Option, Some, None, length, refl, sym, ap, ◌∙◌, subst, arith, ⊎_elim, codes, rules}
-use Rattle.std.specs.Prelude.{◌==◌, bytes_eq, IsSomeAnd}
+use Rattle.std.proofs.Common.{◌≡◌, ◌≢◌, ℕ, ◌+◌, ◌*◌, ◌⊎◌, inl, inr, List, [], ◌∷◌, length, refl, sym, ap, ◌∙◌, subst, arith, ⊎_elim, codes, rules}
+use Rattle.std.specs.Prelude.{bytes_eq}
 use Rattle.std.specs.List.{list_all}
 use Rattle.std.specs.Option.{option_map}
 use Rattle.std.specs.Str.{IsUtf8}
 use Rattle.std.proofs.lemmas.Bool.{cases_lt, cases_Bool, true≢false}
-use Rattle.std.proofs.lemmas.Bool.Decides.{nat_tests}
 use Rattle.std.proofs.lemmas.Option.{same_Some, none-some}
 use Rattle.std.proofs.lemmas.Slice.Eq.{bytes_eq-Decides}
 use Rattle.std.proofs.lemmas.Str.{utf8_valid_len-IsValidUpTo}
-use Rattle.mime.specs.Bytes.{is_token_byte, is_quoted_byte}
+use Rattle.mime.specs.Bytes.{is_quoted_byte}
 use Rattle.mime.specs.Grammar.{IsToken}
 use Rattle.mime.specs.Values.{MediaType, type_of}
 use Rattle.mime.specs.declared.scan.fault.ParseError.{ParseError}
-use Rattle.mime.specs.declared.scan.fault.ParseError.TheVariants.{NoMemory}
 use Rattle.mime.proofs.HandedOut.{kept_is_safe, kept_is_read}
 use Rattle.mime_http.specs.Boundary.{IsBoundary, IsBoundaryOf}
 use Rattle.mime_http.specs.HttpMediaType.{HttpReads, IsHttpMediaType}
@@ -43,8 +41,7 @@ use Rattle.mime_c.proofs.ParameterRoom.{set_comes_back, boundary_comes_back}
 
 -- `NoMemory` isn't a fault
 fault_is_one : (value : List ℕ) (fault : ParseError) → IsHttpFault value fault → number_of fault ≢ MIME_NO_MEMORY
-fault_is_one value NoMemory is = absurd is.0
-fault_is_one value fault is = λ same. omega (arith, same)
+fault_is_one value fault is = search rules
 
 not_both : (value : List ℕ) (error : FieldError) → number_of_error error ≢ MIME_NO_MEMORY → IsUtf8 value → IsHttpMediaType value
     → ¬ (HttpExplains value error)
@@ -176,9 +173,7 @@ boundary_is_one value old =
 -- ---- parameters: a name and a value are one or aren't
 
 token_or_not : (name : List ℕ) → IsToken name ⊎ ¬ (IsToken name)
-token_or_not [] = inr (λ is. is)
-token_or_not (b ∷ name) =
-    ⊎_elim inl (λ no. inr (λ is. true≢false (sym is ∙ no))) (cases_Bool (list_all is_token_byte (b ∷ name)))
+token_or_not name = search rules
 
 parameter_or_not : (name value : List ℕ) → IsParameter name value ⊎ ¬ (IsParameter name value)
 parameter_or_not name value = ⊎_elim

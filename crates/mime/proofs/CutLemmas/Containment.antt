@@ -1,5 +1,5 @@
 -- A comma ends whatever precedes it, and leaves what follows it as it is.
-use Rattle.std.proofs.Common.{◌≡◌, ℕ, suc, ◌≤◌, List, [], ◌∷◌, ◌++◌, length, take, drop, Some, None, refl, sym, ap, ◌∙◌, subst, arith, inl, inr, append_assoc, length-append}
+use Rattle.std.proofs.Common.{◌≡◌, ℕ, suc, ◌≤◌, List, [], ◌∷◌, ◌++◌, length, take, drop, Some, None, refl, sym, ap, ◌∙◌, subst, arith, inl, inr, append_assoc, length-append, rules}
 use Rattle.std.proofs.lemmas.List.{take-append-le, take-append-drop, take-take}
 use Rattle.std.proofs.lemmas.Bool.{and_parts, cond-false}
 use Rattle.std.proofs.lemmas.Bool.Decides.{nat_tests}
@@ -15,7 +15,7 @@ use Rattle.mime.specs.Values.{MediaType, IsAccepted}
 use Rattle.mime.specs.Faults.{IsViable, IsUnclosed}
 use Rattle.mime.specs.declared.scan.fault.ParseError.TheVariants.{MissingQuote}
 use Rattle.mime.proofs.GrammarLemmas.Faults.{completed_is_rejected}
-use Rattle.mime.specs.Cut.{is_following_byte, BeginsCharacter, IsCharacter, IsSplit, CutItem, good, ItemsOf, is_read, is_rejected, is_empty, Cut, whole, unfinished, goes_on, last, next, steps_of, TakesSteps}
+use Rattle.mime.specs.Cut.{is_following_byte, BeginsCharacter, IsCharacter, IsSplit, CutItem, good, ItemsOf, is_read, is_empty, Cut, whole, unfinished, goes_on, last, next, steps_of, TakesSteps}
 use Rattle.mime.specs.CutLaws.{OneCut, CutWritesText, IsItem, CutHasItems, OneCount, items_of_rest, CommaContains, joined, IsRead, kept_item, JoinedComesBack, is_separator, IsHttpList, no_element, separated, one_element, more_elements, HttpListIsCut}
 
 -- a text has exactly one cut
@@ -32,9 +32,7 @@ are_items-append (item ∷ items) others are more = (are.0, are_items-append ite
 
 -- the items of a viable piece
 are_items-of : (piece : List ℕ) (items : List CutItem) → IsViable piece → ItemsOf piece items → AllByRecursion IsItem items
-are_items-of piece items viable (is_read value reads) = (reads, tt)
-are_items-of piece items viable (is_rejected is some) = ((viable, is, some), tt)
-are_items-of piece items viable (is_empty none) = tt
+are_items-of piece items viable is = search rules
 
 -- each item of a cut is one
 pub cut_has_items : CutHasItems

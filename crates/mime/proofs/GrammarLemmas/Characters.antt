@@ -1,12 +1,12 @@
 -- Characters: the longest viable prefix ends between two, and what is passed after it is one.
-use Rattle.std.proofs.Common.{◌≡◌, ℕ, Bool, false, List, [], ◌∷◌, ◌++◌, Option, Some, None, refl, sym, ◌∙◌, subst, ◌+◌, ◌<◌, ◌≤◌, true, length, get_or, drop, ap, arith, ◌⊎◌, inl, inr, ⊎_elim, length-drop, zero, suc, take, append-nil, length-append, rules}
-use Rattle.std.proofs.lemmas.Bool.{cond_both, cond-false, cases_lt, and_parts}
+use Rattle.std.proofs.Common.{◌≡◌, ℕ, Bool, false, List, [], ◌∷◌, ◌++◌, Some, None, refl, sym, ◌∙◌, subst, ◌+◌, ◌<◌, ◌≤◌, true, length, get_or, drop, ap, arith, ◌⊎◌, inl, inr, ⊎_elim, length-drop, zero, suc, take, append-nil, length-append, rules}
+use Rattle.std.proofs.lemmas.Bool.{cases_lt, and_parts}
 use Rattle.std.specs.Prelude.{IsFalse, MatchOption, if◌then◌else◌, ◌==◌, IsTrue, ◌&&◌, ◌||◌, nat_le}
 use Rattle.std.specs.Option.{option_map}
 use Rattle.mime.specs.Bytes.{is_token_byte, slash_byte, semicolon_byte, equals_byte, quote_byte, space_byte, tab_byte}
 use Rattle.mime.specs.Grammar.{is_space}
 use Rattle.mime.specs.Inner.Quoted.{continues, awaits_after}
-use Rattle.mime.proofs.GrammarLemmas.Begun.{Closed, Begun, in_type, in_subtype, in_list, ListState, in_spaces, in_name, in_value, in_quotes, after_quotes, list_at, grow, grow_state, grow_list, BegunList, walk, walk_from}
+use Rattle.mime.proofs.GrammarLemmas.Begun.{Closed, Begun, in_type, in_list, in_quotes, list_at, grow, BegunList, walk, walk_from}
 use Rattle.std.proofs.lemmas.Bool.Decides.{nat_tests}
 use Rattle.std.proofs.lemmas.List.{drop_more}
 use Rattle.std.proofs.lemmas.Option.{none-some, same_Some, option_and_then_some, MatchOption-at_some}
@@ -42,46 +42,10 @@ pub record IsOpen (begun : Begun) : Type 0 where
   pub content : List ℕ
   pub is : begun ≡ in_list top sub (list_at closed (in_quotes spaces name content))
 
--- a state in open quotes is in an open quoted value
-open_at : (top sub : List ℕ) (closed : Closed) (n name content : List ℕ)
-    → IsOpen (in_list top sub (list_at closed (in_quotes n name content)))
-open_at top sub closed n name content =
-    record { top = top; sub = sub; closed = closed; spaces = n; name = name; content = content; is = refl }
-
--- where both tests fail nothing goes on
-neither : {X : Type 0} (P : X → Type 0) (first second : Bool) (x y : Option X) → IsFalse first → IsFalse second
-    → MatchOption (if first then x else (if second then y else None)) (Unit {0}) P
-neither P first second x y fails fails_too =
-    subst (λ o. MatchOption o (Unit {0}) P) (sym (cond-false first x _ fails ∙ cond-false second y None fails_too)) tt
-
--- from a state of a list a foreign byte leads nowhere, or from open quotes into open quotes
-grow_state-foreign : (top sub : List ℕ) (closed : Closed) (position : ListState) (b : ℕ) → IsForeign b
-    → MatchOption (grow_state closed position b) (Unit {0})
-    (λ next. IsOpen (in_list top sub (list_at closed position)) × IsOpen (in_list top sub next))
-grow_state-foreign top sub closed (in_spaces n) b foreign = neither _ _ _ _ _ foreign.space foreign.token
-grow_state-foreign top sub closed (in_name n name) b foreign = neither _ _ _ _ _ foreign.token foreign.equals
-grow_state-foreign top sub closed (in_value n name []) b foreign = neither _ _ _ _ _ foreign.token foreign.quote
-grow_state-foreign top sub closed (in_value n name (v ∷ value)) b foreign = neither _ _ _ _ _ foreign.token foreign.semicolon
-grow_state-foreign top sub closed (in_quotes n name content) b foreign =
-    cond_both (continues content b) _ _
-    (λ o. MatchOption o (Unit {0})
-    (λ next. IsOpen (in_list top sub (list_at closed (in_quotes n name content))) × IsOpen (in_list top sub next)))
-    (λ passes. (open_at top sub closed n name content, open_at top sub closed n name (content ++ (b ∷ []))))
-    (λ fails. neither _ false _ None _ refl foreign.quote)
-grow_state-foreign top sub closed (after_quotes n name content m) b foreign = neither _ _ _ _ _ foreign.space foreign.semicolon
-
 -- from any begun tree a foreign byte leads nowhere, or from open quotes into open quotes
 pub grow-foreign : (begun : Begun) (b : ℕ) → IsForeign b
     → MatchOption (grow begun b) (Unit {0}) (λ next. IsOpen begun × IsOpen next)
-grow-foreign (in_type []) b foreign = neither _ (is_token_byte b) false _ None foreign.token refl
-grow-foreign (in_type (t ∷ top)) b foreign = neither _ _ _ _ _ foreign.token foreign.slash
-grow-foreign (in_subtype top []) b foreign = neither _ (is_token_byte b) false _ None foreign.token refl
-grow-foreign (in_subtype top (s ∷ sub)) b foreign = neither _ _ _ _ _ foreign.token foreign.semicolon
-grow-foreign (in_list top sub list) b foreign =
-    elim (grow_list list b)
-    as (λ o. MatchOption o (Unit {0}) (λ next. IsOpen (in_list top sub list) × IsOpen (in_list top sub next))
-    → MatchOption (option_map (in_list top sub) o) (Unit {0}) (λ next. IsOpen (in_list top sub list) × IsOpen next))
-    [ None ↦ λ opens. opens | Some next ↦ λ opens. opens ] (grow_state-foreign top sub list.closed list.position b foreign)
+grow-foreign begun b foreign = search rules
 
 -- ---- bytes foreign to the grammar
 

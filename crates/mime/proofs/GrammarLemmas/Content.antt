@@ -1,5 +1,5 @@
 -- Quoted content: it is taken byte by byte, and what was taken and awaits no more is content.
-use Rattle.std.proofs.Common.{◌≡◌, ℕ, ◌≤◌, Bool, true, false, List, [], ◌∷◌, ◌++◌, refl, sym, ap, ◌∙◌, subst, arith}
+use Rattle.std.proofs.Common.{◌≡◌, ℕ, ◌≤◌, Bool, true, false, List, [], ◌∷◌, ◌++◌, refl, sym, ap, ◌∙◌, subst, arith, rules}
 use Rattle.std.specs.Prelude.{IsTrue, IsFalse, ◌==◌, ◌&&◌, not}
 use Rattle.std.specs.Char.{to_ascii_lowercase}
 use Rattle.std.specs.List.{list_all}
@@ -15,30 +15,25 @@ use Rattle.mime.specs.Inner.Quoted.{awaits_next, takes, takes_all, awaits_after,
 -- a quote is taken where a byte is awaited, and closes the value elsewhere
 takes-quote : (awaiting : Bool) → takes awaiting quote_byte ≡ awaiting
 unfolding is_quoted_byte
-takes-quote true = refl
-takes-quote false = refl
+takes-quote awaiting = search rules
 
 -- a byte past ASCII that isn't taken is 192 or above
 pub takes-high : (awaiting : Bool) (b : ℕ) → IsFalse (takes awaiting b) → 128 ≤ b → 192 ≤ b
 unfolding is_quoted_byte
-takes-high true b not_taken high = grind (arith, nat_tests)
-takes-high false b not_taken high = grind (arith, nat_tests)
+takes-high awaiting b not_taken high = search rules
 
 -- a value takes a byte exactly if it takes its lowercase letter
 takes-of_lowercase : (awaiting : Bool) (b : ℕ) → takes awaiting (to_ascii_lowercase b) ≡ takes awaiting b
 unfolding is_quoted_byte
-takes-of_lowercase true b = grind (arith, nat_tests)
-takes-of_lowercase false b = grind (arith, nat_tests)
+takes-of_lowercase awaiting b = search rules
 
 -- after a byte of a value another is awaited exactly if one is after its lowercase letter
 awaits_next-lowercase : (awaiting : Bool) (b : ℕ) → awaits_next awaiting (to_ascii_lowercase b) ≡ awaits_next awaiting b
-awaits_next-lowercase true b = refl
-awaits_next-lowercase false b = grind (arith, nat_tests)
+awaits_next-lowercase awaiting b = search rules
 
 -- what is taken closes nothing
 pub taken-closes_not : (awaiting : Bool) (b : ℕ) → IsTrue (takes awaiting b) → not awaiting && b == quote_byte ≡ false
-taken-closes_not true b taken = refl
-taken-closes_not false b taken = grind (arith, nat_tests)
+taken-closes_not awaiting b taken = search rules
 
 -- ---- quoted text and pairs
 

@@ -1,5 +1,5 @@
 -- Each rejected text has one fault, and a viable one has one completion.
-use Rattle.std.proofs.Common.{◌≡◌, ℕ, ◌+◌, ◌<◌, ◌≤◌, Bool, false, List, [], ◌∷◌, ◌++◌, length, drop, Some, None, refl, sym, ap, ◌∙◌, arith, append-nil, length-append, codes}
+use Rattle.std.proofs.Common.{◌≡◌, ℕ, ◌+◌, ◌<◌, ◌≤◌, Bool, false, List, [], ◌∷◌, ◌++◌, length, drop, Some, None, refl, sym, ap, ◌∙◌, arith, append-nil, length-append, codes, rules}
 use Rattle.std.proofs.Math.Seq.{drop-append_seam}
 use Rattle.std.proofs.lemmas.Bool.{false≢true, and_parts}
 use Rattle.std.proofs.lemmas.List.{drop-append-le}
@@ -157,8 +157,7 @@ one_completion text viable rejected =
 
 -- what a text lacks is its fault
 pub fault-from_lacks : (text : List ℕ) (fault : ParseError) → Lacks text fault → IsFault text fault
-fault-from_lacks text (InvalidToken pos byte) lacks = absurd lacks.0
-fault-from_lacks text other lacks = lacks
+fault-from_lacks text fault lacks = search rules
 
 -- a text has at most one position at fault
 dead_unique : (text : List ℕ) (pos at byte there : ℕ) → IsDeadAt text pos byte → IsDeadAt text at there

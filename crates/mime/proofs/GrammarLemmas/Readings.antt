@@ -1,5 +1,5 @@
 -- What a walk says of its text: which tree spells it, and that no other does.
-use Rattle.std.proofs.Common.{◌≡◌, ℕ, List, [], ◌∷◌, ◌++◌, Some, None, refl, sym, ap, ◌∙◌, append-nil}
+use Rattle.std.proofs.Common.{◌≡◌, ℕ, List, [], ◌∷◌, ◌++◌, Some, None, refl, sym, ap, ◌∙◌, append-nil, rules}
 use Rattle.std.proofs.lemmas.Bool.{cond-false}
 use Rattle.std.proofs.lemmas.Option.{same_Some, none-some, MatchOption-at_some}
 use Rattle.std.specs.Option.{option_and_then, option_map}
@@ -45,8 +45,7 @@ ended_list-begun_of closed (more n parameter rest) fine = ended_list-begun_of ((
 -- a semicolon ends a subtype
 grow-semicolon : (top sub : List ℕ) → IsToken sub → grow (in_subtype top sub) semicolon_byte ≡ Some (in_list top sub begun_list)
 unfolding is_token_byte
-grow-semicolon top [] token = absurd token
-grow-semicolon top (s ∷ sub) token = refl
+grow-semicolon top sub token = search rules
 
 -- the walk over a name and its equals sign, after spaces
 walk_list-named : (closed : Closed) (n name rest : List ℕ) → IsToken name
@@ -82,9 +81,7 @@ walk_list-parameter closed n (quoted name content m) fine =
 grow_state-closed : (closed : Closed) (n : List ℕ) (parameter : Parameter) → IsParameter parameter
     → grow_state closed (state_of n parameter) semicolon_byte ≡ close closed n parameter
 unfolding is_token_byte
-grow_state-closed closed n (plain name []) fine = absurd fine.1
-grow_state-closed closed n (plain name (v ∷ value)) fine = refl
-grow_state-closed closed n (quoted name content m) fine = refl
+grow_state-closed closed n parameter fine = search rules
 
 -- the walk over the text of a list
 walk_list-text : (closed : Closed) (list : Parameters) → AreParameters list
@@ -121,8 +118,7 @@ walk-head top sub rest top_token sub_token =
 -- a text may end in its subtype
 tree_of-subtype : (top sub : List ℕ) → IsToken sub
     → tree_of (in_subtype top sub) ≡ Some (record { top = top; sub = sub; tail = no_list })
-tree_of-subtype top [] token = absurd token
-tree_of-subtype top (s ∷ sub) token = refl
+tree_of-subtype top sub token = search rules
 
 -- the text of a well-formed tree is walked to that tree
 walk-text_of : (tree : SyntaxTree) → IsWellFormed tree

@@ -210,10 +210,7 @@ AreParameters-with_closed (item ∷ closed) rest before here =
 -- a list that ends in a state spells that state's text
 list_at_end-spelled : (position : ListState) → IsState position
     → MatchOption (list_at_end position) (Unit {0}) (λ rest. AreParameters rest × (text_of_list rest ≡ text_of_state position))
-list_at_end-spelled (in_spaces n) fine = (fine, refl)
-list_at_end-spelled (in_value n name (v ∷ value)) fine = ((fine.0, (fine.1, fine.2)), refl)
-list_at_end-spelled (after_quotes n name content m) fine = ((fine.0, (fine.1, fine.2, fine.3)), refl)
-list_at_end-spelled unfinished fine = tt
+list_at_end-spelled position fine = search rules
 
 -- the tree of a text that may end spells the text
 pub tree_of-spelled : (begun : Begun) → IsBegun begun

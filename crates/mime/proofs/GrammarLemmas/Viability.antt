@@ -21,8 +21,7 @@ use Rattle.mime.proofs.BytesLemmas.{slice_get-prefix}
 
 -- an option is none or some
 pub by_option : {X P : Type 0} (o : Option X) → (o ≡ None → P) → ((x : X) → o ≡ Some x → P) → P
-by_option None none some = none refl
-by_option (Some x) none some = some x refl
+by_option o none some = search rules
 
 -- ---- what may still become a media type
 

@@ -1,6 +1,6 @@
 -- What a key finds: at most one answer, and one if it decides each name.
-use Rattle.std.proofs.Common.{◌≡◌, ◌≢◌, true, false, ℕ, ◌⊎◌, inl, inr, Bool, List, [], ◌∷◌, Option, Some, None, refl, sym, ap, ◌∙◌, ⊎_elim}
-use Rattle.std.proofs.lemmas.Bool.Decides.{not_from_Decides, Decides-and}
+use Rattle.std.proofs.Common.{◌≡◌, ◌≢◌, true, false, ℕ, ◌⊎◌, Bool, List, [], ◌∷◌, Option, Some, None, refl, sym, ap, ◌∙◌, ⊎_elim, rules}
+use Rattle.std.proofs.lemmas.Bool.Decides.{Decides-and}
 use Rattle.std.proofs.lemmas.Option.{none-some, same_Some}
 use Rattle.std.proofs.lemmas.Slice.Eq.{bytes_eq-Decides}
 use Rattle.std.specs.Prelude.{◌&&◌}
@@ -14,13 +14,11 @@ use Rattle.mime.specs.Laws.{IsDecided, OneAnswer, HasAnswer}
 
 -- what a test decides is so or isn't
 decided_by : {P : Type 0} (test : Bool) → Decides test P → P ⊎ ¬ P
-decided_by true decides = inl (decides.0 refl)
-decided_by false decides = inr (not_from_Decides false decides refl)
+decided_by test decides = search rules
 
 -- what is so or isn't, and can't be otherwise, is so
 is_so : {P : Type 0} → P ⊎ ¬ P → ¬ (¬ P) → P
-is_so (inl p) never = p
-is_so (inr isnt) never = absurd (never isnt)
+is_so is never = search rules
 
 -- two answers that can't differ are the same
 same_answer : (one other : Option (List ℕ × Bool)) → ¬ (one ≢ other) → one ≡ other

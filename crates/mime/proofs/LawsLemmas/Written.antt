@@ -1,7 +1,7 @@
 -- The essence of a value and its parts, and what is written into a header.
 use Rattle.std.proofs.lemmas.Grind.{common_steps}
-use Rattle.std.proofs.Common.{◌≡◌, ℕ, ◌+◌, List, ◌∷◌, ◌++◌, length, drop, Option, Some, None, sym, ap, ◌∙◌, subst, refl, arith, zero, suc, ◌-◌, ◌<◌, Bool, true, false, [], take, append_assoc, append-nil}
-use Rattle.std.specs.Prelude.{slice_get, slice_range, unwrap_or, IsFalse, MatchOption, ◌==◌, ◌&&◌, not}
+use Rattle.std.proofs.Common.{◌≡◌, ℕ, ◌+◌, List, ◌∷◌, ◌++◌, length, drop, Option, Some, None, sym, ap, ◌∙◌, subst, refl, arith, zero, suc, ◌-◌, ◌<◌, Bool, true, false, [], take, append_assoc, append-nil, rules}
+use Rattle.std.specs.Prelude.{slice_get, slice_range, unwrap_or, IsFalse, MatchOption, ◌==◌}
 use Rattle.std.specs.Option.{option_map, IfSome}
 use Rattle.std.proofs.lemmas.List.{take-append-drop, drop_more, drop_all, length-drop}
 use Rattle.std.proofs.lemmas.List.Folds.{drop_split}
@@ -15,7 +15,7 @@ use Rattle.mime.proofs.ValueLemmas.ListText.{ended, drop_past}
 use Rattle.mime.proofs.ValueLemmas.Parts.{slash_in, plus_in, subtype_end}
 use Rattle.mime.proofs.GrammarLemmas.Readings.{one_reading, walk-accepted}
 use Rattle.std.specs.List.{AllByRecursion, list_all}
-use Rattle.std.proofs.lemmas.Bool.{and_parts, and_from, cond-false, true_from_ne_false}
+use Rattle.std.proofs.lemmas.Bool.{and_from, cond-false, true_from_ne_false}
 use Rattle.std.proofs.lemmas.Bool.Decides.{nat_tests}
 use Rattle.mime.specs.Grammar.{Parameter, plain, quoted, Parameters, blank, final, more, no_list, listed, SyntaxTree, AreTokenBytes, IsToken, IsContent, IsParameter, AreParameters, IsTail}
 use Rattle.mime.specs.HeaderLaws.{AreHeaderBytes, IsSafePair, KeptIsSafe, text_with_parameter, with_parameter, ParameterIsRead}
@@ -95,8 +95,7 @@ same_essence one other first second reads again = (
 
 -- it may occur in no quoted value
 unsafe-untaken : (awaiting : Bool) (b : ℕ) → IsFalse (is_quoted_byte b) → IsFalse (takes awaiting b)
-unsafe-untaken true b unsafe = unsafe
-unsafe-untaken false b unsafe = ap (λ t. t && not (b == quote_byte)) unsafe
+unsafe-untaken awaiting b unsafe = search rules
 
 -- a byte that a header doesn't have leads nowhere
 unsafe-dead : (begun : Begun) (b : ℕ) → IsFalse (is_quoted_byte b) → grow begun b ≡ None
@@ -163,8 +162,7 @@ subtype_some text value (Some p) reads is = omega (arith, (plus_in text value.es
 
 -- the suffix has token bytes
 suffix_bytes : (suffix : Option (List ℕ)) → AreTokenBytes (suffix_text suffix) → IfSome suffix AreTokenBytes
-suffix_bytes None all = tt
-suffix_bytes (Some suffix) all = (and_parts (is_token_byte plus_byte) _ all).1
+suffix_bytes suffix all = search rules
 
 -- a value that was read is safe in a header
 pub kept_is_safe : KeptIsSafe

@@ -1,5 +1,5 @@
 -- A text's type, subtype and parameter list as the scanner passes them: each part leads on from where the last one ended.
-use Rattle.std.proofs.Common.{◌≡◌, ℕ, ◌+◌, true, List, [], ◌∷◌, length, Option, Some, None, MatchOption, refl, sym, subst, ◌≢◌, ◌≤◌, ap, ◌∙◌, arith, ne_eqb, eq-eqb}
+use Rattle.std.proofs.Common.{◌≡◌, ℕ, ◌+◌, true, List, [], ◌∷◌, length, Option, Some, None, MatchOption, refl, sym, subst, ◌≢◌, ◌≤◌, ap, ◌∙◌, arith, eq-eqb, rules}
 use Rattle.std.specs.Prelude.{IsFalse, Bool, if◌then◌else◌, ◌==◌}
 use Rattle.std.specs.Option.{option_to_list}
 use Rattle.std.proofs.lemmas.Bool.{and_from, cond-true, cond-false}
@@ -123,8 +123,7 @@ only_semicolon : (class : ℕ → Bool) (left : List ℕ) (stop : Option ℕ) (g
     → MatchOption stop (left ≡ []) (λ b. IsFalse (class b))
     → MatchOption stop (left ≡ [])
     (λ b. b ≢ semicolon_byte → (if class b then go b else (if b == semicolon_byte then closed b else None)) ≡ None)
-only_semicolon class left None go closed s = s
-only_semicolon class left (Some b) go closed s = λ ne. cond-false (class b) _ _ s ∙ cond-false _ _ _ (ne_eqb b semicolon_byte ne)
+only_semicolon class left stop go closed s = search rules
 
 -- a plain value was walked
 pub valued_token : {closed : List (List ℕ × Parameter)} {spaces name : List ℕ} {old mid from new : Remaining} {b : ℕ} {stop : Option ℕ}

@@ -4,7 +4,7 @@ use Rattle.std.proofs.Common.{◌≡◌, ℕ, zero, suc, get_or, ◌+◌, ◌-�
 use Rattle.std.specs.Prelude.{IsTrue, IsFalse, not, ◌&&◌, MatchOption}
 use Rattle.std.specs.List.{list_all, prefix_len}
 use Rattle.std.specs.Option.{option_eq}
-use Rattle.std.proofs.lemmas.Bool.{and_from, and_parts, eqb-true, true≢false, not-true, false_from_ne_true}
+use Rattle.std.proofs.lemmas.Bool.{and_from, and_parts, true≢false, not-true, false_from_ne_true}
 use Rattle.std.proofs.lemmas.List.Folds.{list_all-append}
 use Rattle.std.proofs.lemmas.List.Sums.{prefix_len-le-length}
 use Rattle.std.proofs.Math.Seq.{drop-cons}
@@ -48,8 +48,7 @@ given_less g = omega (arith, g.counted, given_sum g)
 
 -- where the test holds, this byte stopped the pass
 pub stopped_by : (byte : ℕ) (stop : Option ℕ) → option_eq eqb stop (Some byte) ≡ true → stop ≡ Some byte
-stopped_by byte None test = absurd (true≢false (sym test))
-stopped_by byte (Some b) test = ap Some (eqb-true b byte test)
+stopped_by byte stop test = search rules
 
 -- a reader at a position in a text
 abbrev pub reader_at : List ℕ → ℕ → ℕ → Remaining
@@ -235,8 +234,7 @@ token_byte b is = (and_parts (is_token_byte b) _ is).0
 
 -- bytes without a plus are of both kinds of runs
 pub token_bytes-wider : (with_plus : Bool) (b : ℕ) → is_token_except_plus b ≡ true → token_bytes with_plus b ≡ true
-token_bytes-wider true b is = token_byte b is
-token_bytes-wider false b is = is
+token_bytes-wider with_plus b is = search rules
 
 no_plus : (at : ℕ) (xs : List ℕ) → IsTrue (list_all is_token_except_plus xs) → last_plus at xs ≡ None
 no_plus at [] all = refl

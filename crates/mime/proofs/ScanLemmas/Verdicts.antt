@@ -1,5 +1,5 @@
 -- The scanner's verdict where it stops: what was walked up to there, and what a text is that ends there.
-use Rattle.std.proofs.Common.{◌≡◌, ℕ, ◌+◌, ◌-◌, List, [], ◌∷◌, ◌++◌, length, Option, Some, None, MatchOption, refl, ap, ◌∙◌, arith, append-nil}
+use Rattle.std.proofs.Common.{◌≡◌, ℕ, ◌+◌, ◌-◌, List, [], ◌∷◌, ◌++◌, length, Option, Some, None, MatchOption, refl, ap, ◌∙◌, arith, append-nil, rules}
 use Rattle.std.specs.Option.{option_map}
 use Rattle.std.proofs.lemmas.List.{take_at}
 use Rattle.mime.specs.Grammar.{Parameter, Parameters, more, listed, SyntaxTree, text_of}
@@ -69,8 +69,7 @@ verdict_at (Some b) (Some positions) fault = Followed positions b
 -- that at a byte says of the text what is known of it
 judges-stop : (text : List ℕ) (count b : ℕ) (positions : Option Positions) (fault : ParseError) → StopsAt text count b positions
     → Judges text count (verdict_at (Some b) positions fault)
-judges-stop text count b None fault stops = stops
-judges-stop text count b (Some positions) fault stops = stops
+judges-stop text count b positions fault stops = search rules
 
 -- a text that is walked to a complete tree has that tree's positions
 has_positions : (text : List ℕ) (begun : Begun) (tree : SyntaxTree) → walk text ≡ Some begun → tree_of begun ≡ Some tree
@@ -146,8 +145,7 @@ positions_of_list-tree top sub list = at_end (list_at_end list.position)
 stopped_in_list : (top sub left : List ℕ) (list : BegunList) (stop : Option ℕ)
     → MatchOption stop (left ≡ []) (λ b. grow_list list b ≡ None)
     → MatchOption stop (left ≡ []) (λ b. grow (in_list top sub list) b ≡ None)
-stopped_in_list top sub left list None end = end
-stopped_in_list top sub left list (Some b) dead = ap (option_map (in_list top sub)) dead
+stopped_in_list top sub left list stop end = search rules
 
 -- the scanner's answer on a list where it stops
 pub list_scans_at : {before : Positions} {old new : Remaining} {stop : Option ℕ} {list : BegunList} (positions : Option Positions)

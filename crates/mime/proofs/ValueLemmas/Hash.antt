@@ -1,6 +1,6 @@
 -- What a value feeds a hasher: the last word of a part, and that what is fed is prefix-free.
 use Rattle.std.proofs.lemmas.Grind.{common_steps}
-use Rattle.std.proofs.Common.{◌≡◌, ℕ, zero, suc, ◌+◌, ◌-◌, ◌*◌, ◌/◌, ◌%◌, ◌^◌, ◌<◌, get_or, List, [], ◌∷◌, ◌++◌, length, take, drop, replicate, refl, sym, ap, ◌∙◌, arith, true, subst, append-nil, append_assoc, ⊎_elim}
+use Rattle.std.proofs.Common.{◌≡◌, ℕ, zero, suc, ◌+◌, ◌-◌, ◌*◌, ◌/◌, ◌%◌, ◌^◌, ◌<◌, get_or, List, [], ◌∷◌, ◌++◌, length, take, drop, replicate, refl, sym, ap, ◌∙◌, arith, true, subst, append-nil, append_assoc, ⊎_elim, rules}
 use Rattle.std.specs.Int.{byte_at, bytes_low_first, to_le_bytes, w64}
 use Rattle.std.proofs.Math.Nat.{pow-suc, mul_comm, div-div-eq-div-mul}
 use Rattle.std.proofs.lemmas.List.{append_assoc, append_cancel_left, take-append-drop}
@@ -166,8 +166,7 @@ pair_bytes pair = part_bytes pair.0 ++ part_bytes pair.1
 
 -- whole words feed their bytes, by one call if there are any
 fed_words : (words : List ℕ) (last : List ℕ) → concat (words_input words ++ (last ∷ [])) ≡ words ++ last
-fed_words [] last = append-nil last
-fed_words (b ∷ words) last = ap (λ end. b ∷ (words ++ end)) (append-nil last)
+fed_words words last = search rules
 
 -- a part feeds these
 fed_part_bytes : (part : List ℕ) → concat (part_input part) ≡ part_bytes part

@@ -1,6 +1,6 @@
 -- What a cut of a list is, and where its quoted content ends.
 use Rattle.std.proofs.lemmas.Grind.{common_steps}
-use Rattle.std.proofs.Common.{⊎_elim, ◌≡◌, ◌≢◌, ℕ, zero, suc, ◌+◌, ◌<◌, ◌≤◌, Bool, true, false, List, [], ◌∷◌, ◌++◌, length, get_or, drop, refl, sym, ap, ◌∙◌, ne_eqb, arith, ◌-◌, take, subst, append-nil, append_assoc, length-append}
+use Rattle.std.proofs.Common.{⊎_elim, ◌≡◌, ◌≢◌, ℕ, zero, suc, ◌+◌, ◌<◌, ◌≤◌, Bool, true, false, List, [], ◌∷◌, ◌++◌, length, get_or, drop, refl, sym, ap, ◌∙◌, arith, ◌-◌, take, subst, append-nil, append_assoc, length-append, rules}
 use Rattle.std.specs.Prelude.{IsTrue, ◌==◌, ◌&&◌, not, Option, Some, codes}
 use Rattle.std.specs.List.{position_or_len}
 use Rattle.std.specs.Char.{to_ascii_lowercase}
@@ -72,13 +72,11 @@ len_from-le awaiting (b ∷ text) =
 
 -- a byte before the first quote is no backslash, so none is awaited after it
 awaits_next-not_backslash : (awaiting : Bool) (b : ℕ) → b ≢ backslash_byte → awaits_next awaiting b ≡ false
-awaits_next-not_backslash true b other = refl
-awaits_next-not_backslash false b other = ne_eqb b backslash_byte other
+awaits_next-not_backslash awaiting b other = search rules
 
 -- a byte that is no quote closes nothing
 closes-not_at_other : (awaiting : Bool) (b : ℕ) → b == quote_byte ≡ false → not awaiting && b == quote_byte ≡ false
-closes-not_at_other true b other = refl
-closes-not_at_other false b other = other
+closes-not_at_other awaiting b other = search rules
 
 -- the first quote closes, if no byte is awaited at it: if no backslash precedes it
 first_quote : (awaiting : Bool) (text : List ℕ) (n : ℕ) → n ≡ position_or_len (λ b. b == quote_byte) text → (n ≡ 0 → awaiting ≡ false)
@@ -209,14 +207,11 @@ lowered_within-in_part (suc count) list =
 -- the first pair, and the others
 pub pairs_within-first : (count : ℕ) (list : List ℕ) → count ≢ 0
     → pairs_within count list ≡ ((cut_of list).name, (cut_of list).value) ∷ pairs_within (count - 1) (cut_of list).rest
-pairs_within-first zero list some = absurd (some refl)
-pairs_within-first (suc count) list some =
-    ap (λ (left : ℕ). ((cut_of list).name, (cut_of list).value) ∷ pairs_within left (cut_of list).rest) (omega arith)
+pairs_within-first count list some = search rules
 
 -- a cut keeps the name before the equals sign
 pub cut_after_equals-name : (size : ℕ) (name text : List ℕ) → (cut_after_equals size name text).name ≡ name
-cut_after_equals-name size name [] = refl
-cut_after_equals-name size name (b ∷ back) = cond_both (b == quote_byte) _ _ (λ (cut : PairCut). cut.name ≡ name) (λ _. refl) (λ _. refl)
+cut_after_equals-name size name text = search rules
 
 -- a part of a cut by the name and what follows the equals sign is that of the whole cut
 pub cut_of-part : {X : Type 0} (part : PairCut → X) (list name back : List ℕ) (size : ℕ) (x : X) → size ≡ length list

@@ -54,8 +54,7 @@ last_plus-is_last text below from (b ∷ bytes) above view =
 
 -- a byte after the first of a list
 slice_get-drop : (bytes : List ℕ) (i : ℕ) → slice_get bytes (suc i) ≡ slice_get (drop 1 bytes) i
-slice_get-drop [] i = refl
-slice_get-drop (b ∷ bytes) i = refl
+slice_get-drop bytes i = search rules
 
 -- the plus of a value is the last one
 pub plus_is_last : PlusIsLast

@@ -1,8 +1,6 @@
 -- What reading a text answers, and that the constant media types are stored with their positions.
-use Rattle.std.proofs.Common.{◌≡◌, ℕ, List, [], ◌∷◌, refl, sym, ap, ◌∙◌, subst, ◌+◌, length, take, drop, Option, Some, None, codes}
-use Rattle.std.specs.Prelude.{◌≤◌, Result, Ok, Err, IfErr, IsOk, codes, unwrap_or}
-use Rattle.std.proofs.Math.Nat.{lt_of_not-le}
-use Rattle.std.proofs.lemmas.Bool.{false≢true}
+use Rattle.std.proofs.Common.{◌≡◌, ℕ, List, [], ◌∷◌, refl, sym, ap, ◌∙◌, subst, ◌+◌, length, take, drop, Option, Some, None, codes, rules}
+use Rattle.std.specs.Prelude.{◌≤◌, Result, IfErr, IsOk, codes, unwrap_or}
 use Rattle.mime.specs.Bytes.{is_token_byte, space_byte}
 use Rattle.mime.specs.Grammar.{SyntaxTree, no_list, plain, final, Tail, listed, text_of, IsToken, IsTail}
 use Rattle.mime.specs.Values.{value_of, IsAccepted, IsRejected, lowered_tree}
@@ -27,9 +25,7 @@ accepted-from_positions text positions has = (value_of has.tree, reads_as has re
 -- running out of memory is explained if the text is accepted, and a short one never runs out
 pub Explains-no_memory : {T : Type 0} (text : List ℕ) (result : Result T ParseError) → IsAccepted text → (length text ≤ 40 → IsOk result)
     → IfErr result (λ error. error ≡ NoMemory) → IfErr result (λ error. Explains text error)
-Explains-no_memory text (Ok value) accepted short memory = tt
-Explains-no_memory text (Err error) accepted short memory = subst (Explains text) (sym memory)
-    (accepted, lt_of_not-le (λ few. absurd (false≢true (short few))))
+Explains-no_memory text result accepted short memory = search rules
 
 -- a text with a fault is rejected
 pub rejected-from_fault : (text : List ℕ) (fault : ParseError) → IsFault text fault → IsRejected text
@@ -38,8 +34,7 @@ rejected-from_fault text other fault = completed_is_rejected text other fault
 
 -- a fault explains a fault
 pub Explains-from_fault : (text : List ℕ) (fault : ParseError) → IsFault text fault → Explains text fault
-Explains-from_fault text NoMemory fault = absurd fault.0
-Explains-from_fault text other fault = fault
+Explains-from_fault text fault is = search rules
 
 -- the tail of a constant's text: a charset where there is a semicolon
 abbrev tail_at : Option ℕ → Tail
@@ -49,8 +44,7 @@ tail_at (Some semicolon) = listed (final (space_byte ∷ []) (plain (codes "char
 -- the tail of a constant's text is well formed
 is_tail : (semicolon : Option ℕ) → IsTail (tail_at semicolon)
 unfolding is_token_byte
-is_tail None = tt
-is_tail (Some semicolon) = (refl, (refl, refl))
+is_tail semicolon = search rules
 
 -- the tree of a constant's text
 abbrev tree_in : List ℕ → SyntaxTree

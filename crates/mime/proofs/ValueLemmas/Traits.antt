@@ -1,6 +1,6 @@
 -- The order of values, with the laws of `Before` and `Same`, and two iterators that std's `eq` compares.
 use Rattle.std.proofs.lemmas.Grind.{common_steps}
-use Rattle.std.proofs.Common.{arith, length, slice_index, take, zero, suc, ℕ, ◌≡◌, ◌<◌, ◌⊎◌, inl, inr, ⊎_elim, Bool, true, false, IsTrue, ◌↔◌, List, [], ◌∷◌, refl, sym, ap, ◌∙◌, subst, true≢false, Option, None, Some}
+use Rattle.std.proofs.Common.{arith, length, slice_index, take, zero, suc, ℕ, ◌≡◌, ◌<◌, ◌⊎◌, inl, inr, ⊎_elim, Bool, true, false, IsTrue, ◌↔◌, List, [], ◌∷◌, refl, sym, ap, ◌∙◌, subst, true≢false, Option, rules}
 use Rattle.std.specs.declared.cmp.Ordering.{Ordering}
 use Rattle.std.specs.declared.cmp.Ordering.TheVariants.{Less, Equal, Greater}
 use Rattle.std.specs.Cmp.{IsTotalOrder, tied_itself, nat_cmp_is, nat_cmp_total, ranked}
@@ -33,11 +33,7 @@ exact {cmp = cmp} total same x y = (same x y, λ is. ap (cmp x) (sym is) ∙ tie
 -- what two orders find, one after the other
 finds_then : {X : Type 0} (x y : X) (P Q : Type 0) (a b : Ordering) → (a ≡ Less) ↔ P → (a ≡ Equal) ↔ (x ≡ y) → (b ≡ Less) ↔ Q
     → (ordering_then a b ≡ Less) ↔ (P ⊎ ((x ≡ y) × Q))
-finds_then x y P Q Less b less equal rest = (λ is. inl (less.0 refl), λ _. refl)
-finds_then x y P Q Equal b less equal rest =
-    (λ is. inr (equal.0 refl, rest.0 is), ⊎_elim (λ first. absurd (let e = less.1 first in cc)) (λ both. rest.1 both.1))
-finds_then x y P Q Greater b less equal rest =
-    (λ is. inl (less.0 is), ⊎_elim less.1 (λ both. absurd (let e = equal.1 both.0 in cc)))
+finds_then x y P Q a b less equal rest = search rules
 
 -- the order of lists finds less what is before, if that of their items does
 finds_lists : {X : Type 0} (cmp : X → X → Ordering) (IsLess : X → X → Type 0) → Finds cmp IsLess → Exact cmp
@@ -123,9 +119,7 @@ one_order x y = go (media_cmp x y) (tells_media x y)
 
 -- an order that isn't equal is decided
 decided : (order rest : Ordering) → ¬ (order ≡ Equal) → ordering_then order rest ≡ order
-decided Less rest some = refl
-decided Equal rest some = absurd (some refl)
-decided Greater rest some = refl
+decided order rest some = search rules
 
 -- texts are ordered by the bytes at which they first differ,
 pub ordered_by_difference : (xs ys : List ℕ) (k : ℕ) → k < length xs → k < length ys → DifferAt xs ys 0 k
@@ -164,11 +158,7 @@ module _ {A B : Type 0} (seen : A → B) (eq : A → A → Bool) (agrees : (x y 
   Last o p = MatchOption o (MatchOption p (r ≡ true) (λ _. r ≡ false)) (λ x. (r ≡ false) × IfSome p (λ y. eq x y ≡ false))
 
   at_last : (o p : Option A) (s t u w : List B) → Steps s o u → Steps t p w → Last o p → IsTrue r ↔ (s ≡ t)
-  at_last None None s t u w one other last = (λ _. one.0 ∙ sym other.0, λ _. last)
-  at_last None (Some y) s t u w one other last = (λ yes. absurd cc, λ same. absurd (let e = sym one.0 ∙ same ∙ other in cc))
-  at_last (Some x) None s t u w one other (unequal, _) = (λ yes. absurd cc, λ same. absurd (let e = sym one ∙ same ∙ other.0 in cc))
-  at_last (Some x) (Some y) s t u w one other (unequal, differ) =
-      (λ yes. absurd cc, λ same. absurd (true≢false (sym ((agrees x y).1 (cons_parts (sym one ∙ same ∙ other)).0) ∙ differ)))
+  at_last o p s t u w one other last = search rules
 
   along : (xs ys : List A) (o p : Option A) (s t u w : List B) → YieldsThen Steps s xs o u → YieldsThen Steps t ys p w
       → AllZip (λ x y. eq x y ≡ true) xs ys → Last o p → IsTrue r ↔ (s ≡ t)
