@@ -25,7 +25,7 @@ pub(crate) enum BadOffer {
 pub(crate) fn read_offers(alloc: Global, mut arguments: Args) -> Result<Vec<Mime>, BadOffer>
     ensures { MatchResult result
         (λ offers. AreOffers (map string_bytes (drop 1 (take (into_iter_len arguments) (into_iter_items arguments)))) []
-            (Ok (map (λ offer. offer.media) (vec_items offers))))
+        (Ok (map (λ offer. offer.media) (vec_items offers))))
         (λ error. AreOffers (map string_bytes (drop 1 (take (into_iter_len arguments) (into_iter_items arguments)))) [] (Err error)) }
 {
     let _program = arguments.next();
