@@ -138,15 +138,14 @@ pub fn same_essence()
 {}
 
 /// A value that was read is safe in a header (RFC 7230, 3.2): each byte of its kept text is a tab, or from 32 to 255
-/// and not 127, so there is no line feed, carriage return or zero. Its type, its subtype and its names are tokens, its
+/// and not 127, so there is no line feed, carriage return or byte 0. Its type, its subtype and its names are tokens, its
 /// suffix a token or empty, and its values quoted content: in `a/b; p="x y"` the value `x y`.
 pub fn kept_is_safe()
     ensures { KeptIsSafe }
 {}
 
-/// The essence of a value that was read, followed by `; `, a token, an equals sign and quoted content in its quotes, is
-/// read as the value with only that parameter: `a/b; P="X"` as `a/b` with the parameter `p`, whose value is `X` (RFC
-/// 7231, 3.1.1.1).
+/// If `; ` and a parameter with a quoted value follow the essence of a value that was read, they are read as this essence
+/// with only this parameter: `a/b; P="X"` is read as `a/b` with the parameter `p`, whose value is `X` (RFC 7231, 3.1.1.1).
 #[tactic(auto, using(crate::proofs::LawsLemmas::Written::parameter_is_read))]
 pub fn parameter_is_read()
     ensures { ParameterIsRead }

@@ -195,7 +195,8 @@ fn cmp(values: &[Mime], others: &[Mime], rounds: usize) -> usize {
     sum!(rounds, (mime, other) in values.iter().zip(others) => mime.cmp(other).is_lt() as usize)
 }
 
-/// Hashes by the default hasher of a map. The result is how often the hash isn't 1, since the hashes of the two libraries differ.
+/// Hashes with the default hasher of a map. Returns how many hashes aren't 1, since the hashes of the two libraries differ, and their
+/// results must be equal.
 #[inline(never)]
 fn hash(values: &[Mime], rounds: usize) -> usize {
     sum!(rounds, mime in values => {

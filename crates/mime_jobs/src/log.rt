@@ -179,7 +179,8 @@ fn skewed(random: &mut Random) -> usize {
     one * one / VALUES
 }
 
-/// Counts the lines of one log. Each fourth line isn't counted, but is an entry of a list of three.
+/// Counts the media types in the lines of one log. Every fourth line isn't counted, but added to a list, which is read and emptied at every
+/// twelfth line.
 fn one_log(
     alloc: Global,
     values: &mut [Value],

@@ -188,7 +188,7 @@ impl<'a> ByteReader<'a> {
         }
     }
 
-    /// Skips a token's bytes by a call, and returns the byte after them, if there is one.
+    /// Skips a token's bytes by a call that isn't inlined, and returns the byte after them, if there is one.
     #[inline(always)]
     pub(crate) fn next_far(&mut self, with_plus: bool) -> Option<u8>
         ensures reaches { Reaches (token_bytes with_plus) self.old self.new result }
@@ -276,8 +276,8 @@ impl<'a> ByteReader<'a> {
         self.before + self.at as u128
     }
 
-    /// Returns the position of the byte that was read last, in bytes from 0. `from` is the count at the start of the
-    /// string.
+    /// Returns the position, in bytes from 0, of the byte that was read last. `from` is what `count` returned at the start
+    /// of the string.
     #[inline(always)]
     pub(crate) fn position(&self, from: u128) -> usize
         requires given { from < self.now.count }

@@ -126,8 +126,8 @@ fn cut_value<'a>(list: usize, name: &'a str, end: &Rest<'a>) -> Pair<'a>
     }
 }
 
-/// Returns a list without its leading spaces and tabs. Each branch calls `after` itself, so that the first two add
-/// constants.
+/// Returns a list without its leading spaces and tabs. Each branch has its own call of `after`, so that the first two
+/// skip a constant number of bytes.
 #[inline(always)]
 fn without_spaces<'a>(list: &Rest<'a>) -> Rest<'a>
     ensures { result ≡ without_spaces list.now }
