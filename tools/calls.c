@@ -100,8 +100,9 @@ static void make(void)
 static void check(int is_so)
 {
     if (!is_so)
-        errx(1, "%s of %.*s, %.*s, %.*s: answer %u, in %zu bytes, with request %zu refused, or what it finds or writes, is wrong", names[call],
-             (int)in[0].len, in[0].bytes, (int)in[1].len, in[1].bytes, (int)in[2].len, in[2].bytes, answer, out_len, refused_at);
+        errx(1, "%s of %.*s, %.*s, %.*s: answer %u, in %zu bytes, with request %zu refused, or what it finds or writes, is wrong",
+             names[call], (int)in[0].len, in[0].bytes, (int)in[1].len, in[1].bytes, (int)in[2].len, in[2].bytes, answer, out_len,
+             refused_at);
 }
 
 /* How many bytes the call has written, from the start of its buffer on, or less. */

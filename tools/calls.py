@@ -237,4 +237,6 @@ def holds(words, texts):
     except AssertionError as error:
         print(*traceback.TracebackException.from_exception(error, limit=-1, capture_locals=True).format(), sep="")
         return told(f"calls of {words[-1]}", False)
+    except OSError as error:
+        return told(f"calls of {words[-1]}", False, f": {error}")
     return told(f"calls of {words[-1]} on {count} texts", True)
