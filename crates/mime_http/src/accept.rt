@@ -1,4 +1,4 @@
-//! An `Accept` header, read once, and its choice among a server's offers.
+//! Reads an `Accept` header once, and chooses among a server's offers.
 
 ghost use Rattle.std.specs.Prelude.{◌≡◌, ◌≢◌, ◌<◌, true, [], ◌∷◌, ◌++◌, map, length, if◌then◌else◌, IfSome, IsOk, IfOk, OnOk};
 ghost use Rattle.std.specs.Str.{IsAscii, IsUtf8};
@@ -48,7 +48,7 @@ impl Accept {
         Ok(())
     }
 
-    /// Adds a bad entry if `keeps_bad`. It isn't inlined, since few entries are bad.
+    /// Adds a bad entry if `keeps_bad`. This function isn't inlined, since few entries are bad.
     #[inline(never)]
     fn take_bad(&mut self, alloc: Global, keeps_bad: bool, entry: &[u8]) -> Result<(), AllocError>
         ensures { OnOk result (self.new
@@ -60,8 +60,8 @@ impl Accept {
         Ok(())
     }
 
-    /// Adds a piece of a line. `fault` is the fault for which `mime` rejects the piece without the white space around it. It isn't inlined,
-    /// so that the code for pieces that `mime` accepts stays short.
+    /// Adds a piece of a line. `fault` is the fault or `NoMemory` that `mime` returns for the piece without the white space around it. This
+    /// function isn't inlined, so that the code for pieces that `mime` accepts stays short.
     #[inline(never)]
     #[tactic(auto, using(crate::proofs::Around::utf8_around))]
     fn take_rejected(
@@ -137,7 +137,8 @@ impl Accept {
         }
     }
 
-    /// Reads a header's lines. Keeps the bad entries if `keeps_bad`. It isn't inlined, so that its two callers share one copy of the loop.
+    /// Reads a header's lines. Keeps the bad entries if `keeps_bad`. This function isn't inlined, so that its two callers share one copy of
+    /// the loop.
     #[inline(never)]
     fn read(alloc: Global, lines: &[&[u8]], keeps_bad: bool) -> Result<Accept, AllocError>
         ensures header { IfOk result (λ accept. (header : Header) × IsHeader (map (λ line. line.now) lines.now) header
@@ -201,9 +202,9 @@ impl Accept {
     }
 
     /// Returns the weight of an offer, in thousandths: the weight of the most specific range that covers it, or 0 if no range covers it
-    /// (RFC 9110, 12.5.1). Of two equally specific ranges, the higher weight counts. [`covers`](crate::covers) defines what a range covers:
-    /// the offer `application/json` weighs 0 for the range `application/json; charset=utf-8`, which demands the parameter. This doesn't
-    /// allocate.
+    /// (RFC 9110, 12.5.1). Of two equally specific ranges, the higher weight counts. [`covers`](crate::covers) defines what a range covers.
+    /// If the only range is `application/json; charset=utf-8`, the offer `application/json` weighs 0, since it lacks the parameter. This
+    /// doesn't allocate.
     pub fn weight(&self, offer: &Mime) -> u16
         ensures { result ≡ given_weight self.now.ranges offer.now.media }
     {
@@ -211,10 +212,10 @@ impl Accept {
     }
 
     /// Returns the position of the offer with the highest weight, or `None` exactly if every offer weighs 0. Of offers with equal weights,
-    /// the best is the one whose range is more specific (it names more parts, then more parameters), then the one whose range is first in
-    /// the header, then the first offer. If two ranges are equally specific for an offer and have the same weight, the later one counts. If
-    /// the result is `None`, reply with 406 (RFC 9110, 15.5.7). Every reply depends on the header, so send `Vary: Accept` (12.5.5). This
-    /// doesn't allocate.
+    /// the best is the offer with the more specific range: the range that names more parts or, if both name as many, more parameters. If
+    /// this decides nothing, the best is the offer whose range is earlier in the header, or else the first offer. If two ranges are equally
+    /// specific for an offer and have the same weight, the later one counts. If the result is `None`, reply with 406 (RFC 9110, 15.5.7).
+    /// Every reply depends on the header, so send `Vary: Accept` (12.5.5). This doesn't allocate.
     pub fn best(&self, offers: &[Mime]) -> Option<usize>
         ensures exact { result ≡ best_offer self.now.ranges (map (λ offer. offer.media) offers.now) }
         ensures within { IfSome result (λ at. at < length offers.now) }
@@ -222,7 +223,7 @@ impl Accept {
         best_of(&self.ranges, offers)
     }
 
-    /// Returns the positions of all offers that weigh more than 0, the best first. Offers are compared as by [`Accept::best`], which
+    /// Returns the positions of all offers that weigh more than 0, the best first. Offers are compared as in [`Accept::best`], which
     /// returns the first of these positions. It allocates the positions and, while it runs, a list of the offers' ranks.
     ///
     /// # Errors

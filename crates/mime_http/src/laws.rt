@@ -1,4 +1,4 @@
-//! The laws of the definitions and of `FieldError`, as functions: a caller that calls one can use its law in its own proof.
+//! The laws of the definitions and of `FieldError`, as functions. A caller of such a function can use the law in its own proof.
 
 ghost use Rattle.std.specs.Prelude.{◌≡◌};
 ghost use Rattle.mime_http.specs.HeaderLaws.{PlainIsHttp, OneHttpReading, OnePrintedText, PrintedIsRead, OneHttpFault};
@@ -14,8 +14,8 @@ pub fn plain_is_http()
     ensures { PlainIsHttp }
 {}
 
-/// A value is read as at most one media type, even if it has several parse trees. In `a/b; ;p=x` the space is after the first semicolon or
-/// before the second.
+/// A value is read as at most one media type, even if it has several parse trees. The space of `a/b; ;p=x` can belong to the first
+/// semicolon or to the second.
 pub fn one_http_reading()
     ensures { OneHttpReading }
 {}
@@ -37,7 +37,7 @@ pub fn one_http_fault()
     ensures { OneHttpFault }
 {}
 
-/// Lines can be cut into pieces in exactly one way. `a/b;p="x,y",c/d` is cut into two.
+/// Lines can be cut into pieces in exactly one way. `a/b;p="x,y",c/d` is cut into two pieces.
 #[tactic(auto, using(crate::proofs::Cuts::one_cut))]
 pub fn one_cut()
     ensures { OneCut }
@@ -84,7 +84,7 @@ pub fn best_is_acceptable()
     ensures { BestIsAcceptable }
 {}
 
-/// The best offer is the first in the order of all that weigh more than 0.
+/// The best offer is the first in the order of all offers that weigh more than 0.
 #[tactic(auto, using(crate::proofs::Order::best_is_first))]
 pub fn best_is_first()
     ensures { BestIsFirst }
@@ -96,8 +96,8 @@ pub fn covers_itself()
     ensures { CoversItself }
 {}
 
-/// Whether a range covers an offer, and how specific it is, depends on what both mean: `a/b;p="\x"` covers `a/b;p=x` just as `a/b;p=x`
-/// does (RFC 9110, 5.6.4).
+/// Whether a range covers an offer, and how specific it is, depends on what their values mean: `a/b;p="\x"` covers `a/b;p=x` just as
+/// `a/b;p=x` does (RFC 9110, 5.6.4).
 #[tactic(auto, using(crate::proofs::Demanded::meaning_counts))]
 pub fn meaning_counts()
     ensures { MeaningCounts }

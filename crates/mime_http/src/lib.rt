@@ -1,8 +1,8 @@
-//! Reads and writes media types in HTTP headers for servers, as RFC 9110 defines them. This library uses `mime`, whose `from_str` rejects
-//! some values that HTTP allows. The promises of this library are contracts that a prover checks.
+//! Reads and writes media types in HTTP headers for servers, as RFC 9110 defines them. It uses the library `mime`, but also reads the
+//! values that HTTP allows and `mime` rejects. The promises of this library are contracts that a prover checks.
 //!
 //! [`content_type`] reads the bytes of a header's value, such as that of a `Content-Type`. [`Accept`] reads the lines of an `Accept`
-//! header, weighs a server's offers, and returns the best offer, or all acceptable offers in order. [`covers`] and [`weight_of`] are for a
+//! header, weighs a server's offers, and returns the best offer, or all acceptable offers in order. [`covers`] and [`weight_of`] examine a
 //! single range. [`with_parameter`], [`with_charset`] and [`with_boundary`] write parameters. [`boundary`] and [`unescape`] read them.
 //! [`laws`] states facts about all values.
 //!
@@ -31,14 +31,12 @@
 //! }
 //! ```
 //!
-//! # Errors
-//! A value that isn't a media type is rejected with its one fault: what is missing at its end, or the first byte that can't continue a
-//! media type, with its position in the bytes that were passed. White space may follow a media type, so in `a/b c` the `c` is at fault. In
-//! `text `, the space is at fault. Positions count bytes from 0.
+//! # Errors A value that isn't a media type is rejected with its one fault. The fault is what is missing at the value's end, or the first
+//! byte that can't continue a media type, with that byte's position in the value. White space may follow a media type, so in `a/b c` the
+//! `c` is at fault. In `text `, the space is at fault. Positions count bytes from 0.
 //!
-//! # Standards
-//! Values are as in RFC 9110 (8.3.1, 5.6.3, 5.6.4 and 5.6.6), and must be UTF-8: other non-ASCII bytes (obs-text) are rejected. A
-//! parameter's value keeps its backslashes, as in `mime`. [`unescape`] removes them.
+//! # Standards Values follow the grammar of RFC 9110 (8.3.1, 5.6.3, 5.6.4 and 5.6.6), and must be UTF-8: other non-ASCII bytes (obs-text)
+//! are rejected. A parameter's value keeps its backslashes, as in `mime`. [`unescape`] removes them.
 #![tactic(auto)]
 
 mod accept;

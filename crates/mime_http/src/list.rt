@@ -10,13 +10,13 @@ ghost use Rattle.mime_http.specs.LineCut.{Outside, Quoted, IsNextOutside, before
 use mime_search::{Class, content_end, first_stop};
 use std::simd::prelude::*;
 
-/// Returns the position of the first comma or equals sign at or after `from`, or the length of the line.
+/// Returns the position of the first comma or equals sign at or after `from`, or the length of the line if there is neither.
 #[inline(always)]
 fn next_outside(line: &[u8], from: usize) -> usize
     requires { from < length line.now }
     ensures { IsNextOutside line.now from result }
 {
-    // This is faster for an equals sign before a quoted string, and for equals signs in a row.
+    // This test is faster for an equals sign before a quoted string, and for equals signs in a row.
     if line[from] == b'=' {
         return from;
     }
@@ -37,8 +37,8 @@ fn string_end(line: &[u8], from: usize) -> usize
     if end < line.len() { end + 1 } else { end }
 }
 
-/// Returns the length of a line's first piece. `quote` is the position of a quote, and neither a comma nor a quote is before it. It isn't
-/// inlined, since few pieces have a quote.
+/// Returns the length of a line's first piece. `quote` is the position of the line's first quote, and no comma is before that. This
+/// function isn't inlined, since few pieces have a quote.
 #[inline(never)]
 #[tactic(auto, using(crate::proofs::Cuts::ends_outside, crate::proofs::Cuts::string_opens, crate::proofs::Cuts::outside_byte))]
 fn quoted_piece_len(line: &[u8], quote: usize) -> usize
@@ -58,7 +58,7 @@ fn quoted_piece_len(line: &[u8], quote: usize) -> usize
             return at;
         }
         at += 1;
-        // A quote opens a string only right after an equals sign.
+        // A quote opens a quoted string only right after an equals sign.
         if at < line.len() && line[at] == b'"' {
             at = string_end(line, at + 1);
         }
@@ -66,7 +66,7 @@ fn quoted_piece_len(line: &[u8], quote: usize) -> usize
     at
 }
 
-/// Returns `true` if the piece of a line that begins at `from` is empty and is followed by a comma.
+/// Returns `true` if a comma is at `from`, so that a line's piece that begins there is empty.
 #[inline(always)]
 pub(crate) fn is_empty_piece(line: &[u8], from: usize) -> bool
     ensures { result ≡ true → (from < length line.now) × (slice_index line.now from ≡ comma_byte) }
@@ -74,8 +74,8 @@ pub(crate) fn is_empty_piece(line: &[u8], from: usize) -> bool
     from < line.len() && line[from] == b','
 }
 
-/// Returns the end of the piece of a line that begins at `from`: the position of the first comma outside quoted strings, or the length of
-/// the line.
+/// Returns the end of a line's piece that begins at `from`: the position of the first comma outside quoted strings, or the length of the
+/// line.
 #[inline(always)]
 pub(crate) fn piece_end(line: &[u8], from: usize) -> usize
     requires { from ≤ length line.now }
@@ -97,7 +97,8 @@ pub(crate) fn is_space(byte: u8) -> bool
     byte == b' ' || byte == b'\t'
 }
 
-/// Returns a piece without the white space at its start. It isn't inlined, since most pieces begin with no white space, or with one space.
+/// Returns a piece without the white space at its start. This function isn't inlined, since most pieces begin with no white space, or with
+/// one space.
 #[inline(never)]
 fn trim_spaces(piece: &[u8]) -> &[u8]
     ensures { result.now ≡ trim_start piece.now }
@@ -156,7 +157,7 @@ pub(crate) fn is_short_ascii(line: &[u8]) -> bool
     is_ascii_block(line, last)
 }
 
-/// Returns a piece without the white space at its end. It isn't inlined, since most pieces don't end in white space.
+/// Returns a piece without the white space at its end. This function isn't inlined, since most pieces don't end in white space.
 #[inline(never)]
 #[tactic(auto, using(crate::proofs::Around::last_trimmed))]
 fn trim_spaces_after(piece: &[u8]) -> &[u8]

@@ -1,4 +1,4 @@
-//! The comparison of what two values mean.
+//! Compares what two values mean.
 
 ghost use Rattle.std.specs.Prelude.{◌≡◌, ◌<◌, [], ◌∷◌, IfSome, MatchOption, bytes_eq, length};
 ghost use Rattle.mime_http.specs.Unescaped.{unescaped};
@@ -16,8 +16,8 @@ fn split_first(value: &[u8]) -> Option<(u8, &[u8])>
     }
 }
 
-/// Returns `true` if two values mean the same. Compares byte by byte, up to the first difference. It isn't inlined, since few ranges need
-/// it.
+/// Returns `true` if two values mean the same. Compares byte by byte, up to the first difference. This function isn't inlined, since few
+/// ranges need it.
 #[inline(never)]
 fn mean_the_same_bytes(value: &[u8], other: &[u8]) -> bool
     ensures { result ≡ bytes_eq (unescaped value.now) (unescaped other.now) }

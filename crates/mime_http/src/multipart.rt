@@ -13,10 +13,10 @@ use crate::range::first_value;
 use mime::Mime;
 use std::alloc::{AllocError, Global};
 
-/// A byte that may occur in a boundary.
+/// The mark of a byte that may occur in a boundary.
 const Y: bool = true;
 
-/// A byte that may not occur in a boundary.
+/// The mark of a byte that may not occur in a boundary.
 const N: bool = false;
 
 /// The bytes that may occur in a boundary, as a table.
@@ -53,7 +53,7 @@ fn are_boundary_bytes(bytes: &[u8]) -> bool
     all
 }
 
-/// Returns `true` if bytes are a boundary: 1 to 70 letters, digits, spaces and marks of `'()+_,-./:=?`, with no space at the end (RFC
+/// Returns `true` if bytes are a boundary: 1 to 70 letters, digits, spaces and the marks `'()+_,-./:=?`, with no space at the end (RFC
 /// 2046, 5.1.1). `a b` is one, `a ` and `a;b` aren't.
 pub fn is_boundary(bytes: &[u8]) -> bool
     ensures { IsTrue result ↔ IsBoundary bytes.now }
@@ -64,8 +64,8 @@ pub fn is_boundary(bytes: &[u8]) -> bool
     }
 }
 
-/// Returns the boundary that a parameter's value means, if it means one. It doesn't allocate if the value is too long, or isn't a boundary
-/// and has no backslash.
+/// Returns the boundary that a parameter's value means, or `None` if it means none. This doesn't allocate if the value is too long to mean
+/// a boundary, or has no backslash and isn't a boundary.
 #[tactic(auto, using(crate::proofs::Contents::boundary_means_itself))]
 fn meant_boundary(alloc: Global, value: &str) -> Result<Option<Vec<u8>>, AllocError>
     ensures { IfOk result (λ answer. MatchOption answer (¬ (IsBoundary (unescaped value.now)))
@@ -73,7 +73,7 @@ fn meant_boundary(alloc: Global, value: &str) -> Result<Option<Vec<u8>>, AllocEr
 {
     let bytes = value.as_bytes();
     if is_boundary(bytes) {
-        // It has no backslash, so it means itself.
+        // A boundary has no backslash, so it means itself.
         return Ok(Some(bytes.to_vec(alloc)?));
     }
     // Two bytes mean at least one byte, and only a backslash at the end means none.
@@ -85,8 +85,8 @@ fn meant_boundary(alloc: Global, value: &str) -> Result<Option<Vec<u8>>, AllocEr
     Ok(is_boundary(&boundary).then_some(boundary))
 }
 
-/// Returns the boundary that the first parameter `boundary` means, if it means one. It isn't inlined, since most media types aren't
-/// `multipart`.
+/// Returns the boundary that the first parameter `boundary` means, or `None` if it means none. This function isn't inlined, since most
+/// media types aren't `multipart`.
 #[inline(never)]
 fn first_boundary(alloc: Global, mime: &Mime) -> Result<Option<Vec<u8>>, AllocError>
     ensures meant { IfOk result (λ answer. MatchOption answer
@@ -103,14 +103,14 @@ fn first_boundary(alloc: Global, mime: &Mime) -> Result<Option<Vec<u8>>, AllocEr
 
 /// Returns the boundary between the parts of a `multipart` body, byte for byte as it is in the body (RFC 2046, 5.1.1): `a b` for
 /// `multipart/mixed; boundary="a b"`. Returns `None` exactly if the type isn't `multipart`, there is no parameter `boundary`, or the first
-/// one doesn't mean a boundary, as [`is_boundary`] defines it.
+/// such parameter doesn't mean a boundary, as [`is_boundary`] defines it.
 ///
 /// # Errors
 /// Returns `AllocError` if memory runs out, which never happens if the type isn't `multipart` or there is no parameter `boundary`.
 pub fn boundary(alloc: Global, mime: &Mime) -> Result<Option<Vec<u8>>, AllocError>
     ensures meant { IfOk result (λ answer. MatchOption answer ((bytes : List ℕ) → ¬ (IsBoundaryOf mime.now.media bytes))
         (λ boundary. IsBoundaryOf mime.now.media (vec_items boundary))) }
-    // It needs no memory if the type isn't `multipart`, or there is no parameter `boundary`.
+    // The call needs no memory if the type isn't `multipart`, or there is no parameter `boundary`.
     ensures other { type_of mime.now.media ≢ codes "multipart" → IsOk result }
     ensures absent { first_value (codes "boundary") mime.now.media.pairs ≡ None → IsOk result }
 {

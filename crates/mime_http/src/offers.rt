@@ -1,4 +1,4 @@
-//! The weights of a server's offers by the ranges of an `Accept` header.
+//! The weights and the order of a server's offers, according to the ranges of an `Accept` header.
 
 ghost use Rattle.std.specs.Prelude.{◌≡◌, ◌<◌, [], None, map, length, IfSome, IfOk, IsOk};
 ghost use Rattle.std.specs.Option.{option_cmp};
@@ -43,8 +43,8 @@ impl Model for Closest {
 }
 
 impl Closest {
-    /// Keeps the range at position `at` if it covers the offer, unless a range so far is more specific, or equally specific with a higher
-    /// weight. If it names fewer parts than the range kept so far, nothing else of it is examined.
+    /// Keeps the range at position `at` if it covers the offer, unless the range kept so far is more specific, or is equally specific and
+    /// has a higher weight. A range that names fewer parts than the range kept so far isn't examined further.
     #[inline(always)]
     fn look_at(&mut self, range: &Mime, offer: Offer<'_>, at: usize)
         ensures { self.new ≡ ord_max (option_cmp rank_cmp) self.old (closeness offer.entry.mime.now.media (at, range.now.media)) }
@@ -72,7 +72,7 @@ impl Closest {
     }
 }
 
-/// Finds the most specific of these ranges that covers an offer.
+/// Returns what `Closest` holds of the most specific of these ranges that covers an offer, or `None` if no range covers the offer.
 #[inline(always)]
 #[tactic(auto, using(crate::proofs::Highest::closest_is_kept))]
 fn closest_of(ranges: &[Mime], offer: &Mime) -> Option<(u8, usize, u16, usize)>

@@ -38,8 +38,7 @@ fn is_lowercase(text: &str) -> bool
         .all(|byte| !byte.is_ascii_uppercase())
 }
 
-/// Returns `true` if a parameter is kept as it is written: its name has no uppercase letter, and neither has its value if it is a
-/// `charset`.
+/// Returns `true` if a parameter is kept as it is written: neither its name nor, for a `charset`, its value has an uppercase letter.
 #[tactic(auto, using(crate::proofs::Contents::kept_low))]
 fn is_kept_as_written(name: &str, value: &str) -> bool
     ensures { IsTrue result → (lowered name.now ≡ name.now) × (lowered_value name.now (escaped value.now) ≡ escaped value.now) }
@@ -81,7 +80,7 @@ fn push_parameter(text: &mut String, name: &str, value: &str, form: Form) -> Res
     }
 }
 
-/// Returns the text of a media type with this parameter in place of those of its name, and the number of the other parameters.
+/// Returns the text of a media type with this parameter in place of all parameters of its name, and the number of the other parameters.
 fn text_with(
     alloc: Global,
     mime: &Mime,
@@ -94,7 +93,7 @@ fn text_with(
         ≡ mime.now.media.essence ++ text_of_pairs (others name.now mime.now.media.pairs ++ ((name.now, escaped value.now) ∷ []))) }
     ensures count { IfOk result (λ written. written.1 ≡ length (others name.now mime.now.media.pairs)) }
 {
-    // The bytes of the value, of `; ` and `=`, and of its quotes.
+    // The bytes of `; ` and `=`, of the value, and of the value's quotes.
     let content = match form {
         Form::Token => value.len().saturating_add(3),
         Form::Quoted => value.len().saturating_add(5),

@@ -11,8 +11,8 @@ ghost use Rattle.mime_http.specs.Written.{escaped};
 use std::alloc::AllocError;
 
 /// Appends what a parameter's value means to a buffer: a backslash and the byte after it mean that byte (RFC 9110, 5.6.4). The value `a\"b`
-/// of `a/b; p="a\"b"` means `a"b`. A value without backslashes means itself. It allocates at most once, and doesn't allocate if the buffer
-/// has capacity for `value.len()` more bytes.
+/// of `a/b; p="a\"b"` means `a"b`. A value without backslashes means itself. This allocates at most once, and doesn't allocate if the
+/// buffer has capacity for `value.len()` more bytes.
 ///
 /// # Errors
 /// Returns `AllocError` if memory runs out, which never happens if the buffer has that capacity. After an error the buffer is unchanged.
@@ -29,7 +29,7 @@ pub fn unescape(value: &str, buffer: &mut Vec<u8>) -> Result<(), AllocError>
     Ok(())
 }
 
-/// Replaces the bytes from `start` on by the bytes that they mean. Returns the position after these.
+/// Replaces the bytes from `start` on with the bytes that they mean. Returns the position after the replacement.
 #[tactic(auto, using(crate::proofs::Contents::moved))]
 fn unescape_in_place(bytes: &mut [u8], start: usize) -> usize
     requires { start ≤ length bytes.old }
@@ -60,16 +60,16 @@ pub(crate) enum Form {
     Escaped,
 }
 
-/// A byte that may not occur in a quoted string.
+/// The kind of a byte that may not occur in a quoted string.
 const N: u8 = 0;
 
-/// A byte that may occur in a quoted string only after a backslash: a quote or a backslash.
+/// The kind of a byte that may occur in a quoted string only after a backslash: a quote or a backslash.
 const B: u8 = 1;
 
-/// A byte that may occur in a quoted string as it is, but not in a token.
+/// The kind of a byte that may occur in a quoted string as it is, but not in a token.
 const Q: u8 = 3;
 
-/// A byte that may occur in a quoted string as it is, and in a token.
+/// The kind of a byte that may occur in a quoted string as it is, and in a token.
 const T: u8 = 7;
 
 /// The kind of each byte. The lowest bit is set if the byte may be in a value, the second if it needs no backslash, and the third if it
@@ -96,7 +96,7 @@ fn kind_of_byte(byte: u8) -> u8
     KINDS[byte as usize]
 }
 
-/// Returns the bits that are set in the kinds of all bytes of a block.
+/// Returns the bits that are set in the kind of every byte of a block.
 #[inline(always)]
 #[tactic(auto, using(crate::proofs::Contents::kind_of_more))]
 fn kind_of_block(block: &[u8]) -> u8
@@ -109,7 +109,7 @@ fn kind_of_block(block: &[u8]) -> u8
     kind
 }
 
-/// Returns the bits that are set in the kinds of all bytes of a value.
+/// Returns the bits that are set in the kind of every byte of a value.
 #[tactic(auto, using(crate::proofs::Contents::block_seen))]
 fn kind_of(value: &[u8]) -> u8
     ensures { result ≡ kind_of value.now }
@@ -154,7 +154,8 @@ fn special_from(value: &str, from: usize) -> usize
     at
 }
 
-/// Adds a run of bytes and a backslash. If the run is only a quote or a backslash, as in a row of them, both bytes are added at once.
+/// Adds a run of bytes and a backslash. If the run is only one quote or only one backslash, the run and the backslash after it are added at
+/// once.
 #[inline(always)]
 fn push_with_backslash(text: &mut String, run: &str) -> Result<(), AllocError>
     ensures { OnOk result (string_bytes text.new ≡ (string_bytes text.old ++ run.now) ++ (backslash_byte ∷ [])) }
@@ -178,7 +179,7 @@ pub(crate) fn push_escaped(text: &mut String, value: &str) -> Result<(), AllocEr
     while run < left.len() {
         push_with_backslash(text, &left[..run])?;
         left = &left[run..];
-        // The run is the byte after the backslash, and the bytes before the next one that needs a backslash.
+        // The run is the byte after the backslash, and the bytes after it up to the next byte that needs a backslash.
         run = special_from(left, 1);
     }
     text.push_str(left)

@@ -11,7 +11,7 @@ use crate::meaning::mean_the_same;
 use crate::weights::{tenths, thousandths};
 use mime::{Mime, Name, ParamKey};
 
-/// A key that accepts this name, byte for byte. Parameters' names are in lowercase.
+/// A key that accepts only this name, byte for byte. Parameters' names are in lowercase.
 #[derive(Clone, Copy)]
 struct Exactly<'k>(&'k str);
 
@@ -29,7 +29,7 @@ impl ParamKey for Exactly<'_> {
     }
 }
 
-/// Returns the value of the first parameter of this name. `name` must be in lowercase.
+/// Returns the value of the first parameter of this name, if there is one. `name` must be in lowercase.
 #[inline(always)]
 #[tactic(auto, using(crate::proofs::Demanded::first_is))]
 pub(crate) fn first_value<'a>(mime: &'a Mime, name: &str) -> Option<Name<'a>>
@@ -50,14 +50,16 @@ fn weight_in(value: Option<&str>) -> u16
 }
 
 /// Returns the weight of a range in thousandths, or 1000 if it has none (RFC 9110, 12.4.2). The first `q` counts, quoted or not. The weight
-/// is the number with which its text begins, and at most 1: `.2` is 200, `2` is 1000, `high` and `\1` are 0.
+/// is the number with which the value of `q` begins, at most 1, or 0 if it begins with no number: `.2` is 200, `2` is 1000, and `high` and
+/// `\1` are 0.
 pub fn weight_of(range: &Mime) -> u16
     ensures { result ≡ weight_of range.now.media }
 {
     weight_in(first_value(range, "q").map(|weight| weight.text))
 }
 
-/// Returns `true` if a range is `*/*`, whatever its parameters. It isn't inlined, so that a range of another length isn't read.
+/// Returns `true` if a range is `*/*`, whatever its parameters. This function isn't inlined, so that the text of a range of another length
+/// isn't read.
 #[inline(never)]
 fn is_star(range: &Mime) -> bool
     ensures { result ≡ bytes_eq range.now.media.essence (codes "*/*") }
@@ -65,7 +67,8 @@ fn is_star(range: &Mime) -> bool
     range.essence_str() == "*/*"
 }
 
-/// Returns `true` if a range is all of a type, as `text/*` is for `text`, whatever its parameters. Like `is_star`, it isn't inlined.
+/// Returns `true` if a range names all subtypes of a type, as `text/*` does for `text`, whatever its parameters. Like `is_star`, it isn't
+/// inlined.
 #[inline(never)]
 fn is_all_of(range: &Mime, type_: &str) -> bool
     ensures { result ≡ bytes_eq range.now.media.essence (type_.now ++ codes "/*") }
@@ -124,13 +127,13 @@ pub(crate) fn param_count(mime: &Mime) -> usize
 }
 
 /// Returns the number of the range's parameters other than `q`, before and after the `q` (RFC 9110, 12.5.1), and the range's weight.
-/// Returns `None` if the offer lacks one of these parameters. It isn't inlined, since most ranges have no parameters.
+/// Returns `None` if the offer lacks one of these parameters. This function isn't inlined, since most ranges have no parameters.
 #[inline(never)]
 fn demanded_among(range: &Mime, offer: &Mime) -> Option<(usize, u16)>
     ensures { result ≡ (if list_all (has offer.now.media) (demanded range.now.media.pairs)
         then Some (length (demanded range.now.media.pairs), weight_of range.now.media) else None) }
 {
-    // Only for the proof: it bounds the count.
+    // Only for the proof: `most` bounds the count.
     let most = param_count(range);
     let mut count = 0;
     let mut weight = None;
@@ -174,8 +177,8 @@ pub(crate) fn demanded(range: &Mime, offer: &Mime) -> Option<(usize, u16)>
 }
 
 /// Returns `true` if a range covers an offer (RFC 9110, 12.5.1). `text/*` covers `text/html`. `text/html;level=1` covers
-/// `text/html;level=1`, but not `text/html`. The offer must have each parameter of the range except `q`, also those after the `q`, with a
-/// value that means the same. A backslash and the byte after it mean that byte. Case matters, except for a charset.
+/// `text/html;level=1`, but not `text/html`. The offer must have each parameter of the range except `q`, even those after the `q`, with a
+/// value that means the same. A backslash and the byte after it mean that byte. The case of a value matters, except for a charset.
 pub fn covers(range: &Mime, offer: &Mime) -> bool
     ensures { result ≡ is_some (closeness offer.now.media (0, range.now.media)) }
 {

@@ -1,5 +1,4 @@
-//! Explains why an offer is chosen: returns all offers with their weights and the ranges that decide them, and a header's entries one by
-//! one.
+//! Explains why an offer is chosen: ranks all offers, names the range that decides each weight, and cuts off a header's entries one by one.
 
 ghost use Rattle.std.specs.Prelude.{◌≡◌, ◌++◌, ◌∷◌, ◌==◌, ◌||◌, ◌&&◌, not, map, option_map, unwrap_or, true, position, codes, IfOk, MatchOption};
 ghost use Rattle.std.specs.Char.{is_ascii_digit};
@@ -28,7 +27,7 @@ pub struct RankedOffer {
     pub range: Option<usize>,
 }
 
-/// Returns an offer with its weight and range, from its rank and its position.
+/// Returns an offer with its weight and range, from its rank and its position. `count` is the number of ranges.
 fn ranked_offer(count: usize, ranked: &(Reverse<(u16, u8, usize, usize)>, usize)) -> RankedOffer
     ensures { result ≡ ranked_as count ranked.now.0.0 ranked.now.1 }
 {
@@ -59,7 +58,7 @@ fn ranked_offers(
     Ok(offers)
 }
 
-/// Returns all offers, the best first, each with its weight and the range that decides the weight. Offers are compared as by
+/// Returns all offers, the best first, each with its weight and the range that decides the weight. Offers are compared as in
 /// [`Accept::best`](crate::Accept::best), so the first is the best, unless it weighs 0. Each offer is compared with the ranges only once.
 ///
 /// # Errors
@@ -86,8 +85,8 @@ fn is_lacking(range: &Mime, offer: &Mime) -> bool
     range.essence_str() == offer.essence_str() && !covers(range, offer)
 }
 
-/// Returns the position of the first range that has an offer's essence, but demands a parameter that the offer lacks:
-/// `application/json; charset=utf-8` for the offer `application/json`.
+/// Returns the position of the first range that has an offer's essence, but demands a parameter that the offer lacks, or `None` if there is
+/// no such range. The offer `application/json` lacks a parameter of the range `application/json; charset=utf-8`.
 pub fn lacking(ranges: &[Mime], offer: &Mime) -> Option<usize>
     ensures { result ≡ position (is_lacking offer.now.media) (map (λ range. range.media) ranges.now) }
 {
@@ -128,8 +127,8 @@ fn is_qvalue(bytes: &[u8]) -> bool
     }
 }
 
-/// Returns `true` if a range has a weight that RFC 9110 allows (12.4.2), or has no weight. Returns `false` for `high`, `1.5` or `0.0001`,
-/// though [`weight_of`](crate::weight_of) reads them.
+/// Returns `true` if a range has a weight that RFC 9110 allows (12.4.2), or has no weight. Returns `false` for the weights `high`, `1.5`
+/// and `0.0001`, though [`weight_of`](crate::weight_of) reads them.
 pub fn has_weight(range: &Mime) -> bool
     ensures { result ≡ unwrap_or (option_map is_qvalue (first_value (codes "q") range.now.media.pairs)) true }
 {
@@ -139,8 +138,8 @@ pub fn has_weight(range: &Mime) -> bool
     }
 }
 
-/// Returns the first entry of a header's line, with the white space around it, and the rest of the line after its comma, or `None` if no
-/// comma ends it. A comma in a quoted string doesn't end an entry. This doesn't allocate.
+/// Returns the first entry of a header's line, with the white space around it, and the rest of the line after the comma that ends the
+/// entry, if there is such a comma. A comma in a quoted string doesn't end an entry. This doesn't allocate.
 pub fn first_entry(line: &[u8]) -> (&[u8], Option<&[u8]>)
     ensures { MatchOption result.1 ((line.now ≡ result.0.now) × BeginsPiece result.0.now)
         (λ rest. (line.now ≡ result.0.now ++ (comma_byte ∷ rest.now)) × IsPiece result.0.now) }

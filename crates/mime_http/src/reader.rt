@@ -1,4 +1,4 @@
-//! Reads a header's value in one pass, by HTTP's own grammar (RFC 9110, 8.3.1 and 5.6.6), and writes it anew.
+//! Reads a header's value in one pass, according to HTTP's own grammar (RFC 9110, 8.3.1 and 5.6.6), and writes it anew.
 
 ghost use Rattle.std.specs.Prelude.{◌≡◌, ◌<◌, ◌≤◌, ◌+◌, ◌-◌, ◌^◌, ◌++◌, ◌≢◌, true, false, ℕ, List, [], ◌∷◌, codes, drop, length, slice_index, slice_range, MatchResult};
 ghost use Rattle.std.specs.List.{list_all, prefix_len};
@@ -19,7 +19,7 @@ static TOKEN_STOPS: Class = Class {
     inside: false,
 };
 
-/// All bytes except the ASCII bytes of quoted text. The tab is included, though quoted text may have it.
+/// All bytes except the ASCII bytes of quoted text. The tab is in the class, though quoted text may have it.
 static TEXT_STOPS: Class = Class {
     fold: 0,
     folded: Range(b'#', b'['),
@@ -28,10 +28,10 @@ static TEXT_STOPS: Class = Class {
     inside: false,
 };
 
-/// The number of bytes of a run that are tested one by one, before it is searched in blocks.
+/// The number of bytes of a run that are tested one by one, before the rest of the run is searched in blocks.
 const LONG: usize = 16;
 
-/// Returns the position of the first byte at or after `from` that isn't white space, or the length.
+/// Returns the position of the first byte at or after `from` that isn't white space, or the value's length if there is none.
 fn spaces_end(value: &[u8], from: usize) -> usize
     requires { from ≤ length value.now }
     ensures end { result ≡ from + prefix_len is_space (drop from value.now) }
@@ -48,8 +48,8 @@ fn spaces_end(value: &[u8], from: usize) -> usize
     at
 }
 
-/// Returns the position of the first byte at or after `from` that may not occur in a token, or the length. It isn't inlined, since few
-/// tokens are long.
+/// Returns the position of the first byte at or after `from` that may not occur in a token, or the value's length if there is none. This
+/// function isn't inlined, since few tokens are long.
 #[cold]
 #[inline(never)]
 fn token_end_far(value: &[u8], from: usize) -> usize
@@ -105,7 +105,7 @@ fn is_token_at(value: &[u8], pos: usize) -> bool
     pos < value.len() && is_token(value[pos])
 }
 
-/// Returns the fault of a value that can't be read on at a position: `missing` if the position is the value's end, or else the byte there.
+/// Returns the fault of a value that can't be read past a position: `missing` if the position is the value's end, or else the byte there.
 fn fault_at(value: &[u8], pos: usize, missing: ParseError) -> ParseError
     requires { pos ≤ length value.now }
     ensures { result ≡ fault_at value.now pos missing }
@@ -119,7 +119,8 @@ fn fault_at(value: &[u8], pos: usize, missing: ParseError) -> ParseError
     }
 }
 
-/// Returns the position after the byte of quoted text at `at`, or after more bytes of quoted text. The content begins at `from`.
+/// Returns the position after the byte of quoted text at `at`, or after more bytes of quoted text: after every `LONG` bytes from `from` on,
+/// a run of quoted text is searched in blocks.
 #[inline(always)]
 fn text_end(value: &[u8], at: usize, from: usize) -> usize
     requires least { from ≤ at }
@@ -296,9 +297,9 @@ fn put_parameter(room: &mut [u8], len: usize, value: &[u8], name: usize, spans: 
     put(room, len, &value[spans.begin..spans.last])
 }
 
-/// Writes the media type of a value anew: its essence, and each parameter as `with_parameter` writes it. Returns the number of its bytes,
-/// or the fault of a value that HTTP doesn't allow. If the buffer `room` has fewer bytes, the text in it isn't complete. It doesn't
-/// allocate.
+/// Writes the media type of a value anew: its essence, and each parameter as `with_parameter` writes it. Returns the number of bytes that
+/// this takes, or the fault of a value that HTTP doesn't allow. If the buffer `room` has fewer bytes, the text in it isn't complete. This
+/// doesn't allocate.
 pub(crate) fn write_anew(value: &[u8], room: &mut [u8]) -> Result<usize, ParseError>
     ensures answer { MatchResult result
         (λ len. (parts : Parts) × (answer_of value.now ≡ read parts) × Holds room.new len (text_of_parts parts))

@@ -30,7 +30,7 @@ pub enum FieldError {
     },
     /// The value isn't a media type, and has this fault. The fault is never `ParseError::NoMemory`.
     Invalid(ParseError),
-    /// Memory ran out. This is never returned for a value that isn't a media type, nor for one that is printed in at most 40 bytes.
+    /// Memory ran out. This is never returned for a value that isn't a media type, nor for a value that is printed in at most 40 bytes.
     NoMemory,
 }
 
@@ -92,7 +92,7 @@ fn trimmed(text: &str) -> &str
     unsafe { str::from_utf8_unchecked(left) }
 }
 
-/// Reads the text of a value that was written anew. It doesn't allocate if the text has at most 40 bytes.
+/// Reads the text that `write_anew` wrote for a value. This doesn't allocate if the text has at most 40 bytes.
 fn read_written(alloc: Global, text: &[u8]) -> Result<Mime, FieldError>
     requires { (value : List ℕ) × (parts : Parts) × IsUtf8 value × (answer_of value ≡ read parts) × (text.now ≡ text_of_parts parts) }
     ensures read { (value : List ℕ) (parts : Parts) → answer_of value ≡ read parts → text.now ≡ text_of_parts parts
@@ -107,7 +107,7 @@ fn read_written(alloc: Global, text: &[u8]) -> Result<Mime, FieldError>
     }
 }
 
-/// Reads a value that is written anew in `len` bytes, which are more than 40.
+/// Reads a value for which `write_anew` writes `len` bytes, which are more than 40.
 fn read_in_block(alloc: Global, value: &str, len: usize) -> Result<Mime, FieldError>
     requires { (parts : Parts) × (answer_of value.now ≡ read parts) × (length (text_of_parts parts) ≡ len) × (40 < len) }
     ensures read { IfOk result (λ mime. (parts : Parts) × (answer_of value.now ≡ read parts) × (mime.media ≡ media_of parts)) }
@@ -122,9 +122,9 @@ fn read_in_block(alloc: Global, value: &str, len: usize) -> Result<Mime, FieldEr
     }
 }
 
-/// Returns the fault of a value, if it follows from `fault`, for which `mime` rejects the value without the white space around it. Where
-/// `mime` stops, HTTP continues only at white space and at a semicolon. If something is missing at the value's end for `mime`, the same is
-/// missing for HTTP, unless white space is there.
+/// Returns the fault of a value, if it follows from `fault`, the fault or `NoMemory` that `mime` returns for the value without the white
+/// space around it. At a byte that `mime` rejects, HTTP rejects the value, too, unless the byte is white space or a semicolon. What `mime`
+/// finds missing at the value's end is missing for HTTP, too, unless white space is there.
 fn same_fault(value: &[u8], fault: ParseError) -> Option<ParseError>
     requires { Explains (trimmed value.now) fault }
     ensures { IfSome result (λ same. IsHttpFault value.now same) }
@@ -166,8 +166,8 @@ pub(crate) fn read_rejected(
     }
 }
 
-/// Reads a value as `read_rejected` does. It doesn't allocate if at most 40 bytes are printed. Otherwise, it allocates a block for them and
-/// one for the media type. If `fault` is `NoMemory`, only a value without parameters is read, which is printed as its essence.
+/// Reads a value as `read_rejected` does. This doesn't allocate if at most 40 bytes are printed. Otherwise, it allocates a block for these
+/// bytes and one for the media type. If `fault` is `NoMemory`, only a value that is printed as its essence, in at most 40 bytes, is read.
 #[inline(never)]
 fn read_other(alloc: Global, value: &str, fault: &ParseError) -> Result<Mime, FieldError>
     requires { Explains (trimmed value.now) fault.now }
@@ -199,11 +199,11 @@ fn read_other(alloc: Global, value: &str, fault: &ParseError) -> Result<Mime, Fi
 }
 
 /// Reads the media type of a header's value, such as that of a `Content-Type`, from bytes as they are received (RFC 9110, 8.3.1, with
-/// 5.6.3, 5.6.4 and 5.6.6). Accepts each value that the grammar there allows, with white space around semicolons and with empty parameters,
-/// if it is valid UTF-8. White space around the value is allowed, too. A non-ASCII value that isn't UTF-8 (obs-text) is rejected.
+/// 5.6.3, 5.6.4 and 5.6.6). Accepts each value in UTF-8 that the grammar there allows, even with white space around semicolons and with
+/// empty parameters. White space around the value is allowed, too. A non-ASCII value that isn't UTF-8 (obs-text) is rejected.
 ///
-/// A request has at most one `Content-Type` line. Treat two as an error, since programs differ in which one they use. A body without one
-/// may be treated as `application/octet-stream` (8.3).
+/// A request has at most one `Content-Type` line. Treat two such lines as an error, since programs differ in which line they use. A body
+/// without a `Content-Type` may be treated as `application/octet-stream` (8.3).
 ///
 /// The white space around the value is removed. A value that [`Mime::from_str`] then accepts is read as it is. Any other value is printed
 /// anew: its essence, and each parameter as [`with_parameter`](crate::with_parameter) writes it. So ` text/html ;; charset="utf-8"` is
@@ -212,10 +212,9 @@ fn read_other(alloc: Global, value: &str, fault: &ParseError) -> Result<Mime, Fi
 /// It doesn't allocate if at most 40 bytes are printed. Otherwise, it allocates one block for a value that is read as it is, and two blocks
 /// for a value that is printed anew, of which it frees one. It doesn't allocate for a value that it rejects.
 ///
-/// # Errors
-/// Returns `NotUtf8` if the value isn't valid UTF-8. Returns `Invalid` with the fault if the value isn't a media type. The fault's position
-/// is that in `value`: 7 for `   a/b c`. Returns `NoMemory` if memory runs out, which never happens for a value that isn't a media type,
-/// nor for one that is printed in at most 40 bytes.
+/// # Errors Returns `NotUtf8` if the value isn't valid UTF-8. Returns `Invalid` with the fault if the value isn't a media type. The fault's
+/// position is that in `value`: 7 for `   a/b c`. Returns `NoMemory` if memory runs out, which never happens for a value that isn't a media
+/// type, nor for a value that is printed in at most 40 bytes.
 #[inline(always)]
 pub fn content_type(alloc: Global, value: &[u8]) -> Result<Mime, FieldError>
     // The result is the media type that HTTP defines.

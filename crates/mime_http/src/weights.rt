@@ -29,8 +29,8 @@ pub(crate) fn tenths(digit: u8) -> u16
     100 * u16::from(digit - b'0')
 }
 
-/// Returns a weight in thousandths: 500 for `0.5`. A string that isn't a weight counts as the number with which it begins, at most 1,
-/// or as 0 if there is none: `.2` is 200, `2` is 1000 and `high` is 0, as in most libraries.
+/// Returns a weight in thousandths: 500 for `0.5`. A string that isn't a weight counts as the number with which it begins, at most 1, or as
+/// 0 if it begins with no number. As in most libraries, `.2` is 200, `2` is 1000 and `high` is 0.
 #[tactic(auto, using(std::proofs::lemmas::Grind::common_steps, crate::proofs::Numbers::read_is))]
 pub(crate) fn thousandths(weight: &str) -> u16
     ensures { result ≡ thousandths_of weight.now }
