@@ -11,11 +11,10 @@ use crate::value::Mime;
 use std::fmt;
 
 /// A constant media type (RFC 7231, 3.1.1.1): [`Atom::mime`] returns it as a [`Mime`], [`Atom::text`] as a string. It
-/// can be matched and copied, and never allocates. `TEXT_PLAIN.mime()` is the media type `text/plain`. Constants aren't
-/// ordered, but their media types are.
+/// can be matched and copied, and never allocates. `TEXT_PLAIN.mime()` is the media type `text/plain`. `Atom` doesn't
+/// implement `Ord`, but `Mime` does.
 ///
-/// Each variant is also a constant of the crate's root, such as [`TEXT_PLAIN`](crate::TEXT_PLAIN), which a `match` can
-/// name:
+/// The crate's root exports each variant, such as [`TEXT_PLAIN`](crate::TEXT_PLAIN), so that a `match` can name it:
 ///
 /// ```rust
 /// use mime::{Atom, IMAGE_PNG, TEXT_HTML, TEXT_HTML_UTF_8};
@@ -30,8 +29,8 @@ use std::fmt;
 /// }
 /// ```
 ///
-/// IANA's registry of media types (RFC 6838) says what most of them mean. Those with a `*` are media ranges
-/// (RFC 7231, 5.3.2).
+/// IANA's registry of media types (RFC 6838) defines most of the constants. Constants with a `*` are media ranges (RFC
+/// 7231, 5.3.2).
 #[derive(Clone, Copy, PartialEq, Eq, Hash)]
 #[allow(non_camel_case_types)]
 pub enum Atom {
@@ -184,7 +183,7 @@ impl Atom {
     }
 }
 
-/// Prints the constant as its string is printed, padded to a width and cut to a precision: `TEXT_PLAIN` prints
+/// Prints the constant as a `str` is printed, padded to a width and cut to a precision: `TEXT_PLAIN` prints
 /// `text/plain`.
 impl fmt::Display for Atom {
     ghost output = { λ atom. Some (atom_text atom) };

@@ -23,8 +23,8 @@ const P: u8 = 4;
 /// Any other byte that may occur in a token.
 const T: u8 = 5;
 
-/// The kind of each byte. In a token or a quoted string, a byte of one kind may occur wherever a byte of an earlier
-/// kind may.
+/// The kind of each byte. The kinds are ordered: wherever a byte may occur in a token or a quoted string, a byte of a
+/// later kind may occur, too.
 static KINDS: [u8; 256] = [
     N, N, N, N, N, N, N, N, N, Q, N, N, N, N, N, N, N, N, N, N, N, N, N, N, N, N, N, N, N, N, N, N,
     Q, T, B, T, T, T, T, T, Q, Q, T, P, Q, T, T, Q, T, T, T, T, T, T, T, T, T, T, Q, Q, Q, Q, Q, Q,

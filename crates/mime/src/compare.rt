@@ -44,8 +44,8 @@ fn starts_with_essence(essence: &str, text: &str) -> bool
     eq_ignore_ascii_case(essence.as_bytes(), &text.as_bytes()[..end])
 }
 
-/// Returns `true` if a string's parameter equals the kept one, `name` with `value`. ASCII case is ignored in the name, and
-/// in the value if the name is `charset`.
+/// Returns `true` if a string's parameter, `other_name` with `other_value`, equals a kept parameter, `name` with
+/// `value`. Names are compared ignoring ASCII case, and so are the values of `charset`.
 #[inline]
 fn is_pair(name: &str, value: &str, other_name: &str, other_value: &str) -> bool
     requires { IsLowPair (name.now, value.now) }
@@ -61,7 +61,7 @@ fn is_pair(name: &str, value: &str, other_name: &str, other_value: &str) -> bool
     }
 }
 
-/// Returns `true` if a string's parameters are read as the kept ones.
+/// Returns `true` if `pairs`, the parameters of a string, are read as the parameters `kept`.
 #[inline]
 fn are_pairs(kept: Pairs<'_>, pairs: Pairs<'_>) -> bool
     requires { AreLowPairs kept }
@@ -87,9 +87,9 @@ fn has_shape(positions: Positions, semicolon: usize, count: usize) -> bool
     positions.semicolon == Some(semicolon) && positions.pair_count == count
 }
 
-/// Returns `true` if a string is accepted, and has as many parameters as a value. The string begins with the value's
-/// essence and a semicolon, ignoring ASCII case, so only the rest is scanned. This function isn't inlined: the scan
-/// needs the registers.
+/// Returns `true` if `s` is accepted and has as many parameters as `mime`. `s` begins with the essence of `mime`,
+/// ignoring ASCII case, and a semicolon, so only the rest is scanned. This function isn't inlined: the scan needs the
+/// registers.
 #[inline(never)]
 fn has_list_of(mime: &Mime, s: &str) -> bool
     requires reads { Reads mime.now.media.kept mime.now.media }
@@ -106,8 +106,8 @@ fn has_list_of(mime: &Mime, s: &str) -> bool
 }
 
 /// Returns `true` if a string is equal to a value with parameters. The essences are compared, and then the parameters.
-/// If `equal_ignoring_case`, the string equals the kept text ignoring ASCII case, so it is accepted; otherwise it is
-/// scanned. This function isn't inlined: few strings need it.
+/// If `equal_ignoring_case` is true, the string equals the kept text ignoring ASCII case, so it is accepted. Otherwise
+/// the string is scanned. This function isn't inlined: few strings need it.
 #[inline(never)]
 fn eq_by_parts(mime: &Mime, s: &str, equal_ignoring_case: bool) -> bool
     requires reads { Reads mime.now.media.kept mime.now.media }
@@ -129,7 +129,8 @@ fn eq_by_parts(mime: &Mime, s: &str, equal_ignoring_case: bool) -> bool
     equal_ignoring_case || has_list_of(mime, s)
 }
 
-/// Returns `true` if a difference at this byte means different values: if it is any byte except space, tab and quote.
+/// Returns `true` if a byte isn't a space, a tab or a quote. Strings that first differ at two such bytes aren't read as
+/// equal values.
 #[inline(always)]
 fn reaches_value(byte: u8) -> bool
     ensures { result ≡ reaches_value byte }
@@ -144,7 +145,7 @@ enum Compared {
     /// The strings aren't read as equal values: their first difference, ignoring ASCII case, isn't at a space, tab or
     /// quote.
     Different,
-    /// Neither of these is known: one string is shorter than a block, one is a prefix of the other, or they first
+    /// The comparison decides nothing: one string is shorter than a block, one is a prefix of the other, or they first
     /// differ at a space, tab or quote.
     Undecided,
 }
@@ -168,9 +169,9 @@ fn compare_texts(kept: &str, text: &str) -> Compared
 }
 
 /// Returns `true` if a string other than the kept text is equal to a value with parameters. The first difference
-/// between the string and the kept text decides most calls. If there is none ignoring ASCII case, a value whose only
-/// parameter is a charset is equal. Otherwise the parts are compared. This function isn't inlined: most strings are the
-/// kept text.
+/// between the string and the kept text decides most calls. If the two are equal ignoring ASCII case, and the value's
+/// only parameter is a charset, the result is `true`. Otherwise the parts are compared. This function isn't inlined:
+/// most strings are the kept text.
 #[inline(never)]
 fn eq_other_text(mime: &Mime, s: &str) -> bool
     requires { mime.now.media.pairs ≢ [] }
@@ -183,8 +184,8 @@ fn eq_other_text(mime: &Mime, s: &str) -> bool
     }
 }
 
-/// Returns `true` if a string is read as a value equal to `mime`; but a string with a semicolon is never equal to a
-/// `mime` without parameters (RFC 7231, 3.1.1.1). It doesn't allocate.
+/// Returns `true` if `s` is read as a value equal to `mime`, unless `s` has a semicolon and `mime` has no parameters
+/// (RFC 7231, 3.1.1.1). The comparison doesn't allocate.
 ///
 /// `TEXT/PLAIN;charset="UTF-8"; ` is equal to `TEXT_PLAIN_UTF_8.mime()`. But `text/plain;` isn't equal to
 /// `TEXT_PLAIN.mime()`, though it is read as an equal value.

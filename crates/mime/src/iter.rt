@@ -19,11 +19,11 @@ use std::marker::Model;
 pub enum Bad<'a> {
     /// This piece of the string isn't a media type, as `invalid` in `invalid, a/b`.
     Piece(&'a str),
-    /// The piece is a media type, and memory ran out. The iterator yields nothing more.
+    /// The piece is a media type, but memory ran out. The iterator yields nothing more.
     NoMemory,
 }
 
-/// The first piece of a string, after which a character is skipped.
+/// The result of reading the first piece of a string.
 #[derive(Clone, Copy)]
 struct ReadPiece<'a> {
     /// The piece, or the empty string if nothing is yielded.
@@ -36,8 +36,8 @@ struct ReadPiece<'a> {
     steps: u128,
 }
 
-/// Returns the end of a string's first character. It isn't inlined: few pieces end before a character outside ASCII, and its loop would use
-/// registers of its caller.
+/// Returns the end of a string's first character. This function isn't inlined: it is called only at a character outside
+/// ASCII, and its loop would use registers of its caller.
 #[cold]
 #[inline(never)]
 fn end_of_first(text: &str) -> usize
@@ -48,7 +48,7 @@ fn end_of_first(text: &str) -> usize
     text.ceil_char_boundary(1)
 }
 
-/// Returns the empty string at the start of a string. Its address is known already, unlike that of `""`.
+/// Returns the empty prefix of a string. Its address is already known, unlike the address of `""`.
 #[inline(always)]
 fn nothing_of(text: &str) -> &str
     ensures { result.now ≡ [] }
@@ -57,7 +57,7 @@ fn nothing_of(text: &str) -> &str
 }
 
 impl<'a> ReadPiece<'a> {
-    /// Returns no piece: the string was read to its end.
+    /// Returns a result without a piece: the string was read to its end.
     #[inline(always)]
     fn none(text: &'a str, steps: u128) -> ReadPiece<'a>
         ensures piece { result.piece.now ≡ [] }
@@ -116,7 +116,7 @@ fn read_piece<'a>(text: &'a str, first: u8, reader: &mut ByteReader<'_>) -> Read
 }
 
 /// Skips the leading ASCII characters with which no media type begins, reads the piece after them, and skips the
-/// character after the piece. `from` is the number of bytes read before.
+/// character after the piece. `from` is the number of bytes read before this call.
 #[inline(always)]
 fn read_next_piece<'a>(text: &'a str, from: u128) -> ReadPiece<'a>
     requires { from + length text.now < 2 ^ 128 }
@@ -136,13 +136,13 @@ fn read_next_piece<'a>(text: &'a str, from: u128) -> ReadPiece<'a>
 /// An iterator over the media types in a string, and over the pieces that aren't media types. For an `Accept` header,
 /// use `mime_http::Accept`.
 ///
-/// The string is cut into pieces. Each is the longest with which some media type begins. It ends before a character
-/// that can't follow it, such as the comma of a list; that character is skipped. A piece is a media type or a bad
-/// piece. An empty piece isn't yielded, nor is a last piece that is unfinished. So a bad entry doesn't affect the
-/// entries after its comma, unless it ends in an open quoted string. The scanner reads no byte twice.
+/// The string is cut into pieces. Each piece is the longest prefix of the remaining string with which some media type
+/// begins. The character after a piece, such as the comma of a list, is skipped. A piece is a media type or a bad
+/// piece. An empty piece isn't yielded, nor is a last piece that is unfinished. A bad entry doesn't affect the entries
+/// after its comma, unless it ends in an open quoted string. No byte is read twice.
 ///
-/// A media type whose piece has more than 40 bytes, including white space, allocates once, for its kept text, and so
-/// does its `clone`. Other items don't allocate.
+/// Yielding a media type allocates once, for its kept text, if its piece has more than 40 bytes, including white space.
+/// So does cloning this media type. Other items don't allocate.
 ///
 /// Over `text/html, invalid, a/b; q=1` it yields `text/html`, the bad piece `invalid`, and `a/b; q=1`. Over `a/b ; q=1`
 /// it yields `a/b` and the bad piece `q`, since no space may precede the semicolon. Over `invalid` it yields nothing,
@@ -213,8 +213,8 @@ impl<'a> MimeIter<'a> {
     }
 }
 
-/// Returns an iterator that goes on from the same position, with the same count of steps: after the first item of
-/// `a/b, c/d` both yield `c/d`. It always succeeds, and doesn't allocate.
+/// Returns an iterator that continues at the same position, with the same count of steps: after the first item of `a/b,
+/// c/d` both iterators yield `c/d`. Cloning always succeeds, and doesn't allocate.
 impl<'a> Clone for MimeIter<'a> {
     ghost is_clone = { λ iter copy. copy ≡ iter };
 

@@ -1,6 +1,6 @@
 //! The laws of the definitions, as functions. A caller of such a function can use its law in a proof. `name_constants`
-//! returns the constant names; the others do nothing. docs/LAWS.md lists all claims, and docs/RULES.md defines viable,
-//! accepted and cut.
+//! returns the constant names. The other functions do nothing. docs/LAWS.md lists all claims, and docs/RULES.md defines
+//! viable, accepted and cut.
 
 ghost use Rattle.std.specs.Borrow.{Bor};
 ghost use Rattle.std.specs.Prelude.{◌≡◌, ◌↔◌, IsTrue, List, ℕ, map};
@@ -28,8 +28,8 @@ use crate::scan::ParseError;
 use crate::value::Mime;
 use std::hash::Hash;
 
-/// A string is spelled by at most one well-formed tree: `a/b;p=x` only by the one with type `a`, subtype `b` and a
-/// plain parameter (RFC 7231, 3.1.1.1).
+/// At most one well-formed syntax tree spells a string: only the tree with type `a`, subtype `b` and a plain parameter
+/// spells `a/b;p=x` (RFC 7231, 3.1.1.1).
 #[tactic(auto, using(crate::proofs::GrammarLemmas::Readings::one_tree))]
 pub fn one_tree()
     ensures { OneTree }
@@ -51,33 +51,33 @@ pub fn empty_is_viable()
     ensures { EmptyIsViable }
 {}
 
-/// A prefix of a viable text is viable: `a/b;p`, since `a/b;p="` is.
+/// A prefix of a viable text is viable: `a/b;p` is viable, since `a/b;p="` is.
 #[tactic(auto, using(crate::proofs::GrammarLemmas::Viability::prefix_of_viable_is_viable))]
 pub fn prefix_of_viable_is_viable()
     ensures { PrefixOfViableIsViable }
 {}
 
-/// An accepted text is viable: `a/b`, for one.
+/// An accepted text is viable, as `a/b` is.
 #[tactic(auto, using(crate::proofs::GrammarLemmas::Viability::accepted_is_viable))]
 pub fn accepted_is_viable()
     ensures { AcceptedIsViable }
 {}
 
-/// Exactly one of five things is missing from a viable rejected text, and the text with its completion is accepted: in
-/// `a/b;p` an equals sign is missing, and `a/b;p=x` is accepted.
+/// Exactly one of five things is missing from a text that is viable but rejected, and the text with its completion is
+/// accepted: an equals sign is missing from `a/b;p`, and `a/b;p=x` is accepted.
 #[tactic(auto, using(crate::proofs::GrammarLemmas::Faults::one_completion))]
 pub fn one_completion()
     ensures { OneCompletion }
 {}
 
-/// A string in which a slash, a subtype, an equals sign, a value or a closing quote is missing is rejected: `text/`, in
-/// which a subtype is missing.
+/// A string is rejected if a slash, a subtype, an equals sign, a value or a closing quote is missing from it: `text/`
+/// is rejected, since a subtype is missing.
 #[tactic(auto, using(crate::proofs::GrammarLemmas::Faults::completed_is_rejected))]
 pub fn completed_is_rejected()
     ensures { CompletedIsRejected }
 {}
 
-/// A string that isn't viable is rejected, whatever follows it, as `a b` is.
+/// If a string isn't viable, every string that begins with it is rejected, such as `a b` and `a b/c`.
 pub fn no_completion()
     ensures { NoCompletion }
 {}
@@ -88,7 +88,7 @@ pub fn one_fault()
     ensures { OneFault }
 {}
 
-/// A string has exactly one longest viable prefix: the prefix `a/b` for `a/b c`.
+/// A string has exactly one longest viable prefix: `a/b` for `a/b c`.
 #[tactic(auto, using(crate::proofs::GrammarLemmas::Faults::one_longest_prefix))]
 pub fn one_longest_prefix()
     ensures { OneLongestPrefix }
@@ -112,14 +112,15 @@ pub fn plus_is_last()
     ensures { PlusIsLast }
 {}
 
-/// The kept text of a value that was read is read as the same value: `a/b;p=X`, the kept text of `A/B;P=X`.
+/// The kept text of a value that was read is read as the same value: `a/b;p=X`, the kept text of `A/B;P=X`, is read as
+/// the value of `A/B;P=X`.
 #[tactic(auto, using(crate::proofs::ValueLemmas::KeptText::kept_is_read))]
 pub fn kept_is_read()
     ensures { KeptIsRead }
 {}
 
-/// The essence of a value that was read is read as the value without its parameters: `text/html` as the value of
-/// `text/html; charset=utf-8` without its charset.
+/// The essence of a value that was read is read as this value without its parameters: `text/html` is read as the value
+/// of `text/html; charset=utf-8` without its charset.
 #[tactic(auto, using(crate::proofs::LawsLemmas::Written::essence_is_read))]
 pub fn essence_is_read()
     ensures { EssenceIsRead }
@@ -131,21 +132,22 @@ pub fn essence_is_parts()
     ensures { EssenceIsParts }
 {}
 
-/// Two values that were read have the same essence exactly if they have the same type, subtype and suffix:
-/// `a/b+c;p=x` and `A/B+C`.
+/// Two values that were read have the same essence exactly if they have the same type, subtype and suffix, as
+/// `a/b+c;p=x` and `A/B+C` have.
 pub fn same_essence()
     ensures { SameEssence }
 {}
 
-/// A value that was read is safe in a header (RFC 7230, 3.2): each byte of its kept text is a tab, or from 32 to 255
-/// and not 127, so there is no line feed, carriage return or byte 0. Its type, its subtype and its names are tokens, its
-/// suffix a token or empty, and its values quoted content: in `a/b; p="x y"` the value `x y`.
+/// A value that was read is safe in a header (RFC 7230, 3.2). Each byte of its kept text is a tab, or a byte from 32 to
+/// 255 except 127, so none is a line feed, a carriage return or 0. Its type, its subtype and its parameters' names are
+/// tokens. Its suffix is a token or empty. Its parameters' values are quoted content, such as `x y` in `a/b; p="x y"`.
 pub fn kept_is_safe()
     ensures { KeptIsSafe }
 {}
 
-/// If `; ` and a parameter with a quoted value follow the essence of a value that was read, they are read as this essence
-/// with only this parameter: `a/b; P="X"` is read as `a/b` with the parameter `p`, whose value is `X` (RFC 7231, 3.1.1.1).
+/// The essence of a value that was read, followed by `; ` and a parameter with a quoted value, is read as this essence
+/// with only this parameter: `a/b; P="X"` is read as `a/b` with the parameter `p`, whose value is `X` (RFC 7231,
+/// 3.1.1.1).
 #[tactic(auto, using(crate::proofs::LawsLemmas::Written::parameter_is_read))]
 pub fn parameter_is_read()
     ensures { ParameterIsRead }
@@ -157,14 +159,14 @@ pub fn one_order()
     ensures { OneOrder }
 {}
 
-/// If a value is before a second one, which is before a third, then the first is before the third: `a/b` is before
-/// `a/c`, and so before `a/d`.
+/// If a first value is before a second, and the second is before a third, then the first is before the third: `a/b` is
+/// before `a/c`, which is before `a/d`, so `a/b` is before `a/d`.
 pub fn before_is_transitive()
     ensures { BeforeIsTransitive }
 {}
 
 /// A string equals a value without parameters exactly if the string in lowercase is the kept text: `Text/Plain` equals
-/// `text/plain`, and `text/plain;` doesn't.
+/// the value `text/plain`, but `text/plain;` doesn't.
 pub fn bare_text_is()
     ensures { BareTextIs }
 {}
@@ -175,21 +177,22 @@ pub fn kept_text_is()
     ensures { KeptTextIs }
 {}
 
-/// A look-up in a list of items has at most one answer. It has one if the key accepts or doesn't accept each name:
+/// A look-up in a list of items has at most one result. It has a result if the key decides which names it accepts:
 /// `TextKey("P")` finds `1` in `a/b;p=1;p=2`, and nothing else.
 pub fn one_answer<K: ParamKey>(key: &K)
     ensures most { OneAnswer (K.Accepts key.now) }
     ensures least { HasAnswer (K.Accepts key.now) }
 {}
 
-/// A key that is a string, a `TextKey` or a `Name` accepts a name or doesn't: `"P"` accepts `p`, and not `q`.
+/// A key that is a string, a `TextKey` or a `Name` decides which names it accepts: `"P"` accepts `p`, but not `q`.
 pub fn keys_decide()
     ensures string { (key : Bor (List ℕ)) → IsDecided (⟦<&'static str as ParamKey>⟧.Accepts key) }
     ensures text { (key : TextKey) → IsDecided (⟦<TextKey<'static> as ParamKey>⟧.Accepts key) }
     ensures name { (key : Name) → IsDecided (⟦<Name<'static> as ParamKey>⟧.Accepts key) }
 {}
 
-/// Two values are equal exactly if their essences and their pairs are the same: `a/b; p="x"` and `A/B;P=x`.
+/// Two values are equal exactly if their essences and their pairs are the same, as those of `a/b; p="x"` and `A/B;P=x`
+/// are.
 pub fn mime_equality()
     ensures { (first second : OwnedMedia) → IsTrue (⟦<Mime as PartialEq>⟧.eq first second) ↔ Same first.media second.media }
 {}
@@ -199,22 +202,22 @@ pub fn mime_order()
     ensures { (first second : OwnedMedia) → IsOrderOf first.media second.media (⟦<Mime as Ord>⟧.cmp first second) }
 {}
 
-/// Equal values feed a hasher the same bytes: `a/b; p="x"` and `A/B;P=x`.
+/// Equal values feed a hasher the same bytes, as `a/b; p="x"` and `A/B;P=x` do.
 pub fn equal_values_feed_the_same()
     ensures { RespectsEquality ⟦<Mime as Hash>⟧.hash_input }
 {}
 
-/// The bytes that values feed a hasher are prefix-free: those of a value are never a prefix of those of an unequal
-/// value. So a pair of a value and a string feeds bytes that no other pair feeds: `a/bx` with `c` and `a/b` with `xc`
-/// feed different bytes.
+/// The bytes that values feed a hasher are prefix-free: the bytes of a value are never a prefix of the bytes of an
+/// unequal value. So a pair of a value and a string feeds bytes that no other pair feeds: `a/bx` with `c` and `a/b`
+/// with `xc` feed different bytes.
 #[tactic(auto, using(crate::proofs::ValueLemmas::Hash::hash_is_prefix_free))]
 pub fn hash_is_prefix_free()
     ensures { IsPrefixFree ⟦<Mime as Hash>⟧.hash_input }
 {}
 
-/// Strings whose first difference, ignoring ASCII case, is between two bytes other than space, tab and quote aren't
-/// read as equal values: `a/b;p=x` and `A/B;P=y`. If one of the bytes is a quote, they may be: `a/b;p=x` and
-/// `a/b;p="x"`.
+/// If two strings first differ, ignoring ASCII case, at two bytes other than space, tab and quote, they aren't read as
+/// equal values: `a/b;p=x` and `A/B;P=y` aren't. Strings that first differ at a quote may be read as equal values, as
+/// `a/b;p=x` and `a/b;p="x"` are.
 pub fn first_difference_decides()
     ensures { FirstDifferenceDecides }
 {}
@@ -225,8 +228,9 @@ pub fn one_cut()
     ensures { OneCut }
 {}
 
-/// Each item of a cut is a piece that is read as its value, or a bad piece, which is viable, rejected and not empty.
-/// The rest is viable and rejected: over `a/b, e, c` the items are `a/b` and the bad piece `e`, and the rest is `c`.
+/// Each item of a cut is a media type, whose piece is read as its value, or a bad piece, which is viable, rejected and
+/// not empty. The rest after the items is viable and rejected: the cut of `a/b, e, c` has the items `a/b` and the bad
+/// piece `e`, and the rest `c`.
 #[tactic(auto, using(crate::proofs::CutLemmas::Containment::cut_has_items))]
 pub fn cut_has_items()
     ensures { CutHasItems }
@@ -245,36 +249,36 @@ pub fn passes_one_character()
     ensures { PassesOneCharacter }
 {}
 
-/// A string is cut in exactly one number of steps: `a/b,c/d` in 7, one for each byte.
+/// The number of steps in which a string is cut is unique: `a/b,c/d` is cut in 7 steps, one per byte.
 #[tactic(auto, using(crate::proofs::CutLemmas::Containment::one_count))]
 pub fn one_count()
     ensures { OneCount }
 {}
 
-/// A comma ends the text before it, unless this text ends in an open quoted string. The text after the comma is cut
-/// like a string of its own: `e f, a/b` has the item `a/b`, as `a/b` has.
+/// A comma ends the text before it, unless this text ends in an open quoted string. The text after the comma is cut as
+/// if it were the whole string: the cut of `e f, a/b` has the item `a/b`, as the cut of `a/b` has.
 #[tactic(auto, using(crate::proofs::CutLemmas::Containment::comma_contains))]
 pub fn comma_contains()
     ensures { CommaContains }
 {}
 
-/// If the kept texts of values that were read are joined by a comma and a space, the cut has exactly these values: that
-/// of `a/b, c/d` has `a/b` and `c/d`.
+/// If the kept texts of values that were read are joined by a comma and a space, the cut of the joined text has exactly
+/// these values: the cut of `a/b, c/d` has `a/b` and `c/d`.
 #[tactic(auto, using(crate::proofs::CutLemmas::Containment::joined_comes_back))]
 pub fn joined_comes_back()
     ensures { JoinedComesBack }
 {}
 
-/// A list that HTTP allows (RFC 7230, 7) is cut into exactly its entries: accepted texts with a comma between each and
-/// the next, and with spaces, tabs and further commas after each comma and before the first. `a/b, ,\tc/d` is cut into
+/// A list that HTTP allows (RFC 7230, 7) is cut into exactly its entries. The entries are accepted texts, separated by
+/// commas. Spaces, tabs and further commas may precede the first entry and follow each comma: `a/b, ,\tc/d` is cut into
 /// `a/b` and `c/d`.
 #[tactic(auto, using(crate::proofs::CutLemmas::Containment::http_list_is_cut))]
 pub fn http_list_is_cut()
     ensures { HttpListIsCut }
 {}
 
-/// A run of a `MimeIter` yields the items of the cut: over `a/b, e, c/d` two media types and a bad piece. `NoMemory`
-/// may be yielded for a media type other than `*/*`, and ends the run.
+/// A run of a `MimeIter` yields the items of the cut: over `a/b, e, c/d` it yields two media types and a bad piece. In
+/// place of a media type other than `*/*` it may yield `NoMemory`, which ends the run.
 #[tactic(auto, using(crate::proofs::IterLemmas::run_gives_cut))]
 pub fn run_gives_cut()
     ensures { RunGivesCut }
@@ -287,13 +291,13 @@ pub fn comma_contains_on_runs()
     ensures { CommaContainsOnRuns }
 {}
 
-/// A run over a printed list of values that were read yields these values: over `a/b, c/d` it yields the two.
+/// A run over a printed list of values that were read yields these values: over `a/b, c/d` it yields `a/b` and `c/d`.
 pub fn printed_list_comes_back()
     ensures { PrintedListComesBack }
 {}
 
-/// Returns the constant names, in the order of their table, from `*` on. Each ignores case, and its text has no ASCII
-/// capital.
+/// Returns the constant names, in the order of their table, with `*` first. Each name ignores case, and its text has no
+/// ASCII capital.
 pub fn name_constants() -> [Name<'static>; 38]
     ensures texts { map name_text result ≡ name_table }
     ensures flags { IsTrue (list_all (λ name. name.ignores_case) result) }
@@ -302,7 +306,8 @@ pub fn name_constants() -> [Name<'static>; 38]
     *&NAMES
 }
 
-/// Names are equal if their texts and their flags are: `TEXT` isn't the name `text` whose flag is `false`.
+/// Two names are equal exactly if their texts and their flags are: `TEXT` isn't equal to the name `text` whose flag is
+/// `false`.
 pub fn name_equality()
     ensures { (first second : Name) → IsTrue (⟦<Name<'static> as PartialEq>⟧.eq first second)
         ↔ ((first.text.now ≡ second.text.now) × (first.ignores_case ≡ second.ignores_case)) }

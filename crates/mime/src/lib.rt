@@ -1,15 +1,15 @@
-//! Media types such as `text/plain; charset=utf-8` (RFC 7231, 3.1.1.1): read, stored, compared and printed. This is a
-//! port of the Rust crate `mime`, series 0.3. Its promises are contracts that a prover checks.
+//! Reads, stores, compares and prints media types such as `text/plain; charset=utf-8` (RFC 7231, 3.1.1.1). This crate
+//! is a port of the Rust crate `mime` 0.3. Contracts state its promises, and a prover checks them.
 //!
 //! [`Mime::from_str`] reads a media type from a string, [`MimeIter`] finds the media types in a string, and
-//! [`mime_eq_str`] compares a media type with a string. 38 constants such as [`CHARSET`] are names, 32 such as
-//! [`TEXT_PLAIN_UTF_8`] are media types. [`laws`] states what is true of all values.
+//! [`mime_eq_str`] compares a media type with a string. There are 38 constant names such as [`CHARSET`], and 32
+//! constant media types such as [`TEXT_PLAIN_UTF_8`]. [`laws`] states what is true of all values.
 //!
 //! To read headers of HTTP, use `content_type` and `Accept` of the crate `mime_http`: HTTP allows white space and empty
 //! parameters that this crate rejects.
 //!
 //! # Example
-//! Is a body in UTF-8? One of the media type `TEXT/HTML; Charset="UTF-8"` is.
+//! This function tells whether a body is in UTF-8, given its media type:
 //!
 //! ```rust
 //! use mime::{CHARSET, Mime, name_eq_str};
@@ -22,29 +22,29 @@
 //! ```
 //!
 //! # Errors
-//! A string that isn't a media type is rejected with its one fault, a [`ParseError`]: what is missing at its end, or
-//! the first byte that no media type could have there, with its position. Positions count bytes from 0. [`MimeIter`]
-//! yields a piece that isn't a media type as [`Bad::Piece`]. A bad entry doesn't affect the entries after its comma,
-//! unless it ends in an open quoted string. A last entry that isn't a media type, but could still become one, isn't
-//! yielded.
+//! A string that isn't a media type is rejected with its fault, a [`ParseError`]. The fault is what is missing at the
+//! string's end, or else the first byte that no media type could have at this position. Positions count bytes from 0.
+//! [`MimeIter`] yields a piece that isn't a media type as [`Bad::Piece`]. A bad entry doesn't affect the entries after
+//! its comma, unless it ends in an open quoted string. The last entry isn't yielded if it is only the beginning of a
+//! media type, such as `text/`.
 //!
 //! # Memory
 //! `Mime::from_str`, `MimeIter::new` and `KnownText::into_mime` take the allocator. Reading or making a media type from
 //! more than 40 bytes, including white space, allocates at most once, and so does each `clone` of it. If memory runs
-//! out, an error is returned. Nothing else allocates: rejecting a string doesn't, and a constant or a media type from
-//! at most 40 bytes is stored in the `Mime` itself.
+//! out, an error is returned. Nothing else allocates. A constant, or a media type read or made from at most 40 bytes,
+//! is stored in the `Mime` itself. Rejecting a string doesn't allocate.
 //!
 //! # Standards
 //! The grammar is that of RFC 7231 and RFC 7230, with the departures that docs/DIFFERENCES.md lists. RFC 9110 (8.3.1,
-//! 5.6.4, 5.6.6) replaced them in 2022. RFC 9110 lets a parameter be missing after any semicolon, this crate only after
-//! the last one: it reads `a/b;`, but not `a/b;;p=x`.
+//! 5.6.4, 5.6.6) replaced them in 2022. By RFC 9110, a parameter may be missing after any semicolon. This crate allows
+//! that only after the last semicolon: it reads `a/b;`, but not `a/b;;p=x`.
 //!
 //! # Left out
-//! This crate doesn't interpret media types: `mime_http` has ranges, weights, the choice by `Accept` and quoted pairs,
-//! and a recipe has file extensions. docs/DIFFERENCES.md lists the differences from the Rust crate and from RFC 7231,
-//! crates/mime/CALLING.md lists every contract, and docs/RECIPES.md solves common tasks.
+//! This crate doesn't interpret media types: `mime_http` has ranges, weights, the choice according to `Accept`, and
+//! quoted pairs. A recipe has file extensions. docs/DIFFERENCES.md lists the differences from the Rust crate and from
+//! RFC 7231, crates/mime/CALLING.md lists every contract, and docs/RECIPES.md solves common tasks.
 //!
-//! This is version 1.0.0; README.md says what may change within 1.x.
+//! This is version 1.0.0. README.md says what may change within 1.x.
 #![tactic(auto)]
 
 mod atoms;

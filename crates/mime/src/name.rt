@@ -13,8 +13,8 @@ use std::fmt;
 /// A part of a media type: a type, a subtype, a suffix, a parameter's name or its value (RFC 7231,
 /// 3.1.1.1). The type of `Text/Plain` is `Name { text: "text", ignores_case: true }`, and equals [`TEXT`](crate::TEXT).
 ///
-/// Two names are equal if their texts and their flags are. They are ordered by the bytes of the
-/// text, and then by the flag, `false` first. To compare with a string, see [`name_eq_str`].
+/// Two names are equal if their texts and their flags `ignores_case` are. Names are ordered by the bytes of the text,
+/// and then by the flag, `false` first. To compare with a string, see [`name_eq_str`].
 #[derive(Clone, Copy, PartialEq, Eq, PartialOrd, Ord, Hash)]
 pub struct Name<'a> {
     /// The part's text. If this crate returns a name that ignores case, its text has no ASCII capital.
@@ -55,8 +55,8 @@ impl fmt::Debug for Name<'_> {
 }
 
 /// Returns `true` if a name is equal to the string `s`: ignoring ASCII case if the name ignores case, otherwise byte
-/// for byte (RFC 7231, 3.1.1.1). `name_eq_str(&TEXT, "Text")` is true, but the boundary `ABC` isn't equal to `abc`. It
-/// doesn't allocate.
+/// for byte (RFC 7231, 3.1.1.1). `name_eq_str(&TEXT, "Text")` is true, but the boundary `ABC` isn't equal to `abc`. The
+/// comparison doesn't allocate.
 #[inline]
 pub fn name_eq_str(name: &Name<'_>, s: &str) -> bool
     ensures { IsTrue result ↔ NameIs name.now.text.now name.now.ignores_case s.now }
@@ -75,8 +75,8 @@ pub trait ParamKey: Drop {
     fn accepts(&self, name: Name<'_>) -> bool
         ensures { IsTrue result ↔ Accepts self.now name.entry.text.now name.entry.ignores_case };
 
-    /// Returns the text that is equal, ignoring ASCII case, to each name that the key accepts, if there is one: `P` for
-    /// `TextKey("P")`. The text makes a look-up faster, and doesn't change its result. The default is `None`.
+    /// Returns the text that equals, ignoring ASCII case, each name that the key accepts, if there is such a text: `P`
+    /// for `TextKey("P")`. The text makes a look-up faster, and doesn't change its result. The default is `None`.
     #[inline]
     fn text(&self) -> Option<&str>
         ensures { IfSome result (λ text. (name : List ℕ) → Accepts self.now name true → lowered name ≡ lowered text.now) }

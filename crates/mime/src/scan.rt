@@ -19,8 +19,9 @@ use crate::bytes::{
 pub use crate::scan::fault::{FromStrError, ParseError};
 pub(crate) use crate::scan::reader::{ByteReader, NEAR};
 
-/// The positions of an accepted string's parts, in bytes from 0, and the number of its parameters. In this order of
-/// fields, the byte of any other variant of `Scanned` isn't beside a position, which would then be moved in two parts.
+/// The positions of an accepted string's parts, in bytes from 0, and the number of its parameters. The order of the
+/// fields matters for speed: if the byte of another variant of `Scanned` were beside a position, the compiler would
+/// move this position in two parts.
 #[derive(Clone, Copy)]
 pub(crate) struct Positions {
     /// The plus before the suffix.
@@ -135,7 +136,7 @@ fn subtype(reader: &mut ByteReader<'_>, from: u128) -> (Option<usize>, Option<u8
     (if plus == 0 { None } else { Some(plus) }, stop)
 }
 
-/// Reads a parameter list, after its semicolon. `before` has the positions of the parts before it, and no pairs yet.
+/// Reads a parameter list, after its semicolon. `before` has the positions of the parts before the list, and no pairs.
 #[inline(always)]
 pub(crate) fn parameters(reader: &mut ByteReader<'_>, before: Positions) -> Scanned
     requires { before.pair_count + length reader.old.left < 2 ^ 64 }
@@ -191,8 +192,8 @@ pub(crate) fn separators(reader: &mut ByteReader<'_>) -> Option<u8>
     None
 }
 
-/// Reads a string after its first byte, to its end, or up to and including the first byte that no media type continues
-/// with.
+/// Reads a string, whose first byte was read already, to its end, or up to and including the first byte with which no
+/// media type continues.
 #[tactic(auto, using(crate::proofs::ScanLemmas::Passing::given_sum))]
 #[inline(always)]
 pub(crate) fn scan_after(first: u8, reader: &mut ByteReader<'_>) -> Scanned
@@ -231,7 +232,7 @@ pub(crate) fn scan_after(first: u8, reader: &mut ByteReader<'_>) -> Scanned
     parameters(reader, positions)
 }
 
-/// Reads a string to its end, or up to and including the first byte that no media type continues with.
+/// Reads a string to its end, or up to and including the first byte with which no media type continues.
 #[inline(always)]
 pub(crate) fn scan(reader: &mut ByteReader<'_>) -> Scanned
     ensures { Scans reader.old reader.new result }

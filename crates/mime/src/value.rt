@@ -68,13 +68,13 @@ impl Text {
 
 /// A media type, such as `text/plain; charset=utf-8` (RFC 7231, 3.1.1.1).
 ///
-/// Its text is stored as read, with two changes: type, subtype, parameter names and the `charset` value are
+/// The text is stored as it was read, with two changes: type, subtype, parameter names and the `charset` value are
 /// lowercased, and an empty parameter list is dropped. `Text/Plain; P=X` is kept as `text/plain; p=X`, and
 /// `text/plain;` as `text/plain`.
 #[derive(Drop)]
 pub struct Mime {
-    // In this order of fields, the byte of an error of `mime_http` is where the text has its tag, so no word is moved
-    // in parts.
+    // The order of the fields matters for speed: an error of `mime_http` has its byte where the text has its tag, so
+    // the compiler moves no word in parts.
     places: Places,
     text: Text,
     /// The end of the essence: the position of the semicolon after it, or the text's length if there is no parameter.
@@ -104,11 +104,11 @@ impl Mime {
     /// `text/plain; ` as `text/plain`.
     ///
     /// # Errors
-    /// Returns the fault of a string that isn't a media type. If something is missing at its end, this is
-    /// `MissingSlash`, `MissingSubtype`, `MissingEqual`, `MissingValue` or `MissingQuote`: it is `MissingEqual` for
-    /// `a/b;p`. Otherwise it is `InvalidToken`, with the first byte that no media type could have there, and its
-    /// position in bytes from 0: 5 for `text/;`. Rejecting a string doesn't allocate. Returns [`ParseError::NoMemory`]
-    /// if memory runs out, which can happen only for a media type of more than 40 bytes.
+    /// Returns the fault of a string that isn't a media type. If something is missing at the string's end, the fault is
+    /// `MissingSlash`, `MissingSubtype`, `MissingEqual`, `MissingValue` or `MissingQuote`: `MissingEqual` for `a/b;p`.
+    /// Otherwise the fault is `InvalidToken`, with the first byte that no media type could have at this position, and
+    /// the position in bytes from 0: 5 for `text/;`. Rejecting a string doesn't allocate. Returns
+    /// [`ParseError::NoMemory`] if memory runs out, which can happen only for a media type of more than 40 bytes.
     pub fn from_str(alloc: Global, s: &str) -> Result<Mime, FromStrError>
         // The result is the value of the string.
         ensures read { IfOk result (λ mime. Reads s.now mime.media) }
@@ -266,7 +266,7 @@ impl Mime {
         }
     }
 
-    /// Returns the suffix, in lowercase: the text after the subtype's last `+`, unless this is the subtype's first
+    /// Returns the suffix, in lowercase: the text after the subtype's last `+`, unless this `+` is the subtype's first
     /// byte. It is `xml` in `image/svg+xml`, the empty string in `a/b+`, and `None` in `a/+xml` (RFC 6838, 4.2.8).
     pub fn suffix(&self) -> Option<Name<'_>>
         ensures text { option_map name_text result ≡ suffix_of self.now.media }
@@ -288,9 +288,9 @@ impl Mime {
         &self.text.as_str()[..self.essence_end]
     }
 
-    /// Returns the kept text, which `Display` prints. If there is a parameter, it is the whole string that was read,
-    /// with type, subtype, parameter names and charset in lowercase; otherwise it is the essence. For `a/b;P=X; ` it is
-    /// `a/b;p=X; `. [`Mime::from_str`] reads it as an equal value with the same kept text.
+    /// Returns the kept text, which `Display` prints. If there is a parameter, the kept text is the whole string that
+    /// was read, with type, subtype, parameter names and charset in lowercase: `a/b;p=X; ` for `a/b;P=X; `. Otherwise
+    /// it is the essence. [`Mime::from_str`] reads the kept text as an equal value with the same kept text.
     pub fn as_str(&self) -> &str
         ensures text { result.now ≡ self.now.media.kept }
         ensures reads { Reads result.now self.now.media }
@@ -348,8 +348,8 @@ impl Mime {
 
     /// Returns the value of the first parameter whose name the key accepts, or `None` if the key accepts no name:
     /// `TextKey("P")` finds `1` in `a/b;p=1;P=2`, and `CHARSET` finds `utf-8` in `text/html; Charset="UTF-8"` (RFC
-    /// 7231, 3.1.1.1). The value is returned without quotes, but with backslashes: it is `\"x` for `a/b;p="\"x"`. It
-    /// isn't allocated.
+    /// 7231, 3.1.1.1). The value is returned without quotes, but with backslashes: it is `\"x` for `a/b;p="\"x"`.
+    /// Looking up doesn't allocate.
     #[inline(always)]
     pub fn get_param<K: ParamKey>(&self, key: K) -> Option<Name<'_>>
         ensures found { IsFirstAccepted (K.Accepts key) (items_of self.now.media.pairs) (option_map name_seen result) }

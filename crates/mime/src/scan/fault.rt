@@ -20,11 +20,11 @@ pub enum ParseError {
     MissingEqual,
     /// The string ends in a parameter's equals sign: a value is missing, as in `a/b;p=`.
     MissingValue,
-    /// The string ends in a quoted string: its closing `"` is missing, as in `a/b;p="x`. After an unpaired backslash,
-    /// as in `a/b;p="\`, the byte after it is missing, too.
+    /// The string ends in a quoted string: its closing `"` is missing, as in `a/b;p="x`. If it ends in an unpaired
+    /// backslash, as in `a/b;p="\`, the other byte of the quoted pair is missing, too.
     MissingQuote,
-    /// The string has a byte that no media type has there, as the space in `a b`. Some media type begins with the bytes
-    /// before it, but none with the bytes up to and including it.
+    /// The string has a byte that no media type has at this position, such as the space in `a b`. Some media type
+    /// begins with the bytes before this byte, but none with the bytes up to and including it.
     InvalidToken {
         /// The position of the byte, in bytes from 0.
         pos: usize,

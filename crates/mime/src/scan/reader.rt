@@ -24,12 +24,12 @@ pub(crate) struct ByteReader<'a> {
     known: usize,
     /// Which of the known bytes aren't common token bytes, as a bit mask.
     stops: u64,
-    /// The number of bytes of a run that the caller's loop reads. The others are read by a call, which costs more for a
-    /// short run.
+    /// The maximum number of bytes of a token that the caller's loop reads. A call reads the others, which costs more
+    /// for a short token.
     near: usize,
 }
 
-/// The number of bytes of a run that the loop of a `MimeIter` reads. Most tokens are shorter.
+/// The maximum number of bytes of a token that the loop of a `MimeIter` reads. Most tokens are shorter.
 pub(crate) const NEAR: usize = 24;
 
 /// Returns the position of the first byte, at or after `from`, that ends a token, or the length if there is none. A
@@ -50,8 +50,8 @@ fn end_of_token(text: &[u8], from: usize, with_plus: bool) -> usize
     at
 }
 
-/// Returns the same as `end_of_token`, if a plus ends the token. It isn't inlined: beside other loops, its loop would
-/// have twice as many instructions.
+/// Returns the same as `end_of_token` if `with_plus` is false. This function isn't inlined: beside other loops, its
+/// loop would have twice as many instructions.
 #[inline(never)]
 fn end_at_plus(text: &[u8], from: usize) -> usize
     requires { from ≤ length text.now }
@@ -61,7 +61,7 @@ fn end_at_plus(text: &[u8], from: usize) -> usize
     end_of_token(text, from, false)
 }
 
-/// Returns the same as `end_of_token`, if a plus doesn't end the token. Like `end_at_plus`, it isn't inlined.
+/// Returns the same as `end_of_token` if `with_plus` is true. Like `end_at_plus`, it isn't inlined.
 #[inline(never)]
 fn end_past_pluses(text: &[u8], from: usize) -> usize
     requires { from ≤ length text.now }
@@ -71,7 +71,7 @@ fn end_past_pluses(text: &[u8], from: usize) -> usize
     end_of_token(text, from, true)
 }
 
-/// Returns the same as `end_of_token`, by a call.
+/// Returns the same as `end_of_token`, but calls a function that isn't inlined.
 #[inline(always)]
 fn end_far(text: &[u8], from: usize, with_plus: bool) -> usize
     requires { from ≤ length text.now }
@@ -99,7 +99,7 @@ impl<'a> Model for ByteReader<'a> {
 impl<'a> ByteReader<'a> {
     /// Returns a reader of all bytes of `text`, whose count begins at `count`. The reader looks only at bytes that it
     /// has counted, and at the next one, so that its count is the number of steps of a `MimeIter`. The caller's loop
-    /// reads at most `near` bytes of a run; a call reads the others.
+    /// reads at most `near` bytes of a token. A call reads the others.
     #[inline(always)]
     pub(crate) fn new(text: &'a str, count: u128, near: usize) -> ByteReader<'a>
         requires { count + length text.now < 2 ^ 128 }
@@ -116,8 +116,8 @@ impl<'a> ByteReader<'a> {
         }
     }
 
-    /// Returns a reader of all bytes of `text`, whose count begins at 0. The reader looks at blocks of bytes, and may
-    /// skip some of these bytes. It is for callers that don't count steps.
+    /// Returns a reader of all bytes of `text`, whose count begins at 0. The reader looks at blocks of bytes, which may
+    /// go beyond the next byte. It is for callers that don't count steps.
     #[inline(always)]
     pub(crate) fn by_blocks(text: &'a str) -> ByteReader<'a>
         ensures left { result.left ≡ text.now }
@@ -148,15 +148,15 @@ impl<'a> ByteReader<'a> {
         Some(byte)
     }
 
-    /// Returns the position up to which the caller's loop reads a run that begins at the next byte.
+    /// Returns the position up to which the caller's loop reads a token that begins at the next byte.
     #[inline(always)]
     pub(crate) fn near_end(&self) -> usize {
         // The sum wraps only if `near` is `usize::MAX`. Then `is_before` ignores the position.
         self.at.wrapping_add(self.near).min(self.text.len())
     }
 
-    /// Returns `true` if the caller's loop reads the next byte: if a byte is left, and its position is before `end` or
-    /// `near` is `usize::MAX`.
+    /// Returns `true` if the caller's loop reads the next byte: if a byte is left, and either its position is before
+    /// `end`, or `near` is `usize::MAX`.
     #[inline(always)]
     pub(crate) fn is_before(&self, end: usize) -> bool
         ensures { IsTrue result → 0 < length self.now.left }
@@ -178,7 +178,7 @@ impl<'a> ByteReader<'a> {
         byte
     }
 
-    /// Skips a token's bytes by a call, unless the string has ended.
+    /// Skips a token's bytes with a call that isn't inlined, unless the string has ended.
     #[inline(always)]
     fn skip_far(&mut self, with_plus: bool)
         ensures { Passing (token_bytes with_plus) self.old self.new }
@@ -188,7 +188,7 @@ impl<'a> ByteReader<'a> {
         }
     }
 
-    /// Skips a token's bytes by a call that isn't inlined, and returns the byte after them, if there is one.
+    /// Skips a token's bytes with a call that isn't inlined, and returns the byte after them, or `None` at the end.
     #[inline(always)]
     pub(crate) fn next_far(&mut self, with_plus: bool) -> Option<u8>
         ensures reaches { Reaches (token_bytes with_plus) self.old self.new result }
@@ -198,8 +198,7 @@ impl<'a> ByteReader<'a> {
         self.next()
     }
 
-    /// Skips bytes, block by block, up to the first at which a search stops. If less than a block is left, skips
-    /// nothing.
+    /// Skips bytes, block by block, up to the first byte of `class`. If less than a block is left, skips nothing.
     #[inline(always)]
     fn skip_blocks(&mut self, class: &Class)
         ensures { Passing (λ b. not (is_stop class.now b)) self.old self.new }
@@ -209,7 +208,7 @@ impl<'a> ByteReader<'a> {
         }
     }
 
-    /// Skips common token bytes, and returns the first known byte that isn't one, or `None` if there is none. Tokens
+    /// Skips common token bytes, and returns the known byte after them, or `None` if no known byte ends them. Tokens
     /// after the known bytes are read byte by byte, since many short ones may follow.
     #[inline(always)]
     pub(crate) fn known_stop(&mut self) -> Option<u8>
@@ -229,8 +228,7 @@ impl<'a> ByteReader<'a> {
         Some(self.text[stop])
     }
 
-    /// Returns `false` if the token at the next byte ends at a known byte that no media type has there. The string is
-    /// rejected at that byte.
+    /// Returns `false` if the token at the next byte ends at a known byte at which the string is rejected.
     #[inline(always)]
     fn may_go_on(&self) -> bool {
         if self.at >= self.known {
@@ -257,7 +255,7 @@ impl<'a> ByteReader<'a> {
         }
     }
 
-    /// Skips bytes of quoted text if the next byte is known. It may leave some of the quoted text.
+    /// Skips bytes of quoted text if the next byte is known. Some of the quoted text may remain.
     #[inline(always)]
     pub(crate) fn skip_quoted_text(&mut self)
         ensures { Passing is_quoted_text_byte self.old self.new }

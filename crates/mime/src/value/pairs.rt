@@ -27,8 +27,8 @@ pub(crate) struct Pair<'a> {
     pub(crate) rest: Rest<'a>,
 }
 
-/// Returns the length in bytes of a quoted string's content, of which the first quote may be in a quoted pair. This
-/// function isn't inlined: few values have a backslash before their first quote.
+/// Returns the length in bytes of a quoted string's content. The first quote in the content may be in a quoted pair.
+/// This function isn't inlined: few values have a backslash before their first quote.
 #[cold]
 #[inline(never)]
 fn content_len_past_quoted_pairs(text: &[u8]) -> usize
@@ -221,9 +221,9 @@ struct FirstName<'a> {
     is_accepted: bool,
 }
 
-/// Cuts the first name and the spaces before it off a list. If `is_only` and the key has a text, no equals sign is
-/// searched for, since the key accepts only a name of the text's length. Then the result is `None` if the key doesn't
-/// accept the name.
+/// Cuts the first name and the spaces before it off a list. If the list has only one name (`is_only`) and the key has a
+/// text, no equals sign is searched for, since the key accepts only a name of the text's length. In this case the
+/// result is `None` if the key doesn't accept the name.
 #[inline(always)]
 fn cut_name_for<'a, K: ParamKey>(list: &Rest<'a>, is_only: bool, key: &K) -> Option<FirstName<'a>>
     ensures other { result ≡ None → IsTrue is_only × ¬ (K.Accepts key.now (cut_of list.now).name true) }
@@ -313,7 +313,7 @@ impl<'a> Pairs<'a> {
     }
 
     /// Returns the value of the first pair whose name a key accepts, if there is one. If the key doesn't accept the
-    /// last name, the value of that name isn't searched.
+    /// last name, its value isn't read.
     #[inline(always)]
     pub(crate) fn first_accepted<K: ParamKey>(self, key: &K) -> Option<Name<'a>>
         requires { AreLowPairs self }

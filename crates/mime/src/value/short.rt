@@ -47,7 +47,7 @@ fn padded(text: &str) -> [u8; PADDED]
     bytes
 }
 
-/// Lowercases the parts that ignore case of the text at the start of a block. The text has `count` pairs.
+/// Lowercases the text at the start of a block, but only its parts that ignore case. The text has `count` pairs.
 #[inline(always)]
 fn lowercase_pairs(block: &mut [u8; PADDED], text: &str, semicolon: usize, count: usize)
     requires short { length text.now ≤ SHORT }

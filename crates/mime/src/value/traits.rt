@@ -16,8 +16,8 @@ use std::cmp::Ordering;
 use std::fmt;
 use std::hash::{Hash, Hasher};
 
-/// Returns `true` if two values are equal. It compares their parts, since equal values may be written differently, as
-/// `p=x` and `p="x"`. It isn't inlined: most calls of `eq` return before they call it.
+/// Returns `true` if two values are equal. Their parts are compared, since the texts of equal values may differ, as
+/// `p=x` and `p="x"` do. This function isn't inlined: most calls of `eq` return without calling it.
 #[cold]
 #[inline(never)]
 fn same_parts(first: &Mime, second: &Mime) -> bool
@@ -72,7 +72,7 @@ fn order_pairs(first: &Mime, second: &Mime) -> Ordering
 fn order_short(first: &Mime, second: &Mime) -> Option<Ordering>
     ensures { IfSome result (λ order. order ≡ media_cmp first.now.media second.now.media) }
 {
-    // Each test of a text's variant is such a `match`, so that the compiler recognizes later tests as the same.
+    // Every function tests a text's variant with such a `match`, so that the compiler recognizes repeated tests.
     let text = match &first.text {
         Text::Owned(_) => return None,
         Text::Short(text) => text,
@@ -140,9 +140,9 @@ impl PartialOrd for Mime {
     }
 }
 
-/// Values are ordered by the bytes of their essences, and then by their parameters, pair by pair, each by its name and
-/// then its value. A list is before a longer one that begins with it. For example, `a/b`, `a/b;p=1`, `a/b;p=2` and
-/// `a/c` are in order. Comparing doesn't allocate.
+/// Values are ordered by the bytes of their essences, and then by their parameters. Parameters are compared pair by
+/// pair, first by name and then by value. A list of parameters is before a longer list that begins with it. For
+/// example, `a/b`, `a/b;p=1`, `a/b;p=2` and `a/c` are in order. Comparing doesn't allocate.
 impl Ord for Mime {
     ghost cmp = { on (λ mime. mime.media) media_cmp };
 
