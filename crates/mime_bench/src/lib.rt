@@ -1,4 +1,4 @@
-//! The operations that bench/ measures, as a call over byte slices.
+//! The operations that bench/ measures, as one call over byte slices.
 //!
 //! The call repeats an operation, so that the times of two calls differ only by the operation. No clause states the results. The driver
 //! compares them with those of the Rust crate.
@@ -195,7 +195,7 @@ fn cmp(values: &[Mime], others: &[Mime], rounds: usize) -> usize {
     sum!(rounds, (mime, other) in values.iter().zip(others) => mime.cmp(other).is_lt() as usize)
 }
 
-/// Hashes with the default hasher of a map. Returns how many hashes aren't 1, since the hashes of the two libraries differ, and their
+/// Hashes with the default hasher of a map. Returns how many hashes aren't 1. The hashes themselves differ between the two libraries, whose
 /// results must be equal.
 #[inline(never)]
 fn hash(values: &[Mime], rounds: usize) -> usize {
@@ -214,7 +214,7 @@ fn clone(values: &[Mime], rounds: usize) -> usize {
     })
 }
 
-/// Prints into a string that is used again.
+/// Prints into a string that is reused.
 #[inline(never)]
 fn print(alloc: Global, values: &[Mime], rounds: usize) -> usize {
     let mut printed = String::new(alloc);
@@ -291,7 +291,7 @@ fn written(made: Result<Option<Mime>, AllocError>) -> usize {
     }
 }
 
-/// Reads an `Accept` header and chooses the best of the offers. The result is its position, counted from 1.
+/// Reads an `Accept` header and chooses the best of the offers. The result is the best offer's position, counted from 1.
 #[inline(never)]
 fn negotiate(alloc: Global, texts: &[&str], offers: &[Mime], rounds: usize) -> usize {
     sum!(rounds, text in texts => match Accept::from_lines(alloc, &[text.as_bytes()]) {

@@ -1,8 +1,8 @@
 //! The calls that include/mime.h declares, for programs that aren't in Rattle.
 //!
-//! No call keeps a pointer or a state. Each returns a number, its answer, and writes strings, each with a byte 0 after it, into the
-//! caller's buffer. The files `Answers`, `HeaderAnswers` and `ParameterAnswers` of `Rattle.mime_c.specs` define the answers and the
-//! strings. include/mime.h describes them in plain words.
+//! No call keeps a pointer or a state. Each call returns a number, its answer. It writes strings into the caller's buffer, each with a byte
+//! 0 after it. The files `Answers`, `HeaderAnswers` and `ParameterAnswers` of `Rattle.mime_c.specs` define the answers and the strings.
+//! include/mime.h describes them in plain words.
 #![tactic(auto)]
 
 ghost use Rattle.std.specs.Prelude.{◌≡◌, ◌≢◌, ◌+◌, ◌<◌, ◌≤◌, true, false, [], ◌∷◌, length, IfOk, IfErr, IsOk, MatchResult};
@@ -58,8 +58,8 @@ const MIME_GOOD: u8 = b'+';
 
 const MIME_BAD: u8 = b'-';
 
-/// The numbers that `mime_read` and `mime_content_type` find besides the strings. Lengths and positions are in bytes, positions from 0. A
-/// field that an answer doesn't set is 0.
+/// The numbers that `mime_read` and `mime_content_type` find besides the strings. Lengths and positions are in bytes. Positions count from
+/// 0. A field that an answer doesn't set is 0.
 #[repr(C)]
 #[derive(Clone, Copy)]
 pub struct MimeFound {
@@ -263,8 +263,8 @@ pub extern "C" fn mime_read(
     }
 }
 
-/// Reads a header's value, such as that of a Content-Type, as one media type (RFC 9110, 8.3.1), and writes the strings that `mime_read`
-/// writes to `out`, which must have at least `3 * value.len() + 2` bytes. Returns `MIME_OK`, or another answer of include/mime.h if it
+/// Reads a header's value, such as that of a Content-Type, as one media type (RFC 9110, 8.3.1), and writes to `out` the strings that
+/// `mime_read` writes. `out` must have at least `3 * value.len() + 2` bytes. Returns `MIME_OK`, or another answer of include/mime.h if it
 /// wrote nothing.
 #[unsafe(no_mangle)]
 pub extern "C" fn mime_content_type(
@@ -372,9 +372,9 @@ fn put_range(out: &mut [u8], at: usize, range: &Mime) -> usize
     put(out, end, "")
 }
 
-/// Reads a line of an Accept header (RFC 9110, 12.5.1), and writes the strings of each range to `out`, which must have at least
-/// `3 * text.len() + 3` bytes: the weight in thousandths, as four digits, the parts, and an empty string. Sets `bad` to the number of bad
-/// entries. Returns `MIME_OK`, `MIME_NO_ROOM` or `MIME_NO_MEMORY`.
+/// Reads a line of an Accept header (RFC 9110, 12.5.1), and writes the strings of each range to `out`, which must have at least `3 *
+/// text.len() + 3` bytes. The strings of a range are its weight in thousandths, as four digits, its parts, and an empty string. Sets `bad`
+/// to the number of bad entries. Returns `MIME_OK`, `MIME_NO_ROOM` or `MIME_NO_MEMORY`.
 #[unsafe(no_mangle)]
 pub extern "C" fn mime_accept(
     alloc: Global,
@@ -422,8 +422,8 @@ fn has_bad(offered: &Accept) -> bool
     !offered.bad().is_empty()
 }
 
-/// Sets `best` to the position of the best offer for an Accept header (RFC 9110, 12.5.1) in a list of offers, such as
-/// `text/html, application/json`. A request without the header, for which `is_there` is false, accepts everything. Returns `MIME_OK`,
+/// Chooses from a list of offers, such as `text/html, application/json`, the best one for an Accept header (RFC 9110, 12.5.1), and sets
+/// `best` to its position in the list. A request without the header, for which `is_there` is false, accepts everything. Returns `MIME_OK`,
 /// `MIME_BAD_OFFER`, `MIME_NOT_ACCEPTABLE` or `MIME_NO_MEMORY`.
 #[unsafe(no_mangle)]
 pub extern "C" fn mime_best(

@@ -59,8 +59,7 @@ pub extern "C" fn mime_boundary(
     }
 }
 
-/// Returns `true` if a byte begins a quoted pair: it is a backslash, and not `is_paired`, which says that the byte before it begins a
-/// quoted pair.
+/// Returns `true` if a byte begins a quoted pair: it is a backslash, and isn't the second byte of a quoted pair, which `is_paired` says.
 fn begins_quoted_pair(is_paired: bool, byte: u8) -> bool
     ensures { result ≡ (not is_paired && byte == backslash_byte) }
 {
@@ -121,8 +120,8 @@ fn has_room(out: &[u8], text: &[u8], name: &[u8], value: &[u8]) -> bool
     most <= out.len() as u128
 }
 
-/// Writes a media type with a parameter in place of those of its name (RFC 9110, 5.6.6) to `out`, which must have at least
-/// `2 * text.len() + name.len() + 2 * value.len() + 6` bytes. Sets `size` to the number of bytes of the media type. Returns `MIME_OK`, or
+/// Writes a media type with a parameter in place of all parameters of its name (RFC 9110, 5.6.6) to `out`, which must have at least `2 *
+/// text.len() + name.len() + 2 * value.len() + 6` bytes. Sets `size` to the number of bytes of the media type. Returns `MIME_OK`, or
 /// another answer of include/mime.h if it wrote nothing.
 #[unsafe(no_mangle)]
 pub extern "C" fn mime_set_parameter(

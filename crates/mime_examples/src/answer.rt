@@ -21,7 +21,7 @@ pub fn status_of(error: &FieldError) -> u16
     }
 }
 
-/// Returns the status that rejects a request for its `Content-Type`, or `None` if the media type is `application/json`, whatever its
+/// Returns the status that rejects a request because of its `Content-Type`, or `None` if the media type is `application/json`, whatever its
 /// parameters are. The status is 415 for any other media type (RFC 9110, 15.5.16), and otherwise that of [`status_of`].
 pub fn refusal(alloc: Global, value: &[u8]) -> Option<u16>
     // Only JSON is accepted.
@@ -51,9 +51,9 @@ pub fn refusal(alloc: Global, value: &[u8]) -> Option<u16>
     }
 }
 
-/// Returns the status that rejects a request with a body for its `Content-Type`, or `None` if the body is JSON. A body without a
-/// `Content-Type` may be anything (RFC 9110, 8.3), so it is rejected with 415. Reply with 400 to a request with two such headers, since
-/// recipients differ in which one they use.
+/// Returns the status that rejects a request with a body because of its `Content-Type`, or `None` if the body is JSON. A body without a
+/// `Content-Type` may be anything (RFC 9110, 8.3), so it is rejected with 415. Reply with 400 to a request with two `Content-Type` headers,
+/// since recipients differ in which header they use.
 pub fn refusal_of_body(alloc: Global, content_type: Option<&[u8]>) -> Option<u16>
     ensures without { content_type.entry ≡ None → result ≡ Some 415 }
     ensures taken { result ≡ None → IsSomeAnd content_type.entry (λ value. (media : MediaType) × HttpReads value.now media

@@ -6,8 +6,8 @@ ghost use Rattle.mime.specs.Values.{Reads};
 use mime::{Mime, ParseError};
 use std::alloc::{AllocError, Global};
 
-/// Returns the media type of a kind of document in JSON: `application/vnd.cart+json` for `cart`. Returns `None` if the name can't be part
-/// of a token, such as `a/b`, or would add a parameter, such as `a; q=1`.
+/// Returns the media type of a kind of document in JSON: `application/vnd.cart+json` for `cart`. Returns `None` for a name that can't be
+/// part of a token, such as `a/b`, or that would add a parameter, such as `a; q=1`.
 ///
 /// # Errors
 /// Returns `AllocError` if memory runs out.

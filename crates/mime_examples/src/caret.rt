@@ -3,8 +3,8 @@
 use mime::{FromStrError, ParseError};
 use std::alloc::{AllocError, Global};
 
-/// Returns a line with a caret under the character at fault in a rejected string, or after its end if something is missing
-/// or memory ran out.
+/// Returns a line with a caret under the character at fault in a rejected string, or after the string's end if something is missing or
+/// memory ran out.
 ///
 /// # Errors
 /// Returns `AllocError` if memory runs out.

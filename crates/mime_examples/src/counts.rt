@@ -38,7 +38,7 @@ pub fn count(counts: &mut Counts, mime: Mime) -> Result<(), AllocError>
     Ok(())
 }
 
-/// Returns the media types with their counts, in the order of media types.
+/// Returns the media types with their counts, sorted by media type.
 ///
 /// # Errors
 /// Returns `AllocError` if memory runs out.

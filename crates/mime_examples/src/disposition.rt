@@ -30,11 +30,12 @@ fn meaning(alloc: Global, mime: &Mime, name: &str) -> Result<Option<Vec<u8>>, Al
     Ok(Some(meaning))
 }
 
-/// Reads the value of a `Content-Disposition` of a part of `multipart/form-data` (RFC 7578, 4.2), which must have no white space before it:
-/// `form-data; name="field"; filename="a \"b\".txt"` names the field `field` and the file `a "b".txt`. Returns `None` exactly if the value
-/// isn't `form-data` with a `name` and with parameters that HTTP allows, in UTF-8. Of two parameters of the same name, the first counts.
+/// Reads the value of a `Content-Disposition` of a part of `multipart/form-data` (RFC 7578, 4.2). There must be no white space before the
+/// value. `form-data; name="field"; filename="a \"b\".txt"` names the field `field` and the file `a "b".txt`. Returns `None` exactly if the
+/// value isn't `form-data` with a `name` and with parameters that HTTP allows, in UTF-8. Of two parameters of the same name, the first
+/// counts.
 ///
-/// Many clients write `%22` for a quote. It isn't decoded. A parameter `filename*` isn't read.
+/// Many clients write `%22` in place of a quote. This isn't decoded. A parameter `filename*` isn't read.
 ///
 /// # Errors
 /// Returns `AllocError` if memory runs out.

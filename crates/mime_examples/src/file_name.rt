@@ -39,7 +39,8 @@ pub fn file_name(alloc: Global, mime: &Mime) -> Result<Option<Vec<u8>>, AllocErr
     Ok(Some(name))
 }
 
-/// Writes a file's name, and returns the name that is read back, which is the same, or `None` if [`with_file_name`] returns `None`.
+/// Writes a file's name as a parameter, and returns the name that is read back, which is the same. Returns `None` if [`with_file_name`]
+/// does.
 pub fn written_and_read(
     alloc: Global,
     mime: &Mime,

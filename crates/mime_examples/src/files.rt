@@ -3,11 +3,12 @@
 ghost use Rattle.std.specs.Prelude.{◌≡◌, ◌≢◌, ℕ, List, None, IfSome, Contains, map};
 ghost use Rattle.mime.specs.Values.{lowered};
 
-/// The media type of any other file (RFC 2046, 4.5.1).
+/// The media type of a file whose extension isn't in the table (RFC 2046, 4.5.1).
 const OTHER: &str = "application/octet-stream";
 
-/// The media types of files by their extensions, which are in lowercase: those of the constants, and those of Debian's package media-types
-/// that servers send most. Some clients read a text without a charset in a wrong charset, so texts have the charset UTF-8.
+/// The media types of files by their extensions, which are in lowercase. They are the types of the constants, and the types of Debian's
+/// package media-types that servers send most. Some clients read a text without a charset in a wrong charset, so texts have the charset
+/// UTF-8.
 static TYPES: [(&str, &str); 95] = [
     ("7z", "application/x-7z-compressed"),
     ("aac", "audio/aac"),
@@ -132,7 +133,7 @@ pub fn type_of_ending(table: &[(&'static str, &'static str)], ending: &str) -> O
     None
 }
 
-/// Returns the media type of a file by its extension after the last dot of its name, ignoring ASCII case. Returns
+/// Returns the media type of a file according to the extension after the last dot of its name, ignoring ASCII case. Returns
 /// `application/octet-stream` if the table doesn't have the extension, or there is no dot.
 pub fn type_of_file(name: &str) -> &'static str {
     match name.rsplit_once('.') {

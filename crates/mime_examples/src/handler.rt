@@ -16,7 +16,7 @@ pub enum Handler {
     Refuse,
 }
 
-/// Returns the handler of a body by its media type, whatever the parameters are.
+/// Returns the handler of a body according to its media type, whatever the parameters are.
 pub fn handler_of(mime: &Mime) -> Handler
     ensures json { (result ≡ Handler.Json) ↔ ((type_of mime.now.media ≡ codes "application")
         × (subtype_of mime.now.media ≡ codes "json") × (suffix_of mime.now.media ≡ None)) }

@@ -9,7 +9,7 @@ use mime::laws::kept_is_safe;
 /// Returns the value of a header for a media type (RFC 9110, 8.3).
 pub fn header_text(mime: &Mime) -> &str
     ensures text { result.now ≡ mime.now.media.kept }
-    // It has no line feed, no carriage return and no byte 0, so it can't inject anything into the response.
+    // The value has no line feed, no carriage return and no byte 0, so it can't inject anything into the response.
     ensures safe { AreHeaderBytes result.now }
 {
     kept_is_safe();

@@ -9,8 +9,8 @@ use mime::TEXT_HTML;
 use mime_http::Accept;
 use std::alloc::{AllocError, Global};
 
-/// Returns `true` if HTML weighs more than 0 by the lines of an `Accept` header (RFC 9110, 12.5.1), as by `text/*;q=0.3`, but not by
-/// `text/html ; q=0, */*`.
+/// Returns `true` if HTML weighs more than 0 according to the lines of an `Accept` header (RFC 9110, 12.5.1), as for `text/*;q=0.3`, but
+/// not for `text/html ; q=0, */*`.
 ///
 /// # Errors
 /// Returns `AllocError` if memory runs out.

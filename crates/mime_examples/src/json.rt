@@ -5,7 +5,7 @@ ghost use Rattle.mime.specs.Values.{suffix_of};
 
 use mime::Mime;
 
-/// Returns `true` if a media type is JSON, by its essence or by its suffix (RFC 6839, 3.1), whatever its parameters are.
+/// Returns `true` if a media type is JSON, according to its essence or its suffix (RFC 6839, 3.1), whatever its parameters are.
 pub fn is_json(mime: &Mime) -> bool
     ensures { IsTrue result ↔ ((mime.now.media.essence ≡ codes "application/json")
         ⊎ (suffix_of mime.now.media ≡ Some (codes "json"))) }

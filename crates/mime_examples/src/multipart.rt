@@ -130,8 +130,8 @@ fn parts_between<'a>(
     })
 }
 
-/// Returns the parts of a body, which are between lines that begin with the delimiter. A line that continues with two hyphens is the last
-/// of these. Returns `None` exactly if the media type has no boundary. Parts aren't examined, and may have no header.
+/// Returns the parts of a body, which are between lines that begin with the delimiter. A line with two hyphens after the delimiter ends the
+/// last part. Returns `None` exactly if the media type has no boundary. Parts aren't examined, and may have no header.
 pub fn parts<'a>(alloc: Global, mime: &Mime, body: &'a [u8]) -> Result<Option<Body<'a>>, AllocError>
     ensures { IfOk result (λ answer. MatchOption answer ((boundary : List ℕ) → ¬ (IsBoundaryOf mime.now.media boundary))
         (λ found. (boundary : List ℕ) × IsBoundaryOf mime.now.media boundary

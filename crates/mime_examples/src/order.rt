@@ -9,8 +9,8 @@ use mime::Mime;
 use mime_http::Accept;
 use std::alloc::{AllocError, Global};
 
-/// Returns the positions of the offers that the lines of a request's `Accept` header accept, the best first. If the first can't be
-/// produced, try the next.
+/// Returns the positions of the offers that the lines of a request's `Accept` header accept, the best first. If the first offer can't be
+/// produced, try the next one.
 ///
 /// # Errors
 /// Returns `AllocError` if memory runs out.

@@ -20,8 +20,8 @@ pub fn essence_of(content_type: &str) -> &str
     before.trim_ascii()
 }
 
-/// Returns the reader of a body by the essence of its `Content-Type`, whatever the parameters are: `json`, `form` or `text`, or `bytes` for
-/// any other essence. It doesn't allocate.
+/// Returns the reader of a body according to the essence of its `Content-Type`, whatever the parameters are: `json`, `form` or `text`, or
+/// `bytes` for any other essence. It doesn't allocate.
 pub fn reader_of(content_type: &str) -> &'static str
     ensures { (essence : List ℕ) × IsTrimAscii (before_first (λ b. b == semicolon_byte) content_type.now) essence
         × (result.now ≡ (if bytes_eq (lowered essence) (codes "application/json") then codes "json" else

@@ -9,8 +9,8 @@ use mime::Mime;
 use mime_http::Accept;
 use std::alloc::Global;
 
-/// Returns the media type of a file by its name, if the lines of a request's `Accept` header accept it. The media type of a text has a
-/// charset.
+/// Returns the media type of a file according to its name, if the lines of a request's `Accept` header accept it. The media type of a text
+/// has a charset.
 ///
 /// # Errors
 /// Returns the status of the reply: 406 if the client doesn't accept the media type (RFC 9110, 15.5.7), or 503 if memory ran out (15.6.4).

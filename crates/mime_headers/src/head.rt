@@ -96,7 +96,8 @@ fn begins(label: &[u8], line: &[u8]) -> bool
     line.len() >= label.len() && line[..label.len()].eq_ignore_ascii_case(label)
 }
 
-/// Adds to a field's value the lines at the start of `lines` that continue it, each trimmed and after one space.
+/// Adds to a field's value the lines at the start of `lines` that continue the field. Each line is trimmed, and one space is added before
+/// it.
 fn push_continued(value: &mut Vec<u8>, lines: &[&[u8]]) -> Result<(), AllocError>
     ensures { OnOk result (vec_items value.new ≡ vec_items value.old ++ continued (map (λ line. line.now) lines.now)) }
 {
@@ -276,7 +277,8 @@ fn from_status(input: &[u8]) -> Option<&[u8]>
     None
 }
 
-/// Returns the title of a head: its first line that doesn't begin with `*`, as curl's remarks do. Returns an empty title if there is none.
+/// Returns the title of a head: its first line that isn't a remark of curl, which begins with `*`. Returns an empty title if there is no
+/// such line.
 pub(crate) fn title_of<'a>(head: &[&'a [u8]]) -> &'a [u8]
     ensures { result.now ≡ title_of (map (λ line. line.now) head.now) }
 {

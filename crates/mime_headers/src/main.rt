@@ -1,5 +1,5 @@
-//! Reads the heads of requests and responses, and reports on their `Content-Type` and `Accept` fields. The arguments are offers: the report
-//! also shows which one is the best, and why.
+//! Reads the heads of requests and responses, and reports on their `Content-Type` and `Accept` fields. The arguments are a server's offers.
+//! The report also shows which offer is the best, and why.
 #![tactic(auto)]
 
 ghost use Rattle.std.specs.Prelude.{◌≡◌, OnErr};
@@ -68,7 +68,7 @@ fn status(rt: &impl Eprint, outcome: Result<Verdict, RunError>) -> ExitCode
     }
 }
 
-/// Returns the exit status if the arguments can't be read, and prints the reason on standard error.
+/// Prints on standard error why the arguments can't be read, and returns the exit status.
 fn unread(rt: &impl Eprint, error: io::Error) -> ExitCode
     ensures { exit_status result ≡ 2 }
 {
@@ -79,7 +79,7 @@ fn unread(rt: &impl Eprint, error: io::Error) -> ExitCode
     status(rt, Err(RunError::NoMemory))
 }
 
-/// Returns the exit status if the arguments aren't offers, and prints the reason on standard error.
+/// Prints on standard error why the arguments aren't offers, and returns the exit status.
 fn refused(rt: &impl Eprint, error: BadOffer) -> ExitCode
     ensures { exit_status result ≡ 2 }
 {

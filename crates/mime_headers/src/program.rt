@@ -12,21 +12,20 @@ use mime::Mime;
 use mime_io::{LIMIT, RunError, Sink, Source, read_past_limit, write_report};
 use std::alloc::Global;
 
-/// Reads a source to its end, or to one byte past the limit. Then writes the report on its heads and the offers to a sink, and returns the
-/// verdict.
+/// Reads a source to its end, or to one byte past the limit. Then writes the report on the source's heads and on the offers to a sink, and
+/// returns the verdict.
 ///
-/// # Errors
-/// Returns `Read` if the source fails, and `Write` if the sink fails. A call that failed isn't repeated. Returns `TooLong` if the source
-/// has more than 1,048,576 bytes and its first head doesn't end within them, and `NoMemory` if memory runs out. A part of the report may
-/// have been written only if the error is `Write`.
+/// # Errors Returns `Read` if the source fails, and `Write` if the sink fails. A call that failed isn't repeated. Returns `TooLong` if the
+/// source has more than 1,048,576 bytes and its first head doesn't end within these, and `NoMemory` if memory runs out. A part of the
+/// report may have been written only if the error is `Write`.
 pub fn run<S: Source, T: Sink>(
     alloc: Global,
     source: &mut S,
     sink: &mut T,
     offers: &[Mime],
 ) -> Result<Verdict, RunError>
-    // A run that succeeds has read bytes to the end of the source, or to one byte past the limit. It has written the report on these bytes
-    // and the offers, and nothing else, and has flushed it. The verdict is the report's. This also holds for a source or a sink that
+    // A run that succeeds has read bytes to the end of the source, or to one byte past the limit. It has written and flushed the report on
+    // these bytes and on the offers, and has written nothing else. The verdict is the report's. This also holds for a source or a sink that
     // doesn't say which bytes it has.
     ensures whole { IfOk result (λ verdict. (bytes : List ℕ) × (text : List ℕ)
         × Consumes (S.left source.old) (S.left source.new) bytes × (length bytes ≤ limit + 1) × (length bytes ≤ limit → IsAtEnd (S.left source.new))

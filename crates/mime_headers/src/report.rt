@@ -62,8 +62,8 @@ pub(crate) fn report_of(
     Ok(Some(Report { text, verdict }))
 }
 
-/// The state after some heads: whether each `Content-Type` was accepted, and whether the last choice, if any, had an acceptable offer or no
-/// offers at all.
+/// The state after some heads: whether each `Content-Type` was accepted, and whether an offer was acceptable, or there were no offers, at
+/// the last choice, if there was a choice.
 #[derive(Clone, Copy)]
 struct Seen {
     are_good: bool,
@@ -145,8 +145,8 @@ impl Rows {
         }
     }
 
-    /// Adds the rows of the `Accept` lines and of the offers, if `is_here`, and returns whether an offer is acceptable or there are none.
-    /// Otherwise, returns `before`.
+    /// Adds the rows of the `Accept` lines and of the offers, and returns whether an offer is acceptable or there are no offers. If not
+    /// `is_here`, adds nothing and returns `before`.
     fn push_choice(
         &mut self,
         lines: &[Vec<u8>],
@@ -292,8 +292,8 @@ impl Rows {
         self.push("\n")
     }
 
-    /// Adds the rows of the lines of `Accept`, and pushes their ranges to `ranges`. If there are no lines, adds a row for that, and reads
-    /// `*/*`.
+    /// Adds the rows of the lines of `Accept`, and pushes their ranges to `ranges`. If there are no lines, adds a row that says this, and
+    /// reads `*/*`.
     fn push_lines(&mut self, ranges: &mut Vec<Mime>, lines: &[Vec<u8>]) -> Result<(), AllocError>
         ensures { OnOk result (AddsLines (lines_or_any (map vec_items lines.now)) (vec_items self.old.text ++ none_row (map vec_items lines.now))
             (map (λ range. range.media) (vec_items ranges.old)) (vec_items self.new.text) (map (λ range. range.media) (vec_items ranges.new))) }
@@ -396,7 +396,7 @@ impl Rows {
         self.push("\n")
     }
 
-    /// Adds ` by ` and the range at a position, or ` by none`.
+    /// Adds ` by ` and the range at a position, or ` by none` if there is no position.
     fn push_by(&mut self, ranges: &[Mime], at: Option<usize>) -> Result<(), AllocError>
         ensures { OnOk result (vec_items self.new.text ≡ vec_items self.old.text ++ by_text (map (λ range. range.media) ranges.now) at) }
     {
@@ -406,7 +406,7 @@ impl Rows {
         }
     }
 
-    /// Adds the range that an offer of weight 0 lacks a parameter of, if there is one.
+    /// Adds the range that demands a parameter that an offer of weight 0 lacks, if there is such a range.
     fn push_lacking(&mut self, ranges: &[Mime], weight: u16, offer: &Mime) -> Result<(), AllocError>
         ensures { OnOk result (vec_items self.new.text ≡ vec_items self.old.text
             ++ lacking_remark (map (λ range. range.media) ranges.now) weight offer.now.media) }
@@ -443,7 +443,7 @@ impl Rows {
         self.push(after)
     }
 
-    /// Adds the row of the best offer, or `406 Not Acceptable` if there is none. Adds nothing if there are no offers.
+    /// Adds the row of the best offer, or `406 Not Acceptable` if no offer is acceptable. Adds nothing if there are no offers.
     fn push_best(&mut self, offers: &[Mime], best: Option<&Mime>) -> Result<(), AllocError>
         ensures { OnOk result (vec_items self.new.text ≡ vec_items self.old.text
             ++ best_rows (map (λ offer. offer.media) offers.now) (option_map (λ best. best.now.media) best.entry)) }
@@ -485,8 +485,8 @@ impl Rows {
     }
 }
 
-/// Returns `true` if offers are chosen under a head with these lines of `Accept`: there are lines, or it is the last head and `before` is
-/// `None`.
+/// Returns `true` if an offer is chosen for a head with these lines of `Accept`: if there are lines, or if the head is the last one and
+/// `before` is `None`.
 fn chooses(lines: &[Vec<u8>], before: Option<bool>, is_last: bool) -> bool
     ensures { result ≡ chooses (map vec_items lines.now) before is_last }
 {

@@ -8,8 +8,8 @@ ghost use Rattle.mime_headers.specs.Shown.{control_len, without_controls};
 
 use std::alloc::{AllocError, Global};
 
-/// Returns the number of bytes of the control character at the start of these bytes, or 0 if there is none. A line feed isn't one here, but
-/// a character that turns the direction of text is.
+/// Returns the number of bytes of the control character at the start of these bytes, or 0 if there is none. Here, a line feed doesn't count
+/// as a control character, but a character that turns the direction of text does.
 fn control_len(bytes: &[u8]) -> usize
     ensures { result ≡ control_len bytes.now }
 {
@@ -38,7 +38,7 @@ fn may_have_controls(bytes: &[u8]) -> bool
 pub(crate) fn without_controls(alloc: Global, bytes: Vec<u8>) -> Result<Vec<u8>, AllocError>
     ensures { IfOk result (λ text. vec_items text ≡ without_controls (vec_items bytes)) }
 {
-    // Most reports have none.
+    // Most reports have no control character.
     if may_have_controls(&bytes) {
         dotted(alloc, &bytes)
     } else {

@@ -5,6 +5,7 @@
 pub enum Verdict {
     /// Each `Content-Type` is accepted. An offer weighs more than 0, or there are no offers.
     Acceptable,
-    /// A `Content-Type` is rejected, or there are offers and each weighs 0. A server answers the latter with 406 (RFC 9110, 15.5.7).
+    /// A `Content-Type` is rejected, or there are offers and each weighs 0. In the latter case, a server replies with 406 (RFC 9110,
+    /// 15.5.7).
     NotAcceptable,
 }

@@ -14,7 +14,7 @@ const VALUES: usize = 8192;
 /// The number of lines of a log.
 const LINES: usize = 16_384;
 
-/// Three ways to write each value. They don't differ in the mark and in the first four letters, whose case tells occurrences of a value
+/// Three ways to write each value. All three have the same mark and the same first four letters, whose case tells occurrences of a value
 /// apart.
 static WRITINGS: [[&str; 3]; 9] = [
     [

@@ -1,7 +1,8 @@
 //! Runs jobs that users of `mime` and `mime_http` have, over many different strings, and prints a digest of all results.
 //!
-//! `mime_jobs JOB SEED ROUNDS` does one of `requests`, `negotiation`, `log`, `writing` and `awkward`; `all` does each once. Each seed makes
-//! different strings of the same kinds and sizes. A round is a pass over the job's strings, in which the mark of each string changes.
+//! `mime_jobs JOB SEED ROUNDS` does one of the jobs `requests`, `negotiation`, `log`, `writing` and `awkward`. The job `all` does each of
+//! them once. Each seed makes different strings of the same kinds and sizes. A round is a pass over the job's strings, in which the mark of
+//! each string changes.
 #![tactic(auto)]
 
 mod awkward;
@@ -27,7 +28,7 @@ struct Asked {
     rounds: u64,
 }
 
-/// Returns the number in an argument, or 0.
+/// Returns the number in an argument, or 0 if there is none.
 fn number_in(word: Option<String>) -> u64 {
     match word {
         Some(word) => word.as_str().parse::<u64>().unwrap_or(0),

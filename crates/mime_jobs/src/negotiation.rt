@@ -1,4 +1,4 @@
-//! The job of a server that chooses what it sends by the `Accept` header of each request.
+//! The job of a server that chooses what it sends according to the `Accept` header of each request.
 
 use crate::digest::Digest;
 use crate::random::Random;

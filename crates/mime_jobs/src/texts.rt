@@ -34,7 +34,7 @@ fn push_mark(bytes: &mut Vec<u8>, number: usize) -> Result<(), AllocError> {
     bytes.extend_from_slice(b"aaaa")
 }
 
-/// Counts letters up, as the digits of a number to the base 26.
+/// Counts letters up, as the digits of a number in base 26.
 fn count_up(letters: &mut [u8]) {
     for letter in letters.iter_mut().rev() {
         if *letter < b'z' {

@@ -44,7 +44,7 @@ static BOUNDARIES: [&str; 4] = [
     "=_#: with (marks), as ' / ?",
 ];
 
-/// The buffers that are used again for each string.
+/// The buffers, which are reused for each string.
 #[derive(Drop)]
 struct Buffers {
     printed: String,

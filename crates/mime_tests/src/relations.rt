@@ -78,7 +78,7 @@ fn name_of(field: &str) -> Name<'_> {
     }
 }
 
-/// Shows a name. Then shows this name and a second one by Debug, how they compare, and whether the first is equal to the second's text.
+/// Shows a name. Then shows this name and a second one with Debug, how they compare, and whether the first is equal to the second's text.
 pub(crate) fn show_names(out: &mut String, one: &str, other: &str) {
     let one = name_of(one);
     let other = name_of(other);
@@ -105,21 +105,21 @@ pub(crate) fn show_pair(alloc: Global, out: &mut String, field: &str, text: &str
     );
 }
 
-/// Returns `true` if a value is found in a `HashSet` of a second one.
+/// Returns `true` if a value is found in a `HashSet` that contains only a second value.
 fn is_hashed(alloc: Global, one: &Mime, other: Mime) -> bool {
     let mut set = HashSet::new(alloc);
     let _ = set.insert(other);
     set.contains(one)
 }
 
-/// Returns `true` if a value is found in a `BTreeSet` of a second one.
+/// Returns `true` if a value is found in a `BTreeSet` that contains only a second value.
 fn is_ordered(alloc: Global, one: &Mime, other: Mime) -> bool {
     let mut set = BTreeSet::new(alloc);
     let _ = set.insert(other);
     set.contains(one)
 }
 
-/// Shows whether a value is found in sets of a second one.
+/// Shows whether a value is found in sets that contain only a second value.
 pub(crate) fn show_sets(alloc: Global, out: &mut String, field: &str, text: &str) {
     let Some(one) = value_or_fault(alloc, out, field) else {
         return;

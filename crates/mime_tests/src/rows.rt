@@ -7,7 +7,7 @@
 //! - `list STRING STRINGS`: compares each media type in the first string with the string at the same place among the others;
 //! - `parts VALUE`: the parts of a value, or why it is rejected;
 //! - `long VALUE KEPT`: the size hint and the number of a value's parameters, and whether its string is `KEPT`;
-//! - `print VALUE`: a value with a width of 12, and by Debug;
+//! - `print VALUE`: a value with a width of 12, and with Debug;
 //! - `key VALUE KEY OTHER`: the value that a string or a constant finds as a key, and whether the value equals the other string;
 //! - `compare VALUE VALUE`: how two values compare, and whether the first equals the second's string;
 //! - `pair VALUE VALUE`: whether two values are equal by each trait, and whether the first equals the second's string;
@@ -20,8 +20,8 @@
 //! The rows about `mime_http` and the recipes are a function's name and its arguments: an `Accept` header is a field, whose lines end with
 //! line feeds, and offers are the fields after it. A bar follows each answer of these rows.
 //!
-//! Between the lines `now` and `end` only the calls of a row allocate: there tools/refused_requests refuses and counts requests for memory.
-//! The answers are printed after these lines. An answer for which memory runs out is left out.
+//! Between the lines `now` and `end`, only the calls of a row allocate. tools/refused_requests refuses and counts the requests for memory
+//! between these lines. The answers are printed after these lines. An answer for which memory runs out is left out.
 
 use crate::constants::{show_bytes, show_copies};
 use crate::fields::string_at;
@@ -63,7 +63,7 @@ pub(crate) fn show_row(rt: &HostRuntime, out: &mut String, word: &str, strings: 
     }
 }
 
-/// Writes the answers of `mime` to a row and returns `true`, if the row's word is one of these.
+/// Writes the answers of `mime` to a row, and returns `true`, if the row is about `mime`.
 fn show_of_library(alloc: Global, out: &mut String, word: &str, strings: &[String]) -> bool {
     let one = string_at(strings, 0);
     let two = string_at(strings, 1);
@@ -91,7 +91,7 @@ fn show_of_library(alloc: Global, out: &mut String, word: &str, strings: &[Strin
     true
 }
 
-/// Writes the answers of `mime_http` to a row and returns `true`, if the row's word is one of these.
+/// Writes the answers of `mime_http` to a row, and returns `true`, if the row is about `mime_http`.
 fn show_of_headers(alloc: Global, out: &mut String, word: &str, strings: &[String]) -> bool {
     let one = string_at(strings, 0);
     let two = string_at(strings, 1);
@@ -118,7 +118,7 @@ fn show_of_headers(alloc: Global, out: &mut String, word: &str, strings: &[Strin
     true
 }
 
-/// Writes the answers of the recipes to a row and returns `true`, if the row's word is one of these.
+/// Writes the answers of the recipes to a row, and returns `true`, if the row is about a recipe.
 fn show_of_recipes(rt: &HostRuntime, out: &mut String, word: &str, strings: &[String]) -> bool {
     let alloc = rt.alloc();
     let one = string_at(strings, 0);

@@ -1,4 +1,4 @@
-//! Tests all short strings by a rule that needs no table.
+//! Tests all short strings with a rule that needs no table.
 
 use mime::{Mime, ParseError};
 use std::alloc::Global;
@@ -13,7 +13,7 @@ const MOST: usize = 7;
 /// The number of short strings: the sum of the powers of 8 from 8 ^ 0 to 8 ^ 7.
 const COUNT: usize = 2_396_745;
 
-/// Writes the short string with a number. Its characters are the number's digits to the base 8, the lowest first, with digits from 1 to 8.
+/// Writes the short string with a number. Its characters are the number's digits in base 8, the lowest first, with digits from 1 to 8.
 fn spell(text: &mut String, number: usize) {
     text.clear();
     let mut rest = number;
@@ -41,8 +41,8 @@ fn is_completed_by(alloc: Global, text: &str, completion: &str) -> bool {
     fault_of(alloc, whole.as_str()).is_none()
 }
 
-/// A completion, an end and a fault: a string has the fault exactly if it has this end, and is a media type with the completion after it.
-/// No short string ends with `?`, so none has the last fault.
+/// Completions, ends and faults: a string has the fault of a row exactly if it has the row's end, and is a media type with the row's
+/// completion after it. No short string ends with `?`, so none has the last fault.
 static COMPLETIONS: &[(&str, &str, ParseError)] = &[
     ("x/x", "", ParseError::MissingSlash),
     ("x", "/", ParseError::MissingSubtype),

@@ -7,7 +7,7 @@ use mime::{FromStrError, Mime, Name, ParamKey, TextKey, name_eq_str};
 use std::alloc::Global;
 use std::fmt::{Debug, Write};
 
-/// Writes an answer by Debug.
+/// Writes an answer with Debug.
 pub(crate) fn show_debug<T: Debug>(out: &mut String, said: &T) {
     let _ = writeln!(out, "{said:?}");
 }
@@ -98,7 +98,7 @@ pub(crate) fn show_long(alloc: Global, out: &mut String, field: &str, kept: &str
     show_debug(out, &(hint, count, mime.as_str() == kept));
 }
 
-/// Shows a value with a width of 12, the value by Debug, and its parameters by Debug.
+/// Shows a value with a width of 12, the value with Debug, and its parameters with Debug.
 pub(crate) fn show_printed(alloc: Global, out: &mut String, field: &str) {
     let Some(mime) = value_or_fault(alloc, out, field) else {
         return;
@@ -118,8 +118,8 @@ impl ParamKey for Foo {
     }
 }
 
-/// Shows the value that a key finds, whether that value is equal to a second string, the value that it finds as a key itself, and the value
-/// that the key `Foo` finds.
+/// Shows the value that a key finds, whether that value is equal to a second string, the value that the found value finds as a key, and the
+/// value that the key `Foo` finds.
 pub(crate) fn show_found(alloc: Global, out: &mut String, field: &str, key: &str, other: &str) {
     let Some(mime) = value_or_fault(alloc, out, field) else {
         return;
