@@ -213,8 +213,8 @@ impl<'a> MimeIter<'a> {
     }
 }
 
-/// Returns an iterator that continues at the same position, with the same count of steps: after the first item of `a/b,
-/// c/d` both iterators yield `c/d`. Cloning always succeeds, and doesn't allocate.
+/// Returns an iterator that continues at the same position, with the same count of steps: after the first item of
+/// `a/b, c/d`, both iterators yield `c/d`. Cloning always succeeds, and doesn't allocate.
 impl<'a> Clone for MimeIter<'a> {
     ghost is_clone = { λ iter copy. copy ≡ iter };
 

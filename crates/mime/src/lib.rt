@@ -23,7 +23,7 @@
 //!
 //! # Errors
 //! A string that isn't a media type is rejected with its fault, a [`ParseError`]. The fault is what is missing at the
-//! string's end, or else the first byte that no media type could have at this position. Positions count bytes from 0.
+//! string's end, or else the first byte that no media type could have at its position. Positions count bytes from 0.
 //! [`MimeIter`] yields a piece that isn't a media type as [`Bad::Piece`]. A bad entry doesn't affect the entries after
 //! its comma, unless it ends in an open quoted string. The last entry isn't yielded if it is only the beginning of a
 //! media type, such as `text/`.
@@ -36,8 +36,8 @@
 //!
 //! # Standards
 //! The grammar is that of RFC 7231 and RFC 7230, with the departures that docs/DIFFERENCES.md lists. RFC 9110 (8.3.1,
-//! 5.6.4, 5.6.6) replaced them in 2022. By RFC 9110, a parameter may be missing after any semicolon. This crate allows
-//! that only after the last semicolon: it reads `a/b;`, but not `a/b;;p=x`.
+//! 5.6.4, 5.6.6) replaced them in 2022. RFC 9110 lets a parameter be missing after any semicolon. This crate allows
+//! this only after the last semicolon: it reads `a/b;`, but not `a/b;;p=x`.
 //!
 //! # Left out
 //! This crate doesn't interpret media types: `mime_http` has ranges, weights, the choice according to `Accept`, and

@@ -106,8 +106,8 @@ impl Mime {
     /// # Errors
     /// Returns the fault of a string that isn't a media type. If something is missing at the string's end, the fault is
     /// `MissingSlash`, `MissingSubtype`, `MissingEqual`, `MissingValue` or `MissingQuote`: `MissingEqual` for `a/b;p`.
-    /// Otherwise the fault is `InvalidToken`, with the first byte that no media type could have at this position, and
-    /// the position in bytes from 0: 5 for `text/;`. Rejecting a string doesn't allocate. Returns
+    /// Otherwise the fault is `InvalidToken`, with the first byte that no media type could have at its position, and
+    /// this position in bytes from 0: 5 for `text/;`. Rejecting a string doesn't allocate. Returns
     /// [`ParseError::NoMemory`] if memory runs out, which can happen only for a media type of more than 40 bytes.
     pub fn from_str(alloc: Global, s: &str) -> Result<Mime, FromStrError>
         // The result is the value of the string.

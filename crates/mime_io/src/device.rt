@@ -18,8 +18,8 @@ pub trait Source {
     /// Whether a call has failed.
     ghost has_failed: { Self → Bool };
 
-    /// Reads bytes into the start of a buffer, and returns their number: 3 for a buffer of 8 bytes means
-    /// that its first 3 are new, and 0 for a nonempty buffer means the end.
+    /// Reads bytes into the start of a buffer, and returns the number of bytes read. The result 3 means that the
+    /// buffer's first 3 bytes are new. The result 0 means the end of the source, unless the buffer is empty.
     fn read(&mut self, buf: &mut [u8]) -> Result<usize, Failed>
         ensures bound { ReadsAtMost result buf.new }
         ensures bytes { ReadConsumes (left self.old) (left self.new) result buf.new }
@@ -34,7 +34,7 @@ pub trait Sink {
     ghost held: { Self → Option (List ℕ) };
     /// Whether a call has failed.
     ghost has_failed: { Self → Bool };
-    /// Whether all that was written is flushed; true if the sink doesn't say.
+    /// Whether everything that was written is flushed. By default, this is always true.
     ghost IsFlushed: { Self → Type 0 } = { λ _. ⊤ };
 
     /// Writes all of the bytes. After a failure it isn't known how many were written.
@@ -44,10 +44,10 @@ pub trait Sink {
         ensures failed { OnErr result (has_failed self.new ≡ true) }
         ensures unfailed { OnOk result (has_failed self.new ≡ has_failed self.old) };
 
-    /// Flushes all that was written: bytes that are still buffered reach their destination.
+    /// Flushes the sink: bytes that are still buffered reach their destination.
     fn flush(&mut self) -> Result<(), Failed>
         ensures bytes { Keeps (held self.old) (held self.new) }
-        // No other clause says that all is flushed.
+        // No other clause says that everything is flushed.
         ensures flushed { OnOk result (IsFlushed self.new) }
         // A failure sets this flag, and nothing else changes it.
         ensures failed { OnErr result (has_failed self.new ≡ true) }
@@ -60,7 +60,7 @@ pub trait Sink {
 pub struct Device<T> {
     /// The reader or writer.
     pub inner: T,
-    /// Whether a call has failed since this was `false`.
+    /// Whether a call has failed. An error sets this flag, and no call clears it.
     pub failed: bool,
 }
 

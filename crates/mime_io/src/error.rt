@@ -5,7 +5,7 @@ ghost use Rattle.mime_io.specs.Stops.{stop_text};
 
 use std::fmt;
 
-/// Why a run stops before its end.
+/// The reason why a run stops before its end.
 #[derive(Clone, Copy, PartialEq, Eq, Debug)]
 pub enum RunError {
     /// A read failed, whatever the cause.
@@ -32,7 +32,7 @@ impl RunError {
     }
 }
 
-/// Prints one word or two: `TooLong` prints `too long`. A width and a precision are ignored.
+/// Prints the error in one word or two: `TooLong` prints `too long`. A width and a precision are ignored.
 impl fmt::Display for RunError {
     ghost output = { λ error. Some (stop_text error) };
 

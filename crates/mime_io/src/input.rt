@@ -14,7 +14,7 @@ use std::alloc::Global;
 /// The maximum length of an input, in bytes.
 pub const LIMIT: usize = 1_048_576;
 
-/// The most bytes that one read asks for.
+/// The maximum number of bytes that one read requests.
 const AT_ONCE: usize = 8192;
 
 /// Reads a source to its end, and no further than one byte past the limit.
@@ -23,7 +23,7 @@ const AT_ONCE: usize = 8192;
 /// Returns `Read` if the source fails, `TooLong` if it has more bytes than the limit, and `NoMemory` if memory runs
 /// out.
 pub fn read_to_limit<S: Source>(alloc: Global, source: &mut S) -> Result<Vec<u8>, RunError>
-    // All bytes that were left are read, within the limit.
+    // On success, all bytes that were left have been read, and no more than the limit.
     ensures bytes { IfOk result (λ input. Consumes (S.left source.old) (S.left source.new) input.items) }
     ensures end { OnOk result (IsAtEnd (S.left source.new)) }
     ensures limit { IfOk result (λ input. length input.items ≤ limit) }
@@ -40,7 +40,7 @@ pub fn read_to_limit<S: Source>(alloc: Global, source: &mut S) -> Result<Vec<u8>
 }
 
 /// Reads a source to its end or to one byte past the limit. That byte is returned, too, so an input longer than the
-/// limit may not be whole.
+/// limit may be incomplete.
 ///
 /// # Errors
 /// Returns `Read` if the source fails, and `NoMemory` if memory runs out.
@@ -58,8 +58,8 @@ pub fn read_past_limit<S: Source>(alloc: Global, source: &mut S) -> Result<Vec<u
     read(alloc, source, LIMIT + 1)
 }
 
-/// Reads a source to its end or to one byte past the limit. Returns at most `most` bytes, which is the limit or one
-/// more. If `most` is the limit and there are more bytes, returns `TooLong`.
+/// Reads a source to its end or to one byte past the limit. Returns at most `most` bytes. `most` is the limit or the
+/// limit plus one. If `most` is the limit and the source has more bytes, returns `TooLong`.
 fn read<S: Source>(alloc: Global, source: &mut S, most: usize) -> Result<Vec<u8>, RunError>
     requires least { limit ≤ most }
     requires greatest { most ≤ limit + 1 }

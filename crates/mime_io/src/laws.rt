@@ -1,4 +1,5 @@
-//! The laws of the public types, as a function that does nothing: a caller can use them in its own proof.
+//! The laws of the public types, as a function that does nothing. A caller of this function can use the laws in its own
+//! proof.
 
 ghost use Rattle.std.specs.Prelude.{◌≡◌};
 

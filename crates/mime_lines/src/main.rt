@@ -1,5 +1,4 @@
-//! Reads media types, one on each line, and reports on each. With the argument `list`, each line is a list of media
-//! types.
+//! Reads a media type from each line, and reports on it. With the argument `list`, each line is a list of media types.
 #![tactic(auto)]
 
 ghost use Rattle.std.specs.Prelude.{◌≡◌, ◌<◌, ◌≤◌, Some, None, IsSomeAnd, slice_get, string_bytes};
@@ -20,7 +19,8 @@ use std::env;
 use std::env::Args;
 use std::process::ExitCode;
 
-/// Returns the mode that the arguments select, or `None` if they select none. The first argument is the program's name.
+/// Returns the mode that the arguments select, or `None` if they select no mode. The first argument is the program's
+/// name.
 fn asked_mode(mut arguments: Args) -> Option<Mode>
     ensures parts { into_iter_len arguments ≤ 1 → result ≡ Some Mode.Parts }
     // The argument after the program's name selects the mode.
@@ -38,7 +38,7 @@ fn asked_mode(mut arguments: Args) -> Option<Mode>
     }
 }
 
-/// Returns the mode that an argument names, or `None` if it names none.
+/// Returns the mode that an argument names, or `None` if it names no mode.
 fn named_mode(word: &str) -> Option<Mode>
     ensures { result ≡ mode_named word.now }
 {

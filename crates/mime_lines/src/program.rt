@@ -15,8 +15,8 @@ use std::alloc::Global;
 ///
 /// # Errors
 /// Returns `Read` if the source fails, `Write` if the sink fails, `TooLong` if the source has more than 1,048,576
-/// bytes, and `NoMemory` if memory runs out, whichever happens first. A failed call isn't repeated. Only after `Write`
-/// may a part of the report have been written.
+/// bytes, and `NoMemory` if memory runs out, whichever happens first. A failed call isn't repeated. Unless the error is
+/// `Write`, nothing has been written.
 pub fn run<S: Source, T: Sink>(
     alloc: Global,
     source: &mut S,
@@ -24,14 +24,14 @@ pub fn run<S: Source, T: Sink>(
     mode: Mode,
 ) -> Result<(), RunError>
     // A run that succeeds has read bytes to the end of the source, and no more than the limit. It has written the
-    // report on these bytes, nothing else, and flushed it. This also holds of a source or a sink that doesn't say which
-    // bytes it has.
+    // report on these bytes and nothing else, and has flushed the sink. This also holds for a source or a sink that
+    // doesn't say which bytes it has.
     ensures whole { OnOk result ((bytes : List ℕ) × (text : List ℕ)
         × Consumes (S.left source.old) (S.left source.new) bytes × (length bytes ≤ limit)
         × IsReportOf mode bytes text × Appends (T.held sink.old) (T.held sink.new) text) }
     ensures end { OnOk result (IsAtEnd (S.left source.new)) }
     ensures flushed { OnOk result (T.IsFlushed sink.new) }
-    // The source fails if the result is `Read`, the sink if it is `Write`, and otherwise neither does.
+    // The source fails exactly if the result is `Read`, and the sink exactly if the result is `Write`.
     ensures read { result ≡ Err RunError.Read → S.has_failed source.new ≡ true }
     ensures write { result ≡ Err RunError.Write → T.has_failed sink.new ≡ true }
     ensures source_unfailed { result ≢ Err RunError.Read → S.has_failed source.new ≡ S.has_failed source.old }

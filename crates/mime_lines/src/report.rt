@@ -46,8 +46,8 @@ fn push_text(alloc: Global, report: &mut String, text: &str, mode: Mode) -> Resu
     }
 }
 
-/// Adds the rows of the media type that a string is read as, or a row with the string's fault. It isn't inlined: within
-/// the loop over the lines, the scanner's loops would be slower.
+/// Adds the rows of the media type that a string is read as, or a row with the string's fault. This function isn't
+/// inlined: within the loop over the lines, the scanner's loops would be slower.
 #[inline(never)]
 fn push_reading(alloc: Global, report: &mut String, text: &str) -> Result<(), AllocError>
     ensures { OnOk result (Adds (ReportsText Mode.Parts text.now) (string_bytes report.old) (string_bytes report.new)) }

@@ -13,10 +13,10 @@ use std::{fmt, io};
 /// More bytes than any run here reads or writes.
 const ENOUGH: usize = 1 << 22;
 
-/// The behavior of readers and writers in runs of some cases, and the result of these runs.
+/// The behavior of readers and writers in runs of `cases`, and the result that these runs must return.
 #[derive(Clone, Copy)]
 struct Scenario {
-    /// The most bytes of one read or write.
+    /// The maximum number of bytes of one read or write.
     most: usize,
     /// How many reads, writes and flushes succeed. The next one fails.
     reads: usize,
@@ -24,11 +24,11 @@ struct Scenario {
     flushes: usize,
     /// How many times the first byte of the input is read before the whole input.
     repeats: usize,
-    /// How many times the report is written again.
+    /// How many more times the writer must accept the report.
     again: usize,
-    /// The bytes that a read after the end returns, as one from a terminal may.
+    /// The bytes that a read after the end returns, as a read from a terminal may.
     after_end: &'static [u8],
-    /// Whether source and sink have failed before.
+    /// Whether the source and the sink have failed before the run.
     has_failed: bool,
     answer: Result<(), RunError>,
     cases: &'static [Case<'static>],
@@ -48,9 +48,9 @@ const PLAIN: Scenario = Scenario {
     cases: CASES,
 };
 
-/// A reader that returns `byte` `repeats` times, and then the bytes `left`, at most `most` in a read. After `reads`
-/// reads it fails, once or always, with `Interrupted`, which is a failure like any other. After the end, another read
-/// returns `after_end`, as a read from a terminal may.
+/// A reader that returns `byte` `repeats` times, and then the bytes `left`, at most `most` of these in a read. After
+/// `reads` reads the reader fails with `Interrupted`, which is a failure like any other. It fails once or at each
+/// further read. After the end, another read returns `after_end`, as a read from a terminal may.
 #[derive(Drop)]
 struct Reader<'a> {
     byte: u8,
@@ -105,8 +105,8 @@ impl Read for Reader<'_> {
 }
 
 /// A writer that accepts `bytes`, and then accepts them `again` more times, at most `most` in a write and in at most
-/// `writes` writes. It fails at any other bytes, and at a flush after `flushes` flushes. If it fails only once, it
-/// accepts anything after that.
+/// `writes` writes. It fails at any other bytes, and at a flush after `flushes` flushes. A writer that fails only once
+/// accepts any bytes after the failure.
 #[derive(Drop)]
 struct Writer<'a> {
     bytes: &'a [u8],
@@ -197,9 +197,10 @@ fn written<'a>(case: &Case<'a>, scenario: &Scenario, at: usize) -> &'a [u8] {
     }
 }
 
-/// Checks a run of a scenario. If its answer is `Read` or `Write`, the read or the written byte with the number `at`
-/// fails, or a flush if the scenario allows none. The run must return the answer, and its writer must accept all its
-/// bytes. Only the device that the answer names may fail, and no call may follow the failure.
+/// Checks a run of a scenario. If the run must return `Read`, the read with the number `at` fails. If it must return
+/// `Write`, the writer fails at byte `at`, or at the flush if the scenario allows no flush. The run must return the
+/// scenario's result, and the writer must accept all its bytes. Only the source may fail if the result is `Read`, and
+/// only the sink if it is `Write`, and no call may follow the failure.
 fn check(
     rt: &impl Abort,
     alloc: Global,
@@ -366,7 +367,7 @@ fn run_into(
 }
 
 /// Returns `true` if a run with a slice of bytes as the sink succeeds and writes all of its report, or runs out of
-/// memory and writes nothing. It prints what the run returned.
+/// memory and writes nothing. The function prints what the run returned.
 fn fills_slice(rt: &HostRuntime, case: &Case<'_>) -> bool {
     let mut room = [0u8; 256];
     let mut sink = Device {
@@ -430,7 +431,7 @@ fn an_endless_input_is_too_long(rt: HostRuntime) {
     check_all(&rt, rt.alloc(), &ENDLESS);
 }
 
-/// Bytes that have the same report when they are repeated.
+/// Inputs whose report stays the same if their first byte is repeated.
 const LETTERS: &[Case<'static>] = &[
     Case {
         mode: Mode::List,

@@ -12,8 +12,8 @@ pub const BLOCK: usize = 16;
 #[derive(Clone, Copy)]
 pub struct Range(pub u8, pub u8);
 
-/// The bytes at which a search stops: those in one of three ranges, or all others. The bits of `fold` are set in a byte before it
-/// is compared with the first range: with 32, letters of either case are in one range.
+/// The bytes at which a search stops: those in one of three ranges, or all others. Before a byte is compared with the
+/// first range, the bits of `fold` are set in it. If `fold` is 32, letters of either case are in one range.
 #[derive(Clone, Copy)]
 pub struct Class {
     pub fold: u8,
@@ -69,8 +69,8 @@ impl Class {
 }
 
 /// Returns which of 16 bytes are outside the ranges of a class, as a bit mask. The lowest bit is for the first byte.
-/// Comparisons take a few instructions on every processor. A table look-up by a shuffle takes fewer, but is compiled to
-/// a loop for the oldest x86-64, for which the library for C is built.
+/// The comparisons are compiled to a few instructions for every processor. A table look-up with a shuffle needs fewer,
+/// but is compiled to a loop for the oldest x86-64 processors, for which the library for C is built.
 #[inline(always)]
 fn outside_in_lanes(bytes: u8x16, class: &Class) -> u64
     ensures mask { result ≡ outside class.now bytes }

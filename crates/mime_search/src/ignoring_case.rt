@@ -40,7 +40,8 @@ fn differences(a: &[u8], b: &[u8]) -> [u8; BLOCK]
     found
 }
 
-/// Returns the first position in the first block at which two byte strings differ ignoring ASCII case, if they do.
+/// Returns the first position in the first block at which two byte strings differ ignoring ASCII case, or `None` if
+/// they don't differ there.
 #[inline(always)]
 fn difference_in_block(a: &[u8], b: &[u8]) -> Option<usize>
     requires room { BLOCK ≤ length a.now }
@@ -52,8 +53,8 @@ fn difference_in_block(a: &[u8], b: &[u8]) -> Option<usize>
     if at < BLOCK { Some(at) } else { None }
 }
 
-/// Returns the first position at which two byte strings of at least a block differ ignoring ASCII case, if they do before one
-/// of them ends. The last block may overlap the one before.
+/// Returns the first position at which two byte strings of at least a block differ ignoring ASCII case, or `None` if
+/// they don't differ before one of them ends. The last block may overlap the block before it.
 #[inline(always)]
 pub fn first_difference_ignoring_case(a: &[u8], b: &[u8]) -> Option<usize>
     requires room { BLOCK ≤ length a.now }
@@ -76,7 +77,7 @@ pub fn first_difference_ignoring_case(a: &[u8], b: &[u8]) -> Option<usize>
 }
 
 /// Returns `true` if two byte strings of equal length are equal ignoring ASCII case. The loop doesn't end early, so
-/// that it is a few vector instructions if the length is known.
+/// that it is compiled to a few vector instructions if the length is known.
 #[inline(always)]
 fn eq_byte_by_byte(a: &[u8], b: &[u8]) -> bool
     requires same_length { length a.now ≡ length b.now }
@@ -92,8 +93,8 @@ fn eq_byte_by_byte(a: &[u8], b: &[u8]) -> bool
 }
 
 /// Returns `true` if two byte strings of equal length are equal ignoring ASCII case. The length is from `block` to
-/// twice `block`, so the last and the first `block` bytes are all bytes. The last are compared first, since names
-/// differ more often there.
+/// twice `block`, so the first and the last `block` bytes include all bytes. The last bytes are compared first, since
+/// names differ more often at the end.
 #[inline(always)]
 fn eq_at_both_ends(a: &[u8], b: &[u8], block: usize) -> bool
     requires same_length { length a.now ≡ length b.now }
@@ -105,7 +106,8 @@ fn eq_at_both_ends(a: &[u8], b: &[u8], block: usize) -> bool
     eq_byte_by_byte(&a[last..], &b[last..]) && eq_byte_by_byte(&a[..block], &b[..block])
 }
 
-/// Returns `true` if two byte strings of equal length are equal ignoring ASCII case. It isn't inlined: it has many callers.
+/// Returns `true` if two byte strings of equal length are equal ignoring ASCII case. This function isn't inlined: it
+/// has many callers.
 #[inline(never)]
 fn eq_of_one_length(a: &[u8], b: &[u8]) -> bool
     requires same_length { length a.now ≡ length b.now }

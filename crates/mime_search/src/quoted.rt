@@ -20,12 +20,12 @@ fn after_quoted_pair(text: &[u8], from: usize) -> usize
     if from + 1 == text.len() {
         return from + 1;
     }
-    // The byte after the backslash closes nothing.
+    // The byte after the backslash doesn't end the content.
     from + 2
 }
 
-/// Returns the position after one or more of the quoted pairs in a row that begin at `from`: after all of them, unless
-/// fewer than eight bytes are left. A backslash that ends the text counts as a quoted pair.
+/// Skips one or more of the consecutive quoted pairs that begin at `from`: all of them, unless fewer than eight bytes
+/// are left. Returns the position after the skipped pairs. A backslash that ends the text counts as a quoted pair.
 #[inline(always)]
 fn after_quoted_pairs(text: &[u8], from: usize) -> usize
     requires within { from < length text.now }
@@ -34,11 +34,11 @@ fn after_quoted_pairs(text: &[u8], from: usize) -> usize
     ensures within { result ≤ length text.now }
     ensures left { result + len_from false (drop result text.now) ≡ from + len_from false (drop from text.now) }
 {
-    // From here on, fewer than eight bytes are left.
+    // From `end` on, fewer than eight bytes are left.
     let end = text.len().saturating_sub(7);
     let mut last = from;
     while last < end && text[last + 2] == b'\\' {
-        // Another quoted pair follows, or three.
+        // One more quoted pair follows, or three more.
         if text[last + 4] == b'\\' && text[last + 6] == b'\\' {
             last += 6;
         } else {
@@ -48,9 +48,9 @@ fn after_quoted_pairs(text: &[u8], from: usize) -> usize
     after_quoted_pair(text, last)
 }
 
-/// Returns the position of the first quote outside a quoted pair among the `size` bytes at `from`. If there is none,
-/// returns the end of these bytes, or of a quoted pair that ends after them. `stops` is the bit mask of the quotes and
-/// backslashes.
+/// Returns the position of the first quote outside a quoted pair among the `size` bytes at `from`. If there is no such
+/// quote, returns the end of these bytes, or the end of the quoted pair that extends beyond them. `stops` is the bit
+/// mask of the quotes and backslashes among these bytes.
 #[inline(always)]
 fn after_quoted_pairs_among(text: &[u8], from: usize, size: usize, stops: u64) -> usize
     requires few { size ≤ BLOCK }

@@ -8,8 +8,8 @@ use crate::class::{BLOCK, Class};
 use crate::search::{first_stop, first_stop_at_end, stops_in_block};
 use std::marker::Model;
 
-/// Returns the position of the first `byte` at or after `from`, or the length if there is none. It isn't inlined: most
-/// searches end in their first or last block.
+/// Returns the position of the first `byte` at or after `from`, or the length if there is none. This function isn't
+/// inlined: most searches end in their first or last block.
 #[cold]
 #[inline(never)]
 fn position_far(text: &[u8], from: usize, byte: u8) -> usize
@@ -19,8 +19,8 @@ fn position_far(text: &[u8], from: usize, byte: u8) -> usize
     first_stop(text, from, &Class::of(byte, byte))
 }
 
-/// Returns the position of the first `byte`, or the length if there is none. It searches byte by byte, and isn't
-/// inlined: few strings with parameters are shorter than a block.
+/// Returns the position of the first `byte`, or the length if there is none. This function searches byte by byte. It
+/// isn't inlined: few strings with parameters are shorter than a block.
 #[inline(never)]
 fn position_by_one(text: &[u8], byte: u8) -> usize
     ensures { result ≡ first_position byte text.now }
@@ -126,8 +126,8 @@ impl<'a> Rest<'a> {
         first_stop_at_end(whole, from, &class) - from
     }
 
-    /// Splits the rest at the ASCII byte at `position`, and drops this byte. At the end, returns the whole rest and an
-    /// empty one.
+    /// Splits the rest at the ASCII byte at `position`, and drops this byte. If `position` is the rest's end, returns
+    /// the whole rest and an empty rest.
     #[inline(always)]
     pub fn split_around(&self, position: usize) -> (&'a str, Rest<'a>)
         requires within { position ≤ length self.now }
@@ -140,8 +140,8 @@ impl<'a> Rest<'a> {
         (&text[..position], self.after(position + dropped))
     }
 
-    /// Splits the rest at the first `byte`, which must be ASCII, and drops it. If there is none, returns the whole rest
-    /// and an empty one.
+    /// Splits the rest at the first `byte`, which must be ASCII, and drops this byte. If the rest has no such byte,
+    /// returns the whole rest and an empty rest.
     #[inline(always)]
     pub fn split_at_first(&self, byte: u8) -> (&'a str, Rest<'a>)
         requires ascii { byte < 128 }

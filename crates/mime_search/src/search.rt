@@ -16,7 +16,7 @@ pub(crate) fn stops_in_block(text: &[u8], at: usize, class: &Class) -> u64
     stops_in_lanes(u8x16::from_slice(&text[at..]), class)
 }
 
-/// Returns the position of the first byte, from a position on, at which a search stops, or the length if there is none.
+/// Returns the position of the first byte, at or after `from`, at which a search stops, or the length if there is none.
 /// The text is searched byte by byte.
 #[inline(always)]
 fn first_stop_by_bytes(text: &[u8], from: usize, class: &Class) -> usize
@@ -30,8 +30,8 @@ fn first_stop_by_bytes(text: &[u8], from: usize, class: &Class) -> usize
     at
 }
 
-/// Returns the position of the first byte, from a position on, at which a search stops, or the length if there is none.
-/// Less than a block is left, so the text's last block is searched at once.
+/// Returns the position of the first byte, at or after `from`, at which a search stops, or the length if there is none.
+/// Less than a block is left at `from`, so only the text's last block is searched.
 #[inline(always)]
 pub(crate) fn first_stop_at_end(text: &[u8], from: usize, class: &Class) -> usize
     requires block { BLOCK ≤ length text.now }
@@ -48,7 +48,7 @@ pub(crate) fn first_stop_at_end(text: &[u8], from: usize, class: &Class) -> usiz
     }
 }
 
-/// Searches a block from a position on, or the rest of the text if this is shorter. Returns the number of bytes
+/// Searches the block at `from`, or the rest of the text if it is shorter than a block. Returns the number of bytes
 /// searched, and which of them stop the search, as a bit mask.
 #[inline(always)]
 pub(crate) fn stops_from(text: &[u8], from: usize, class: &Class) -> (usize, u64)
@@ -68,7 +68,7 @@ pub(crate) fn stops_from(text: &[u8], from: usize, class: &Class) -> (usize, u64
     )
 }
 
-/// Returns the same as `first_stop`. It isn't inlined: most searches don't need it.
+/// Returns the same as `first_stop`. This function isn't inlined: most searches don't need it.
 #[cold]
 #[inline(never)]
 pub fn first_stop_far(text: &[u8], from: usize, class: &Class) -> usize

@@ -7,7 +7,7 @@ use crate::class::{BLOCK, Class, stops_in_lanes};
 use crate::search::stops_in_block;
 use std::simd::prelude::*;
 
-/// The most bytes that are searched together at the start of a string. A mask has a bit for each.
+/// The maximum number of bytes that are searched together at the start of a string. A mask has a bit for each byte.
 pub const WINDOW: usize = 64;
 
 /// Half a block.
@@ -37,7 +37,7 @@ fn both_ends(text: &[u8]) -> u8x16
     first.shuffle(last, [0, 1, 2, 3, 4, 5, 6, 7, 8, 9, 10, 11, 12, 13, 14, 15])
 }
 
-/// Returns which bytes of a string stop a search, as a bit mask. The string has from half a block to a block.
+/// Returns which bytes of a string stop a search, as a bit mask. The string's length is from half a block to a block.
 #[inline(always)]
 fn stops_in_halves(text: &[u8], class: &Class) -> u64
     requires room { HALF ≤ length text.now }
@@ -48,8 +48,8 @@ fn stops_in_halves(text: &[u8], class: &Class) -> u64
     joined(found % 256, found / 256, HALF, text.len())
 }
 
-/// Returns which bytes of a string stop a search, as a bit mask. The string has from one block to four. `first` is the
-/// mask of its first block.
+/// Returns which bytes of a string stop a search, as a bit mask. The string's length is from one block to four. `first`
+/// is the mask of its first block.
 #[inline(always)]
 pub fn stops_in_window(text: &[u8], first: u64, class: &Class) -> u64
     requires room { BLOCK ≤ length text.now }

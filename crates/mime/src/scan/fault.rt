@@ -23,8 +23,8 @@ pub enum ParseError {
     /// The string ends in a quoted string: its closing `"` is missing, as in `a/b;p="x`. If it ends in an unpaired
     /// backslash, as in `a/b;p="\`, the other byte of the quoted pair is missing, too.
     MissingQuote,
-    /// The string has a byte that no media type has at this position, such as the space in `a b`. Some media type
-    /// begins with the bytes before this byte, but none with the bytes up to and including it.
+    /// The string has a byte that no media type has at its position, such as the space in `a b`. Some media type begins
+    /// with the bytes before this byte, but none with the bytes up to and including it.
     InvalidToken {
         /// The position of the byte, in bytes from 0.
         pos: usize,
