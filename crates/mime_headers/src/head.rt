@@ -195,7 +195,7 @@ pub(crate) fn read_head(alloc: Global, input: &[u8]) -> Result<Head<'_>, AllocEr
     })
 }
 
-/// Adds the lines of a head to `lines`. `first` is its first line, and `rest` is the input after that line. Returns the input after the
+/// Adds to `lines` the lines of a head. `first` is its first line, and `rest` is the input after that line. Returns the input after the
 /// head.
 fn push_head<'a>(
     lines: &mut Vec<&'a [u8]>,
@@ -215,7 +215,7 @@ fn push_head<'a>(
     push_lines(lines, indented, rest)
 }
 
-/// Adds the lines of a head after its first line to `lines`. Returns the input after the head.
+/// Adds to `lines` the lines of a head that follow its first line. Returns the input after the head.
 fn push_lines<'a>(
     lines: &mut Vec<&'a [u8]>,
     indented: bool,

@@ -62,8 +62,8 @@ pub(crate) fn report_of(
     Ok(Some(Report { text, verdict }))
 }
 
-/// The state after some heads: whether each `Content-Type` was accepted, and whether an offer was acceptable, or there were no offers, at
-/// the last choice, if there was a choice.
+/// The state after some heads: whether each `Content-Type` was accepted, and the outcome of the last choice, if there was one: whether an
+/// offer was acceptable or there were no offers.
 #[derive(Clone, Copy)]
 struct Seen {
     are_good: bool,

@@ -139,7 +139,7 @@ impl fmt::Debug for Shown<'_> {
     }
 }
 
-/// A trait for types whose values may be sent to and shared between threads. An impl for any other type doesn't compile.
+/// A trait for types whose values may be sent to other threads and shared between threads. An impl for any other type doesn't compile.
 trait CrossesThreads: Send + Sync {}
 
 impl CrossesThreads for Mime {}

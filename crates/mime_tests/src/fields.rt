@@ -11,8 +11,8 @@ fn character_of(sign: char) -> char {
     }
 }
 
-/// Returns the string that a field stands for. The signs from U+2400 on stand for the control characters, U+2421 stands for the byte 127,
-/// and `⟨part×count⟩` stands for `part` repeated `count` times.
+/// Returns the string that a field stands for. The signs U+2400 to U+241F stand for the bytes 0 to 31, U+2421 stands for the byte 127, and
+/// `⟨part×count⟩` stands for `part` repeated `count` times.
 fn string_of(alloc: Global, field: &str) -> String {
     let mut text = String::new(alloc);
     if field.is_ascii() {

@@ -48,7 +48,7 @@ pub(crate) fn show_status(out: &mut String, status: Option<u16>) {
     }
 }
 
-/// Shows the media type without its parameters, and whether it has any.
+/// Shows a media type without its parameters, and whether the result has parameters.
 pub(crate) fn show_bare_of(alloc: Global, out: &mut String, field: &str) {
     let Some(mime) = read_or_not(alloc, out, field) else {
         return;
