@@ -10,16 +10,16 @@ use crate::scan::Positions;
 use crate::value::Mime;
 use std::fmt;
 
-/// A constant media type (RFC 7231, 3.1.1.1): [`Atom::mime`] returns it as a [`Mime`], [`Atom::text`] as a string. It
-/// can be matched and copied, and never allocates. `TEXT_PLAIN.mime()` is the media type `text/plain`. `Atom` doesn't
-/// implement `Ord`, but `Mime` does.
+/// A constant media type (RFC 7231, 3.1.1.1): [`Atom::mime`] returns it as a [`Mime`], [`Atom::text`] as a string. An
+/// `Atom` can be matched and copied, and never allocates. `TEXT_PLAIN.mime()` is the media type `text/plain`. `Atom`
+/// doesn't implement `Ord`, but `Mime` does.
 ///
 /// The crate's root exports each variant, such as [`TEXT_PLAIN`](crate::TEXT_PLAIN), so that a `match` can name it:
 ///
 /// ```rust
 /// use mime::{Atom, IMAGE_PNG, TEXT_HTML, TEXT_HTML_UTF_8};
 ///
-/// /// Returns the file extension of this media type, if it has one here.
+/// /// Returns the file extension of a constant media type, or `None` if this function knows no extension.
 /// pub fn extension(atom: Atom) -> Option<&'static str> {
 ///     match atom {
 ///         TEXT_HTML | TEXT_HTML_UTF_8 => Some("html"),

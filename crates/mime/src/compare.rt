@@ -188,7 +188,7 @@ fn eq_other_text(mime: &Mime, s: &str) -> bool
 /// (RFC 7231, 3.1.1.1). The comparison doesn't allocate.
 ///
 /// `TEXT/PLAIN;charset="UTF-8"; ` is equal to `TEXT_PLAIN_UTF_8.mime()`. But `text/plain;` isn't equal to
-/// `TEXT_PLAIN.mime()`, though it is read as an equal value.
+/// `TEXT_PLAIN.mime()`, though `text/plain;` is read as an equal value.
 #[inline]
 pub fn mime_eq_str(mime: &Mime, s: &str) -> bool
     ensures { IsTrue result ↔ TextIs mime.now.media s.now }

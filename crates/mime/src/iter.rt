@@ -28,7 +28,7 @@ pub enum Bad<'a> {
 struct ReadPiece<'a> {
     /// The piece, or the empty string if nothing is yielded.
     piece: &'a str,
-    /// The positions of its parts, if it is a media type.
+    /// The positions of the piece's parts, if the piece is a media type.
     positions: Option<Positions>,
     /// The rest of the string.
     left: &'a str,
@@ -138,15 +138,15 @@ fn read_next_piece<'a>(text: &'a str, from: u128) -> ReadPiece<'a>
 ///
 /// The string is cut into pieces. Each piece is the longest prefix of the remaining string with which some media type
 /// begins. The character after a piece, such as the comma of a list, is skipped. A piece is a media type or a bad
-/// piece. An empty piece isn't yielded, nor is a last piece that is unfinished. A bad entry doesn't affect the entries
-/// after its comma, unless it ends in an open quoted string. No byte is read twice.
+/// piece. Empty pieces aren't yielded, and neither is a last piece that is only the beginning of a media type. A bad
+/// entry doesn't affect the entries after it, unless it ends in an open quoted string. No byte is read twice.
 ///
 /// Yielding a media type allocates once, for its kept text, if its piece has more than 40 bytes, including white space.
 /// So does cloning this media type. Other items don't allocate.
 ///
-/// Over `text/html, invalid, a/b; q=1` it yields `text/html`, the bad piece `invalid`, and `a/b; q=1`. Over `a/b ; q=1`
-/// it yields `a/b` and the bad piece `q`, since no space may precede the semicolon. Over `invalid` it yields nothing,
-/// since `invalid` could still become a media type.
+/// Over `text/html, invalid, a/b; q=1` the iterator yields `text/html`, the bad piece `invalid`, and `a/b; q=1`. Over
+/// `a/b ; q=1` it yields `a/b` and the bad piece `q`, since no space may precede the semicolon. Over `invalid` it
+/// yields nothing, since `invalid` could still become a media type.
 #[derive(Drop)]
 pub struct MimeIter<'a> {
     alloc: Global,
@@ -186,8 +186,8 @@ impl<'a> MimeIter<'a> {
     }
 
     /// Returns the number of bytes read so far, from the start of the string: 43 after all of
-    /// `application/json, invalid, application/json`, with pieces of 16, 7 and 16 bytes and 4 skipped characters. It is
-    /// never more than the string's length in bytes.
+    /// `application/json, invalid, application/json`, with pieces of 16, 7 and 16 bytes and 4 skipped characters. The
+    /// number is never more than the string's length in bytes.
     pub fn steps(&self) -> u128
         ensures steps { result ≡ self.now.steps }
         ensures few { result ≤ length self.now.text }
@@ -195,8 +195,8 @@ impl<'a> MimeIter<'a> {
         self.steps
     }
 
-    /// Skips empty pieces, and returns the first that isn't empty, with the positions of its parts if it is a media
-    /// type.
+    /// Skips empty pieces, and returns the first nonempty piece, with the positions of its parts if the piece is a
+    /// media type.
     #[inline(always)]
     fn next_piece(&mut self) -> Option<(&'a str, Option<Positions>)>
         ensures { IsFound self.old result self.new }

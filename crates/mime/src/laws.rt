@@ -106,8 +106,8 @@ pub fn prefix_is_in_utf8()
     ensures { PrefixIsInUtf8 }
 {}
 
-/// The plus of a value is the last plus of its essence after the subtype's first byte, if there is one: the plus of
-/// `a/b+c+d` is at position 5 (RFC 6838, 4.2.8).
+/// The plus of a value is the last plus of its essence after the subtype's first byte, if there is such a plus: the
+/// plus of `a/b+c+d` is at position 5 (RFC 6838, 4.2.8).
 pub fn plus_is_last()
     ensures { PlusIsLast }
 {}
@@ -126,8 +126,8 @@ pub fn essence_is_read()
     ensures { EssenceIsRead }
 {}
 
-/// The essence of a value that was read is its type, a slash, its subtype, and a plus with its suffix if there is one:
-/// that of `image/svg+xml` is `image`, `/`, `svg` and `+xml` (RFC 6838, 4.2.8).
+/// The essence of a value that was read is its type, a slash, its subtype, and, if there is a suffix, a plus and the
+/// suffix: `image`, `/`, `svg` and `+xml` for `image/svg+xml` (RFC 6838, 4.2.8).
 pub fn essence_is_parts()
     ensures { EssenceIsParts }
 {}
@@ -243,7 +243,8 @@ pub fn cut_writes_text()
     ensures { CutWritesText }
 {}
 
-/// In a string of valid UTF-8, exactly one character is skipped after a piece: both bytes of the `é` of `a/bé`.
+/// In a string of valid UTF-8, exactly one character is skipped after a piece: after `a/b` in `a/bé`, both bytes of `é`
+/// are skipped.
 #[tactic(auto, using(crate::proofs::GrammarLemmas::Characters::passes_one_character))]
 pub fn passes_one_character()
     ensures { PassesOneCharacter }
@@ -286,7 +287,7 @@ pub fn run_gives_cut()
 
 /// A run over a string with a comma yields the items of the string before the comma, its rest, and the items of the
 /// string after the comma, unless the rest ends in an open quoted string: over `e, c/d` it yields the bad piece `e`,
-/// which is the rest of `e`, and `c/d`.
+/// which is the rest of the string `e`, and `c/d`.
 pub fn comma_contains_on_runs()
     ensures { CommaContainsOnRuns }
 {}

@@ -25,19 +25,19 @@
 //! A string that isn't a media type is rejected with its fault, a [`ParseError`]. The fault is what is missing at the
 //! string's end, or else the first byte that no media type could have at its position. Positions count bytes from 0.
 //! [`MimeIter`] yields a piece that isn't a media type as [`Bad::Piece`]. A bad entry doesn't affect the entries after
-//! its comma, unless it ends in an open quoted string. The last entry isn't yielded if it is only the beginning of a
-//! media type, such as `text/`.
+//! it, unless it ends in an open quoted string. The last entry isn't yielded if it is only the beginning of a media
+//! type, such as `text/`.
 //!
 //! # Memory
 //! `Mime::from_str`, `MimeIter::new` and `KnownText::into_mime` take the allocator. Reading or making a media type from
-//! more than 40 bytes, including white space, allocates at most once, and so does each `clone` of it. If memory runs
-//! out, an error is returned. Nothing else allocates. A constant, or a media type read or made from at most 40 bytes,
-//! is stored in the `Mime` itself. Rejecting a string doesn't allocate.
+//! more than 40 bytes, including white space, allocates at most once. So does each `clone` of this media type. If
+//! memory runs out, an error is returned. Nothing else allocates. A constant, or a media type read or made from at most
+//! 40 bytes, is stored in the `Mime` itself. Rejecting a string doesn't allocate.
 //!
 //! # Standards
 //! The grammar is that of RFC 7231 and RFC 7230, with the departures that docs/DIFFERENCES.md lists. RFC 9110 (8.3.1,
-//! 5.6.4, 5.6.6) replaced them in 2022. RFC 9110 lets a parameter be missing after any semicolon. This crate allows
-//! this only after the last semicolon: it reads `a/b;`, but not `a/b;;p=x`.
+//! 5.6.4, 5.6.6) replaced these RFCs in 2022. RFC 9110 lets a parameter be missing after any semicolon. This crate
+//! allows this only after the last semicolon: it reads `a/b;`, but not `a/b;;p=x`.
 //!
 //! # Left out
 //! This crate doesn't interpret media types: `mime_http` has ranges, weights, the choice according to `Accept`, and

@@ -14,7 +14,7 @@ use std::fmt;
 /// 3.1.1.1). The type of `Text/Plain` is `Name { text: "text", ignores_case: true }`, and equals [`TEXT`](crate::TEXT).
 ///
 /// Two names are equal if their texts and their flags `ignores_case` are. Names are ordered by the bytes of the text,
-/// and then by the flag, `false` first. To compare with a string, see [`name_eq_str`].
+/// and then by the flag, `false` first. To compare a name with a string, see [`name_eq_str`].
 #[derive(Clone, Copy, PartialEq, Eq, PartialOrd, Ord, Hash)]
 pub struct Name<'a> {
     /// The part's text. If this crate returns a name that ignores case, its text has no ASCII capital.

@@ -40,10 +40,11 @@ pub(crate) enum Scanned {
     Accepted(Positions),
     /// The string ends too early, and this is missing.
     Unfinished(ParseError),
-    /// No media type continues with this byte, the last one read, and the string before it isn't a media type.
+    /// No media type continues with this byte, which was read last, and the string before the byte isn't a media type.
     Stopped(u8),
-    /// No media type continues with this byte, the last one read, but the string before it is a media type, whose parts
-    /// have these positions. The byte is the last field, so that the positions are where `Accepted` has them.
+    /// No media type continues with this byte, which was read last, but the string before the byte is a media type,
+    /// whose parts have these positions. The byte is the last field, so that the positions are where `Accepted` has
+    /// them.
     Followed(Positions, u8),
 }
 

@@ -31,8 +31,8 @@ use crate::value::short::{SHORT, ShortText};
 use std::alloc::{AllocError, Global};
 use std::marker::Model;
 
-/// The kept text of a media type. It is stored in the value itself if it was made from at most `SHORT` bytes, otherwise
-/// allocated.
+/// The kept text of a media type. If it was made from at most `SHORT` bytes, it is stored in the value itself.
+/// Otherwise it is allocated.
 #[derive(Drop)]
 enum Text {
     Owned(String),
@@ -96,9 +96,9 @@ impl Model for Mime {
 }
 
 impl Mime {
-    /// Reads a media type from the whole of `s` (RFC 7231, 3.1.1.1, with the departures that
-    /// docs/DIFFERENCES.md lists). It allocates once, for the kept text, if `s` is a media type of more than
-    /// 40 bytes; otherwise it doesn't allocate.
+    /// Reads a media type from the whole of `s` (RFC 7231, 3.1.1.1, with the departures that docs/DIFFERENCES.md
+    /// lists). If `s` is a media type of more than 40 bytes, this allocates once, for the kept text. Otherwise it
+    /// doesn't allocate.
     ///
     /// `TEXT/PLAIN; CHARSET=UTF-8; FOO=BAR` is kept as `text/plain; charset=utf-8; foo=BAR`, and
     /// `text/plain; ` as `text/plain`.
@@ -112,7 +112,8 @@ impl Mime {
     pub fn from_str(alloc: Global, s: &str) -> Result<Mime, FromStrError>
         // The result is the value of the string.
         ensures read { IfOk result (λ mime. Reads s.now mime.media) }
-        // An error is the fault of a rejected string, or says that memory ran out for an accepted one of more than 40 bytes.
+        // An error is the fault of a rejected string, or says that memory ran out for an accepted string of more than
+        // 40 bytes.
         ensures explained { IfErr result (λ error. Explains s.now error) }
         // So an accepted string is read, or memory ran out.
         ensures accepted { IsAccepted s.now → IfErr result (λ error. error ≡ ParseError.NoMemory) }

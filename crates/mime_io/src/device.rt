@@ -1,4 +1,4 @@
-//! Sources from which a program reads, sinks to which it writes, and devices, which are either.
+//! Sources from which a program reads, sinks to which it writes, and devices, which are sources or sinks.
 
 ghost use Rattle.std.specs.Prelude.{◌≡◌, List, ℕ, Bool, true, Option, Ok, IsErr, MatchResult, OnOk, OnErr, ⊤};
 ghost use Rattle.std.specs.Io.{ReadsAtMost};

@@ -12,15 +12,15 @@ pub const BLOCK: usize = 16;
 #[derive(Clone, Copy)]
 pub struct Range(pub u8, pub u8);
 
-/// The bytes at which a search stops: those in one of three ranges, or all others. Before a byte is compared with the
-/// first range, the bits of `fold` are set in it. If `fold` is 32, letters of either case are in one range.
+/// The bytes at which a search stops: the bytes in one of three ranges, or all other bytes. Before a byte is compared
+/// with the first range, the bits of `fold` are set in it. If `fold` is 32, letters of either case are in one range.
 #[derive(Clone, Copy)]
 pub struct Class {
     pub fold: u8,
     pub folded: Range,
     pub second: Range,
     pub third: Range,
-    /// Whether a search stops at the bytes in the ranges; otherwise it stops at all others.
+    /// Whether a search stops at the bytes in the ranges. If not, it stops at all other bytes.
     pub inside: bool,
 }
 

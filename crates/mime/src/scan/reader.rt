@@ -209,7 +209,7 @@ impl<'a> ByteReader<'a> {
     }
 
     /// Skips common token bytes, and returns the known byte after them, or `None` if no known byte ends them. Tokens
-    /// after the known bytes are read byte by byte, since many short ones may follow.
+    /// after the known bytes are read byte by byte, since many short tokens may follow.
     #[inline(always)]
     pub(crate) fn known_stop(&mut self) -> Option<u8>
         ensures { Reaches is_token_except_plus self.old self.new result }

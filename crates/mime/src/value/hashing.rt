@@ -63,7 +63,7 @@ fn end_word(rest: &[u8]) -> [u8; WORD]
     number_up_to_seven(rest).to_le_bytes()
 }
 
-/// Feeds a part to a hasher in whole words, since std's hashers hash eight bytes nearly as fast as one.
+/// Feeds a part to a hasher in whole words, since std's hashers hash eight bytes nearly as fast as one byte.
 #[inline]
 fn feed_part<H: Hasher>(part: &[u8], state: &mut H)
     ensures { state.new ≡ fold H.write state.old (part_input part.now) }

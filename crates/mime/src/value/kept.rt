@@ -43,7 +43,7 @@ fn lowercase_range(bytes: &mut [u8], from: usize, to: usize)
     bytes[from..to].make_ascii_lowercase();
 }
 
-/// Lowercases the first `len` bytes, in whole blocks if `len` is at least a block. The last block may overlap the one
+/// Lowercases the first `len` bytes, in whole blocks if `len` is at least a block. The last block may overlap the block
 /// before it.
 #[inline(always)]
 fn lowercase_start(bytes: &mut [u8], len: usize)

@@ -37,7 +37,7 @@ impl<'a> Model for KnownText<'a> {
 
 impl<'a> KnownText<'a> {
     /// Returns the media type that [`Mime::from_str`] reads from the text, without scanning the text (RFC 7231,
-    /// 3.1.1.1). It doesn't allocate if the text has at most 40 bytes or no spare capacity; otherwise it allocates
+    /// 3.1.1.1). If the text has at most 40 bytes or no spare capacity, this doesn't allocate. Otherwise it allocates
     /// once.
     ///
     /// # Errors

@@ -51,8 +51,8 @@ fn content_len(text: &[u8], quote: usize) -> usize
     content_len_past_quoted_pairs(text)
 }
 
-/// Returns the number of leading spaces and tabs of a byte string. It searches block by block, and isn't inlined: few
-/// lists begin with more than one space.
+/// Returns the number of leading spaces and tabs of a byte string. This function searches block by block. It isn't
+/// inlined: few lists begin with more than one space.
 #[cold]
 #[inline(never)]
 fn count_spaces(bytes: &[u8]) -> usize
@@ -126,8 +126,8 @@ fn cut_value<'a>(list: usize, name: &'a str, end: &Rest<'a>) -> Pair<'a>
     }
 }
 
-/// Returns a list without its leading spaces and tabs. Each branch has its own call of `after`, so that the first two
-/// skip a constant number of bytes.
+/// Returns a list without its leading spaces and tabs. Each branch has its own call of `after`, so that in the first
+/// two branches the number of skipped bytes is a constant.
 #[inline(always)]
 fn without_spaces<'a>(list: &Rest<'a>) -> Rest<'a>
     ensures { result ≡ without_spaces list.now }
@@ -312,8 +312,8 @@ impl<'a> Pairs<'a> {
         self.left == 1 && self.list.text().as_bytes().starts_with(b" charset=")
     }
 
-    /// Returns the value of the first pair whose name a key accepts, if there is one. If the key doesn't accept the
-    /// last name, its value isn't read.
+    /// Returns the value of the first pair whose name a key accepts, or `None` if the key accepts no name. If the key
+    /// doesn't accept the last name, the value of this name isn't read.
     #[inline(always)]
     pub(crate) fn first_accepted<K: ParamKey>(self, key: &K) -> Option<Name<'a>>
         requires { AreLowPairs self }

@@ -66,8 +66,8 @@ fn order_pairs(first: &Mime, second: &Mime) -> Ordering
     pairs.cmp(others)
 }
 
-/// Compares two values if both kept texts are short, and are equal or first differ within both essences. Otherwise
-/// returns `None`.
+/// Compares two values whose kept texts are short, if the texts are equal or first differ within both essences.
+/// Otherwise returns `None`.
 #[inline(always)]
 fn order_short(first: &Mime, second: &Mime) -> Option<Ordering>
     ensures { IfSome result (λ order. order ≡ media_cmp first.now.media second.now.media) }
@@ -178,7 +178,7 @@ impl Ord for Mime {
 
 /// Feeds the parameters and the essence to a hasher. Equal values, such as `a/b; p="x"` and `A/B;P=x`, feed the same
 /// bytes. The bytes of a value are never a prefix of the bytes of an unequal value, so a map keyed by `(Mime, String)`
-/// hashes as well as one keyed by `Mime`. The bytes may change between versions. Hashing doesn't allocate.
+/// hashes as well as a map keyed by `Mime`. The bytes may change between versions. Hashing doesn't allocate.
 impl Hash for Mime {
     ghost hash_input = { λ mime. media_input mime.media };
 
