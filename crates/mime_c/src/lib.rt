@@ -291,7 +291,7 @@ pub extern "C" fn mime_content_type(
     }
 }
 
-/// Writes an item of a list at a position, and returns the position after it. `mark` is its first byte.
+/// Writes an item of a list at a position, and returns the position after the item. `mark` is the item's first byte.
 #[tactic(auto, using(crate::proofs::Writing::both_written))]
 fn put_item(out: &mut [u8], at: usize, mark: u8, text: &str) -> usize
     requires { at + length (mark ∷ text.now) < length out.old }
@@ -372,9 +372,9 @@ fn put_range(out: &mut [u8], at: usize, range: &Mime) -> usize
     put(out, end, "")
 }
 
-/// Reads a line of an Accept header (RFC 9110, 12.5.1), and writes the strings of each range to `out`, which must have at least `3 *
-/// text.len() + 3` bytes. The strings of a range are its weight in thousandths, as four digits, its parts, and an empty string. Sets `bad`
-/// to the number of bad entries. Returns `MIME_OK`, `MIME_NO_ROOM` or `MIME_NO_MEMORY`.
+/// Reads a line of an Accept header (RFC 9110, 12.5.1), and writes the strings of each range to `out`, which must have at least
+/// `3 * text.len() + 3` bytes. The strings of a range are its weight in thousandths, as four digits, its parts, and an empty string. Sets
+/// `bad` to the number of bad entries. Returns `MIME_OK`, `MIME_NO_ROOM` or `MIME_NO_MEMORY`.
 #[unsafe(no_mangle)]
 pub extern "C" fn mime_accept(
     alloc: Global,
@@ -455,7 +455,8 @@ pub extern "C" fn mime_best(
 }
 
 /// Writes the positions of the acceptable offers of a list to the start of `order`, and sets `count` to their number (RFC 9110, 12.5.1).
-/// The first is the best, which `mime_best` chooses. Returns `MIME_OK`, or another answer of include/mime.h if it wrote nothing.
+/// The first position is that of the best offer, which `mime_best` chooses. Returns `MIME_OK`, or another answer of include/mime.h if it
+/// wrote nothing.
 #[unsafe(no_mangle)]
 pub extern "C" fn mime_order(
     alloc: Global,

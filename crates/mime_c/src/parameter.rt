@@ -1,4 +1,4 @@
-//! The calls for parameters. Two write what a parameter means, and one writes a media type with a parameter.
+//! The calls for parameters. Two calls write what a parameter means, and one call writes a media type with a parameter.
 
 ghost use Rattle.std.specs.Prelude.{◌≡◌, false, ◌↔◌, ◌<◌, ◌≤◌, ◌==◌, ◌&&◌, not, IsTrue, length};
 ghost use Rattle.mime.specs.Bytes.{backslash_byte};
@@ -59,14 +59,15 @@ pub extern "C" fn mime_boundary(
     }
 }
 
-/// Returns `true` if a byte begins a quoted pair: it is a backslash, and isn't the second byte of a quoted pair, which `is_paired` says.
+/// Returns `true` if a byte begins a quoted pair: it is a backslash, and isn't the second byte of a quoted pair. `is_paired` is `true` for
+/// such a second byte.
 fn begins_quoted_pair(is_paired: bool, byte: u8) -> bool
     ensures { result ≡ (not is_paired && byte == backslash_byte) }
 {
     !is_paired && byte == b'\\'
 }
 
-/// Returns `true` if a value has a backslash. A value without one means itself.
+/// Returns `true` if a value has a backslash. A value without a backslash means itself.
 fn has_backslash(value: &[u8]) -> bool
     ensures { result ≡ false → unescaped value.now ≡ value.now }
 {
@@ -120,8 +121,8 @@ fn has_room(out: &[u8], text: &[u8], name: &[u8], value: &[u8]) -> bool
     most <= out.len() as u128
 }
 
-/// Writes a media type with a parameter in place of all parameters of its name (RFC 9110, 5.6.6) to `out`, which must have at least `2 *
-/// text.len() + name.len() + 2 * value.len() + 6` bytes. Sets `size` to the number of bytes of the media type. Returns `MIME_OK`, or
+/// Writes a media type with a parameter in place of all parameters of its name (RFC 9110, 5.6.6) to `out`, which must have at least
+/// `2 * text.len() + name.len() + 2 * value.len() + 6` bytes. Sets `size` to the number of bytes of the media type. Returns `MIME_OK`, or
 /// another answer of include/mime.h if it wrote nothing.
 #[unsafe(no_mangle)]
 pub extern "C" fn mime_set_parameter(

@@ -9,8 +9,8 @@ use mime_http::laws::one_http_reading;
 use mime_http::{FieldError, content_type};
 use std::alloc::Global;
 
-/// Returns the status for a `Content-Type` with this error: 400 if it isn't a media type (RFC 9110, 15.5.1), and 503 if
-/// memory ran out (15.6.4).
+/// Returns the status for a `Content-Type` with this error: 400 if it isn't a media type (RFC 9110, 15.5.1), and 503 if memory ran out
+/// (15.6.4).
 pub fn status_of(error: &FieldError) -> u16
     ensures malformed { (result ≡ 400) ↔ (error.now ≢ FieldError.NoMemory) }
     ensures memory { (result ≡ 503) ↔ (error.now ≡ FieldError.NoMemory) }

@@ -15,9 +15,10 @@ use std::alloc::Global;
 /// Reads a source to its end, or to one byte past the limit. Then writes the report on the source's heads and on the offers to a sink, and
 /// returns the verdict.
 ///
-/// # Errors Returns `Read` if the source fails, and `Write` if the sink fails. A call that failed isn't repeated. Returns `TooLong` if the
-/// source has more than 1,048,576 bytes and its first head doesn't end within these, and `NoMemory` if memory runs out. A part of the
-/// report may have been written only if the error is `Write`.
+/// # Errors
+/// Returns `Read` if the source fails, and `Write` if the sink fails. A call that failed isn't repeated. Returns `TooLong` if the source
+/// has more than 1,048,576 bytes and its first head doesn't end within the first 1,048,576, and `NoMemory` if memory runs out. A part of
+/// the report may have been written only if the error is `Write`.
 pub fn run<S: Source, T: Sink>(
     alloc: Global,
     source: &mut S,

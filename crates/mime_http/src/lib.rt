@@ -1,5 +1,5 @@
-//! Reads and writes media types in HTTP headers for servers, as RFC 9110 defines them. It uses the library `mime`, but also reads the
-//! values that HTTP allows and `mime` rejects. The promises of this library are contracts that a prover checks.
+//! Reads and writes media types in HTTP headers for servers, as RFC 9110 defines them. This library uses `mime`, but also reads the values
+//! that HTTP allows and `mime` rejects. Its promises are contracts that a prover checks.
 //!
 //! [`content_type`] reads the bytes of a header's value, such as that of a `Content-Type`. [`Accept`] reads the lines of an `Accept`
 //! header, weighs a server's offers, and returns the best offer, or all acceptable offers in order. [`covers`] and [`weight_of`] examine a
@@ -31,12 +31,14 @@
 //! }
 //! ```
 //!
-//! # Errors A value that isn't a media type is rejected with its one fault. The fault is what is missing at the value's end, or the first
-//! byte that can't continue a media type, with that byte's position in the value. White space may follow a media type, so in `a/b c` the
-//! `c` is at fault. In `text `, the space is at fault. Positions count bytes from 0.
+//! # Errors
+//! A value that isn't a media type is rejected with its one fault. The fault is what is missing at the value's end, or the first byte that
+//! can't continue a media type, with that byte's position in the value. White space may follow a media type, so in `a/b c` the `c` is at
+//! fault. In `text `, the space is at fault. Positions count bytes from 0.
 //!
-//! # Standards Values follow the grammar of RFC 9110 (8.3.1, 5.6.3, 5.6.4 and 5.6.6), and must be UTF-8: other non-ASCII bytes (obs-text)
-//! are rejected. A parameter's value keeps its backslashes, as in `mime`. [`unescape`] removes them.
+//! # Standards
+//! Values follow the grammar of RFC 9110 (8.3.1, 5.6.3, 5.6.4 and 5.6.6), and must be UTF-8: other non-ASCII bytes (obs-text) are rejected.
+//! A parameter's value keeps its backslashes, as in `mime`. [`unescape`] removes them.
 #![tactic(auto)]
 
 mod accept;

@@ -76,7 +76,7 @@ fn meant_boundary(alloc: Global, value: &str) -> Result<Option<Vec<u8>>, AllocEr
         // A boundary has no backslash, so it means itself.
         return Ok(Some(bytes.to_vec(alloc)?));
     }
-    // Two bytes mean at least one byte, and only a backslash at the end means none.
+    // Any two bytes mean at least one byte. Only a backslash at the end means none.
     if bytes.len() > 2 * LONGEST + 1 || !value.contains('\\') {
         return Ok(None);
     }

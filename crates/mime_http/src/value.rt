@@ -212,9 +212,10 @@ fn read_other(alloc: Global, value: &str, fault: &ParseError) -> Result<Mime, Fi
 /// It doesn't allocate if at most 40 bytes are printed. Otherwise, it allocates one block for a value that is read as it is, and two blocks
 /// for a value that is printed anew, of which it frees one. It doesn't allocate for a value that it rejects.
 ///
-/// # Errors Returns `NotUtf8` if the value isn't valid UTF-8. Returns `Invalid` with the fault if the value isn't a media type. The fault's
-/// position is that in `value`: 7 for `   a/b c`. Returns `NoMemory` if memory runs out, which never happens for a value that isn't a media
-/// type, nor for a value that is printed in at most 40 bytes.
+/// # Errors
+/// Returns `NotUtf8` if the value isn't valid UTF-8. Returns `Invalid` with the fault if the value isn't a media type. The fault's position
+/// is that in `value`: 7 for `   a/b c`. Returns `NoMemory` if memory runs out, which never happens for a value that isn't a media type,
+/// nor for a value that is printed in at most 40 bytes.
 #[inline(always)]
 pub fn content_type(alloc: Global, value: &[u8]) -> Result<Mime, FieldError>
     // The result is the media type that HTTP defines.
