@@ -37,7 +37,7 @@ static KINDS: [u8; 256] = [
 ];
 
 /// Returns `true` if a byte may occur in a token: a type, a subtype, a parameter's name or an unquoted value (tchar of
-/// RFC 7230, 3.2.6). `is_token(b'+')` is true, `is_token(b' ')` is false.
+/// RFC 7230, 3.2.6). `is_token(b'+')` is true, and `is_token(b' ')` is false.
 #[inline(always)]
 pub fn is_token(b: u8) -> bool
     ensures { result ≡ is_token_byte b }
@@ -53,7 +53,7 @@ pub(crate) fn is_token_except_plus(b: u8) -> bool
     KINDS[b as usize] == T
 }
 
-/// Returns `true` if a byte may occur in a token. The plus counts only if `with_plus`.
+/// Returns `true` if a byte may occur in a token. The plus counts as such a byte only if `with_plus` is true.
 #[inline(always)]
 pub(crate) fn is_in_token(b: u8, with_plus: bool) -> bool
     ensures { result ≡ token_bytes with_plus b }

@@ -38,7 +38,7 @@ pub(crate) struct Positions {
 pub(crate) enum Scanned {
     /// The string is accepted, and its parts have these positions.
     Accepted(Positions),
-    /// The string ends too early, and this is missing.
+    /// The string ends too early, and this fault says what is missing.
     Unfinished(ParseError),
     /// No media type continues with this byte, which was read last, and the string before the byte isn't a media type.
     Stopped(u8),
@@ -48,7 +48,8 @@ pub(crate) enum Scanned {
     Followed(Positions, u8),
 }
 
-/// Reads the bytes of a token, and returns the byte that ends it. A plus ends the token, too, unless `with_plus`.
+/// Reads the bytes of a token, and returns the byte that ends it. A plus ends the token, too, unless `with_plus` is
+/// true.
 #[inline(always)]
 fn token(reader: &mut ByteReader<'_>, with_plus: bool) -> Option<u8>
     ensures { Passes (token_bytes with_plus) reader.old reader.new result }
@@ -100,7 +101,7 @@ fn quoted_text(reader: &mut ByteReader<'_>) -> Option<u8>
 }
 
 /// Reads a quoted string's content, and returns the byte that ends it: the first quote that isn't in a quoted pair, or
-/// a byte that may not occur there.
+/// a byte that may not occur in a quoted string.
 #[inline(always)]
 fn content(reader: &mut ByteReader<'_>) -> Option<u8>
     ensures { PassesContent reader.old reader.new result }
@@ -118,8 +119,8 @@ fn content(reader: &mut ByteReader<'_>) -> Option<u8>
     stop
 }
 
-/// Reads a subtype after its first byte. Returns the position of the last plus that was read, if there is one, and the
-/// byte that ends the subtype. `from` is the reader's count at the start of the string.
+/// Reads a subtype after its first byte. Returns the position of the last plus that was read, or `None` if no plus was
+/// read, and the byte that ends the subtype. `from` is the reader's count at the start of the string.
 #[inline(always)]
 fn subtype(reader: &mut ByteReader<'_>, from: u128) -> (Option<usize>, Option<u8>)
     requires begun { from < reader.old.count }

@@ -1,5 +1,5 @@
-//! Runs over readers and writers in memory: what they return and write. vectors/ and tools/program test the reports on
-//! ordinary inputs.
+//! Tests of runs over readers and writers in memory: what the runs return and write. vectors/ and tools/program test
+//! the reports on ordinary inputs.
 
 ghost use Rattle.std.specs.Prelude.{◌≡◌, None, false};
 
@@ -199,8 +199,8 @@ fn written<'a>(case: &Case<'a>, scenario: &Scenario, at: usize) -> &'a [u8] {
 
 /// Checks a run of a scenario. If the run must return `Read`, the read with the number `at` fails. If it must return
 /// `Write`, the writer fails at byte `at`, or at the flush if the scenario allows no flush. The run must return the
-/// scenario's result, and the writer must accept all its bytes. Only the source may fail if the result is `Read`, and
-/// only the sink if it is `Write`, and no call may follow the failure.
+/// scenario's result, and the writer must accept all its bytes. The source may fail only if the result is `Read`, and
+/// the sink only if the result is `Write`. No call may follow a failure.
 fn check(
     rt: &impl Abort,
     alloc: Global,

@@ -32,8 +32,8 @@ pub(crate) struct ByteReader<'a> {
 /// The maximum number of bytes of a token that the loop of a `MimeIter` reads. Most tokens are shorter.
 pub(crate) const NEAR: usize = 24;
 
-/// Returns the position of the first byte, at or after `from`, that ends a token, or the length if there is none. A
-/// plus ends the token, too, unless `with_plus`.
+/// Returns the position of the first byte, at or after `from`, that ends a token, or the length if there is no such
+/// byte. A plus ends the token, too, unless `with_plus` is true.
 #[inline(always)]
 fn end_of_token(text: &[u8], from: usize, with_plus: bool) -> usize
     requires { from ≤ length text.now }

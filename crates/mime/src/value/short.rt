@@ -98,7 +98,7 @@ impl ShortText {
         if let Some(at) = difference_from(bytes, others, 16) {
             return Some(at);
         }
-        // The last block begins within the one before it.
+        // The last block begins within the block before it.
         if let Some(at) = difference_from(bytes, others, SHORT - 16) {
             return Some(at);
         }
