@@ -129,8 +129,8 @@ fn eq_by_parts(mime: &Mime, s: &str, equal_ignoring_case: bool) -> bool
     equal_ignoring_case || has_list_of(mime, s)
 }
 
-/// Returns `true` if a byte isn't a space, a tab or a quote. Strings that first differ at two such bytes aren't read as
-/// equal values.
+/// Returns `true` if a byte isn't a space, a tab or a quote. If two strings first differ, ignoring ASCII case, at two bytes for
+/// which this is `true`, they aren't read as equal values.
 #[inline(always)]
 fn reaches_value(byte: u8) -> bool
     ensures { result ≡ reaches_value byte }

@@ -292,7 +292,8 @@ pub fn comma_contains_on_runs()
     ensures { CommaContainsOnRuns }
 {}
 
-/// A run over a printed list of values that were read yields these values: over `a/b, c/d` it yields `a/b` and `c/d`.
+/// If values that were read are printed, and joined with a comma and a space, an iterator over the string yields the same values: over
+/// `a/b, c/d` it yields `a/b` and `c/d`.
 pub fn printed_list_comes_back()
     ensures { PrintedListComesBack }
 {}

@@ -85,8 +85,8 @@ fn without_end(before: &[u8]) -> &[u8]
     }
 }
 
-/// Returns the next part and the bytes after the delimiter that ends it. `left` begins after the delimiter before the part. Returns `None`
-/// if that delimiter closes the body, or the body is cut off.
+/// Returns the next part and the bytes after the delimiter that ends it. `left` begins after the previous delimiter. Returns `None` if the
+/// previous delimiter closes the body, or the body is cut off.
 fn next_part<'a>(left: &'a [u8], delimiter: &[u8]) -> Option<(&'a [u8], &'a [u8])>
     requires { delimiter.now ≢ [] }
     ensures part { IfSome result (λ halves. IsNextPart delimiter.now left.now halves.0.now halves.1.now) }

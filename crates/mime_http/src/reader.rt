@@ -119,8 +119,8 @@ fn fault_at(value: &[u8], pos: usize, missing: ParseError) -> ParseError
     }
 }
 
-/// Returns the position after the byte of quoted text at `at`, or after more bytes of quoted text: after every `LONG` bytes from `from` on,
-/// a run of quoted text is searched in blocks.
+/// Skips the byte of quoted text at `at`, and returns the position after it. If the number of bytes from `from` to there is a multiple of
+/// `LONG`, also skips the quoted text that follows, in blocks.
 #[inline(always)]
 fn text_end(value: &[u8], at: usize, from: usize) -> usize
     requires least { from ≤ at }

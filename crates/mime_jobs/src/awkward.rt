@@ -189,7 +189,7 @@ fn texts_of(alloc: Global, shapes: &[Shape], random: &mut Random) -> Result<Vec<
     Ok(texts)
 }
 
-/// Adds the results of calls that read a whole value.
+/// Adds the essence of a media type, and the results of looking up, hashing, comparing, cloning and walking the parameters.
 fn look_up(alloc: Global, mime: &Mime, digest: &mut Digest) -> Result<(), AllocError> {
     digest.media_type(mime);
     digest.found(mime.get_param(CHARSET));

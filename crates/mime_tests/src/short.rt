@@ -13,7 +13,8 @@ const MOST: usize = 7;
 /// The number of short strings: the sum of the powers of 8 from 8 ^ 0 to 8 ^ 7.
 const COUNT: usize = 2_396_745;
 
-/// Writes the short string with a number. Its characters are the number's digits in base 8, the lowest first, with digits from 1 to 8.
+/// Writes the short string that a number stands for. The string's characters stand for the number's digits in base 8, the lowest first,
+/// with digits from 1 to 8 in place of 0 to 7.
 fn spell(text: &mut String, number: usize) {
     text.clear();
     let mut rest = number;
