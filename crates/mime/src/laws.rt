@@ -177,8 +177,8 @@ pub fn kept_text_is()
     ensures { KeptTextIs }
 {}
 
-/// A look-up in a list of items has at most one result. It has a result if the key decides which names it accepts:
-/// `TextKey("P")` finds `1` in `a/b;p=1;p=2`, and nothing else.
+/// A look-up in a list of parameters has at most one result: a value, or `None`. It has a result if the key either accepts or
+/// rejects each name: `TextKey("P")` finds `1` in `a/b;p=1;p=2`, and nothing else.
 pub fn one_answer<K: ParamKey>(key: &K)
     ensures most { OneAnswer (K.Accepts key.now) }
     ensures least { HasAnswer (K.Accepts key.now) }

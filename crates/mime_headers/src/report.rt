@@ -396,7 +396,7 @@ impl Rows {
         self.push("\n")
     }
 
-    /// Adds ` by ` and the range at a position, or ` by none` if there is no position.
+    /// Adds ` by `, the number of the range at a position, counted from 1, and its text, or ` by none` if there is no position.
     fn push_by(&mut self, ranges: &[Mime], at: Option<usize>) -> Result<(), AllocError>
         ensures { OnOk result (vec_items self.new.text ≡ vec_items self.old.text ++ by_text (map (λ range. range.media) ranges.now) at) }
     {
