@@ -25,16 +25,15 @@ enum call { READ, CONTENT_TYPE, ACCEPT, LIST, BOUNDARY, UNESCAPE, SET_PARAMETER,
 static const char *const names[] = {"read", "content_type", "accept", "list", "boundary", "unescape", "set_parameter", "order", "best",
                                     "best_of_all", "equal", "none"};
 
+/* Where the buffer ends, and what stands in it before a call. */
+static char *out_end, untouched[ROOM];
+
 /* The call, its strings, its buffer, and what it gives. */
 static enum call call;
-static struct { const char *bytes; size_t len; } in[STRINGS];
-static char *out;
-static size_t out_len;
+static char *in[STRINGS], *out;
+static size_t len[STRINGS], out_len;
 static struct mime_found found;
 static uint32_t answer;
-
-/* Where buffers end, and what stands in them before a call. */
-static char *out_end, untouched[ROOM];
 
 /* The requests for memory of the call: their number, the largest, and which is refused (from 1 on). How many blocks it holds and held at
  * most, and how many bytes. */
@@ -59,10 +58,7 @@ void *__wrap_realloc(void *block, size_t size)
     return grown;
 }
 
-void *__wrap_malloc(size_t size)
-{
-    return __wrap_realloc(NULL, size);
-}
+void *__wrap_malloc(size_t size) { return __wrap_realloc(NULL, size); }
 
 void __wrap_free(void *block)
 {
@@ -75,7 +71,7 @@ void __wrap_free(void *block)
  * equal, becomes a length, and a number of bad entries one of parameters. */
 static void make(void)
 {
-#define STRING(i) in[i].len > 0 ? in[i].bytes : NULL, in[i].len
+#define STRING(i) len[i] > 0 ? in[i] : NULL, len[i]
     uint8_t equal = 2;
     requests = largest = blocks = most_blocks = held = most_held = 0;
     found = (struct mime_found){.length = 1, .params = call <= ACCEPT};
@@ -86,9 +82,9 @@ static void make(void)
     case CONTENT_TYPE: answer = mime_content_type(STRING(0), out, out_len, &found); break;
     case ACCEPT: answer = mime_accept(STRING(0), out, out_len, &found.length, &found.params); break;
     case LIST: answer = mime_list(STRING(0), out, out_len, &found.length); break;
-    case BEST: answer = mime_best(in[0].bytes, in[0].len, STRING(1), &found.length); break;
+    case BEST: answer = mime_best(in[0], len[0], STRING(1), &found.length); break;
     case BEST_OF_ALL: answer = mime_best(NULL, 0, STRING(0), &found.length); break;
-    case ORDER: answer = mime_order(in[0].bytes, in[0].len, STRING(1), (void *)out, out_len / sizeof(size_t), &found.length); break;
+    case ORDER: answer = mime_order(in[0], len[0], STRING(1), (void *)out, out_len / sizeof(size_t), &found.length); break;
     case BOUNDARY: answer = mime_boundary(STRING(0), out, out_len, &found.length); break;
     case UNESCAPE: answer = mime_unescape(STRING(0), out, out_len, &found.length); break;
     case SET_PARAMETER: answer = mime_set_parameter(STRING(0), STRING(1), STRING(2), out, out_len, &found.length); break;
@@ -101,24 +97,47 @@ static void check(int is_so)
 {
     if (!is_so)
         errx(1, "%s of %.*s, %.*s, %.*s: answer %u, in %zu bytes, with request %zu refused, or what it finds or writes, is wrong",
-             names[call], (int)in[0].len, in[0].bytes, (int)in[1].len, in[1].bytes, (int)in[2].len, in[2].bytes, answer, out_len,
-             refused_at);
+             names[call], (int)len[0], in[0], (int)len[1], in[1], (int)len[2], in[2], answer, out_len, refused_at);
 }
 
 /* How many bytes the call has written, from the start of its buffer on, or less. */
 static size_t written(void)
 {
-    size_t count = call >= BEST ? 0 : call == ORDER ? found.length * sizeof(size_t) : call <= LIST ? found.length : found.length + 1;
-    if (answer != MIME_OK)
+    size_t count = call == ORDER ? found.length * sizeof(size_t) : found.length + (call > LIST);
+    if (answer != MIME_OK || call >= BEST)
         count = 0;
     check(count <= out_len && memcmp(out_end - out_len - 8, untouched, 8) == 0
           && memcmp(out_end - out_len + count, untouched, out_len - count) == 0);
     return count;
 }
 
-static int is_nothing(void)
+static int is_nothing(void) { return found.length + found.params + written() == 0; }
+
+/* Checks that mime_param finds by a name what the C library's comparison finds. */
+static void look_up(const char *name)
 {
-    return found.length + found.params + written() == 0;
+    const char *it = mime_next(out), *end = out + found.printed;
+    while (it < end && strcasecmp(it, name) != 0)
+        it = mime_next(mime_next(it));
+    check(mime_param(out, &found, name) == (it < end ? mime_next(it) : NULL));
+}
+
+/* Looks up each name that was found, and, in capitals and with a byte more, each beginning of it. */
+static void look_up_each(void)
+{
+    static char name[ROOM];
+    check(mime_param(out, &found, answer == MIME_OK ? "/" : "q") == NULL);
+    for (const char *it = answer == MIME_OK ? mime_next(out) : out; it < out + found.printed; it = mime_next(mime_next(it))) {
+        size_t size = strlen(it);
+        look_up(it);
+        for (size_t i = 0; i < size; i++)
+            name[i] = (char)toupper((unsigned char)it[i]);
+        name[size] = 'x';
+        for (size_t left = size + 2; left-- > 0;) {
+            name[left] = 0;
+            look_up(name);
+        }
+    }
 }
 
 /* Tries the call in smaller buffers, or in one if they are many, and with requests refused, and at last makes it as it is. */
@@ -142,34 +161,8 @@ static void make_each(int may_do_without)
     }
     refused_at = 0;
     check(answer == right && held == 0);
-}
-
-/* Whether mime_param finds by a name what the C library's comparison finds. */
-static int finds(const char *name)
-{
-    const char *it = mime_next(out), *end = out + found.printed;
-    while (it < end && strcasecmp(it, name) != 0)
-        it = mime_next(mime_next(it));
-    return mime_param(out, &found, name) == (it < end ? mime_next(it) : NULL);
-}
-
-/* Whether it does by each name that was found, by it in capitals, with a byte more, and by each beginning of it. */
-static int finds_all(void)
-{
-    static char name[ROOM];
-    int well = mime_param(out, &found, answer == MIME_OK ? "/" : "q") == NULL;
-    for (const char *it = answer == MIME_OK ? mime_next(out) : out; it < out + found.printed; it = mime_next(mime_next(it))) {
-        size_t len = strlen(it);
-        for (size_t i = 0; i < len; i++)
-            name[i] = (char)toupper((unsigned char)it[i]);
-        memcpy(name + len, "x", 2);
-        well = well && finds(it) && finds(name);
-        for (size_t left = len + 1; left-- > 0;) {
-            name[left] = 0;
-            well = well && finds(name);
-        }
-    }
-    return well;
+    if (call == READ || call == CONTENT_TYPE)
+        look_up_each();
 }
 
 /* Makes the call on a stack of its own, and returns how much of that it used. */
@@ -179,8 +172,7 @@ static size_t stack_of_call(void)
     static char stack[STACK];
     memset(stack, 'U', STACK);
     getcontext(&there);
-    there.uc_stack.ss_sp = stack;
-    there.uc_stack.ss_size = STACK;
+    there.uc_stack = (stack_t){.ss_sp = stack, .ss_size = STACK};
     there.uc_link = &here;
     makecontext(&there, make, 0);
     swapcontext(&here, &there);
@@ -199,21 +191,19 @@ int main(int argc, char **argv)
             return 2;
     }
     out_end = ends[STRINGS];
-    memset(untouched, 'U', sizeof untouched);
-    while (scanf("%15s%zu%d%zu%zu%zu", name, &out_len, &may_do_without, &in[0].len, &in[1].len, &in[2].len) == 6 && getchar() == '\n') {
+    memset(untouched, 'U', ROOM);
+    while (scanf("%15s%zu%d%zu%zu%zu", name, &out_len, &may_do_without, &len[0], &len[1], &len[2]) == 6 && getchar() == '\n') {
         for (int i = 0; i < STRINGS; i++) {
-            in[i].bytes = ends[i] - in[i].len;
-            if (fread(ends[i] - in[i].len, 1, in[i].len, stdin) != in[i].len)
+            in[i] = ends[i] - len[i];
+            if (fread(in[i], 1, len[i], stdin) != len[i])
                 return 2;
         }
         for (call = 0; call < NONE && strcmp(names[call], name) != 0; call++)
             ;
         if (argc > 1)
             stack = stack_of_call();
-        else {
+        else
             make_each(may_do_without);
-            check((call != READ && call != CONTENT_TYPE) || finds_all());
-        }
         size_t count = written();
         size_t said[] = {answer, found.length, found.params, found.printed, found.slash, found.subtype_end, found.pos, found.byte,
                          requests, largest, most_blocks, most_held, stack, count};

@@ -1,6 +1,8 @@
-"""What the tools share: commands with time limits, none of which outlives its tool; what passed in earlier runs; and programs. A tool that
-reads this with `--help` alone prints what stands at its head, and does nothing else."""
+"""What the tools share: commands with time limits, none of which outlives its tool; what passed in earlier runs; and programs, of which
+this proves and builds one for tools/run_proved. A tool that reads this with `--help` alone prints what stands at its head, and does nothing
+else."""
 
+import fcntl
 import functools
 import os
 import re
@@ -8,7 +10,9 @@ import shutil
 import signal
 import subprocess
 import sys
+import time
 from collections import namedtuple
+from concurrent.futures import ThreadPoolExecutor, wait
 from pathlib import Path
 from subprocess import DEVNULL, PIPE, STDOUT
 
@@ -23,6 +27,8 @@ RT_SECONDS, PROGRAM_SECONDS = 60 * 60, 60
 
 # What makes each kind of a crate's program, by how its name ends: as LLVM builds it, as Rattle's own compiler does, and its tests.
 KINDS = {"": "rt run --backend llvm", ".by-rattle": "rt run --backend rattle", "_tests": "rt test"}
+# The program logic that the proofs are made for, as `rt version` prints it: that of rattle-kit-13b and rattle-kit-13f.
+LOGIC = "dac8208d650f15bf"
 # What a command wrote, and its status; the commands that are running, and the signals that told the tool to end.
 Outcome = namedtuple("Outcome", "stdout stderr returncode")
 _running, _signals = set(), []
@@ -172,19 +178,61 @@ def below(crate):
     return [*dict.fromkeys(name for it in libraries for name in below(it)), crate]
 
 
+def say(text, end="\n"):
+    print(text, end=end, file=sys.stderr, flush=True)
+
+
+def build(crate, command, log):
+    """Has rt prove and build a program of a crate, and says how far it is: on a terminal on one line, otherwise on a new line each half
+    minute. Libraries come first: given only the program, rt would first read all sources in a separate pass."""
+    start, end, pause = ("\r\033[K", "", 1) if sys.stderr.isatty() else ("", "\n", 30)
+    began = time.monotonic()
+    for it in below(crate):
+        words = (command if it == crate else "rt lib").split()
+        with ThreadPoolExecutor() as pool, open(log, "w", encoding="utf-8") as said:
+            rt = pool.submit(run, words, stdout=said, stderr=STDOUT, cwd=f"{TOP}/crates/{it}")
+            while not wait([rt], pause).done:
+                minutes, seconds = divmod(int(time.monotonic() - began), 60)
+                far = re.findall("(?m)^so far.*", Path(log).read_text("utf-8", "replace"))[-1:]
+                say(f"{start}{crate}: {minutes} min {seconds} s, {', '.join([f'crate {it}', *far])}", end)
+        if rt.result().returncode:
+            break
+    say(start, "")
+
+
 @functools.cache
 def program(crate, kind=""):
     """The program of a crate as LLVM builds it, or of another kind, that rt ci proved or that was built from the same sources. Otherwise rt
-    proves and builds it."""
-    made, sources = f"{TOP}/crates/{crate}/out/{crate}{kind}", run_ok("tools/sources", crate)
-    if all(map(os.path.exists, (made, f"{made}.sources"))) and Path(f"{made}.sources").read_text(encoding="utf-8") == sources:
+    proves and builds it, once no other run does."""
+    out, sources, command = f"{TOP}/crates/{crate}/out", run_ok("tools/sources", crate), KINDS[kind]
+    made, began, log = f"{out}/{crate}{kind}", f"{out}/build.began", f"{out}/build.log"
+    is_current = lambda: all(map(os.path.exists, (made, f"{made}.sources"))) and Path(f"{made}.sources").read_text("utf-8") == sources
+    if is_current():
         return made
-    built, command = made.removesuffix(".by-rattle"), KINDS[kind]
-    print(f"{command} proves and builds a program of {crate}, as far as it isn't up to date", flush=True)
-    text, _ = output(["sh", "-c", f"rm -f {built}; {command}"], f"{TOP}/crates/{crate}")
-    if not os.path.exists(built):
-        raise OSError(f"{crate} can't be built:\n{text[-3000:]}")
-    os.replace(built, made)
-    if run_ok("tools/sources", crate) == sources:
-        write(f"{made}.sources", sources)
+    say(f"{crate}: `{command}` proves and builds the program, and the libraries {' '.join(below(crate)[:-1])}, as far as they aren't up to "
+        "date. This may take some minutes and some hundred MB of disk.")
+    version = run_ok("rt", "version").strip()
+    if not version.endswith(LOGIC):
+        say(f"{crate}: made for the logic {LOGIC}; the command rt here is of '{version}', and may not be able to build it")
+    write(began, "")
+    with open(f"{out}/build.lock", "w", encoding="utf-8") as lock:
+        fcntl.flock(lock, fcntl.LOCK_EX)
+        if not is_current():
+            built = made.removesuffix(".by-rattle")
+            Path(built).unlink(missing_ok=True)
+            build(crate, command, log)
+            if not os.path.exists(built):
+                said = Path(log).read_text("utf-8", "replace")
+                raise OSError(f"{crate}: the program can't be built; {log} has what rt said:\n{said[-3000:]}")
+            os.replace(built, made)
+            # If a source was touched or is lost meanwhile, the next run builds again.
+            if not output(["tools/sources", crate], env={**os.environ, "SINCE": began})[0]:
+                write(f"{made}.sources", sources)
     return made
+
+
+if __name__ == "__main__":
+    try:
+        program(sys.argv[1])
+    except OSError as error:
+        sys.exit(f"{error}")
