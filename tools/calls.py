@@ -1,6 +1,7 @@
 """What the calls of include/mime.h have to answer: tools/c_calls tries this. tools/calls.c makes the calls. Each check of a text is a
 generator that yields calls, and is sent what they gave."""
 
+import io
 import random
 import re
 import struct
@@ -60,12 +61,10 @@ def made(words, calls):
     said, errors, status = run(words, given=b"".join(calls))
     if status:
         raise OSError(f"{words[-1]} ended with status {status}: {errors[-3000:].decode(errors='replace')}")
-    at = 0
+    read = io.BytesIO(said).read
     for _ in calls:
-        *numbers, count = NUMBERS.unpack_from(said, at)
-        begin = at + NUMBERS.size
-        at = begin + count
-        yield Given(*numbers, said[begin:at])
+        *numbers, count = NUMBERS.unpack(read(NUMBERS.size))
+        yield Given(*numbers, read(count))
 
 
 def header(value):
@@ -154,12 +153,9 @@ def check_order(text):
     it = yield call("order", text, b", ".join(OFFERS), may_do_without=True)
     assert it.answer == (OK if it.length else NOT_ACCEPTABLE)
     left = [*range(len(OFFERS))]
-    for position in struct.unpack(f"{it.length}N", it.written):
+    for position in (*struct.unpack(f"{it.length}N", it.written), None):
         best = yield call("best", text, b",".join(OFFERS[at] for at in left), may_do_without=True)
-        assert best.answer == OK and left.pop(best.length) == position
-    if left:
-        best = yield call("best", text, b",".join(OFFERS[at] for at in left), may_do_without=True)
-        assert best.answer == NOT_ACCEPTABLE
+        assert best.answer == NOT_ACCEPTABLE if position is None else best.answer == OK and left.pop(best.length) == position
     it = yield call("order", text, b"a/b, c", may_do_without=True)
     assert (it.answer, it.length) == (BAD_OFFER, 0)
 
@@ -234,9 +230,7 @@ def holds(words, texts):
                 asked = [*map(next_call, left, given)]
                 left = [it for it, asks in zip(left, asked) if asks]
                 given = made(words, [*filter(None, asked)])
-    except AssertionError as error:
-        print(*traceback.TracebackException.from_exception(error, limit=-1, capture_locals=True).format(), sep="")
-        return told(f"calls of {words[-1]}", False)
-    except OSError as error:
-        return told(f"calls of {words[-1]}", False, f": {error}")
+    except (AssertionError, OSError) as error:
+        last = traceback.TracebackException.from_exception(error, limit=-1, capture_locals=True)
+        return told(f"calls of {words[-1]}", False, "\n" + "".join(last.format()))
     return told(f"calls of {words[-1]} on {count} texts", True)

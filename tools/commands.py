@@ -13,6 +13,7 @@ import sys
 import time
 from collections import namedtuple
 from concurrent.futures import ThreadPoolExecutor, wait
+from difflib import unified_diff
 from pathlib import Path
 from subprocess import DEVNULL, PIPE, STDOUT
 
@@ -29,6 +30,8 @@ RT_SECONDS, PROGRAM_SECONDS = 60 * 60, 60
 KINDS = {"": "rt run --backend llvm", ".by-rattle": "rt run --backend rattle", "_tests": "rt test"}
 # The program logic that the proofs are made for, as `rt version` prints it: that of rattle-kit-13b and rattle-kit-13f.
 LOGIC = "dac8208d650f15bf"
+# The lines by which two lists of lines differ, with the names of the lists.
+differences = functools.partial(unified_diff, n=0, lineterm="")
 # What a command wrote, and its status; the commands that are running, and the signals that told the tool to end.
 Outcome = namedtuple("Outcome", "stdout stderr returncode")
 _running, _signals = set(), []
