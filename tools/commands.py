@@ -32,6 +32,7 @@ KINDS = {"": "rt run --backend llvm", ".by-rattle": "rt run --backend rattle", "
 LOGIC = "dac8208d650f15bf"
 # The lines by which two lists of lines differ, with the names of the lists.
 differences = functools.partial(unified_diff, n=0, lineterm="")
+say = functools.partial(print, file=sys.stderr, flush=True)
 # What a command wrote, and its status; the commands that are running, and the signals that told the tool to end.
 Outcome = namedtuple("Outcome", "stdout stderr returncode")
 _running, _signals = set(), []
@@ -181,10 +182,6 @@ def below(crate):
     return [*dict.fromkeys(name for it in libraries for name in below(it)), crate]
 
 
-def say(text, end="\n"):
-    print(text, end=end, file=sys.stderr, flush=True)
-
-
 def build(crate, command, log):
     """Has rt prove and build a program of a crate, and says how far it is: on a terminal on one line, otherwise on a new line each half
     minute. Libraries come first: given only the program, rt would first read all sources in a separate pass."""
@@ -197,10 +194,10 @@ def build(crate, command, log):
             while not wait([rt], pause).done:
                 minutes, seconds = divmod(int(time.monotonic() - began), 60)
                 far = re.findall("(?m)^so far.*", Path(log).read_text("utf-8", "replace"))[-1:]
-                say(f"{start}{crate}: {minutes} min {seconds} s, {', '.join([f'crate {it}', *far])}", end)
+                say(f"{start}{crate}: {minutes} min {seconds} s, {', '.join([f'crate {it}', *far])}", end=end)
         if rt.result().returncode:
             break
-    say(start, "")
+    say(end=start)
 
 
 @functools.cache

@@ -23,10 +23,8 @@ __attribute__((constructor)) static void begin(void)
 
 __attribute__((destructor)) static void end_count(void)
 {
-    char said[64];
-    int length = snprintf(said, sizeof said, "%zu %zu %d\n", requests, bytes, requests >= refused_at);
     if (counting)
-        syscall(SYS_write, atoi(getenv("REFUSE_COUNT")), said, (size_t)length);
+        dprintf(atoi(getenv("REFUSE_COUNT")), "%zu %zu %d\n", requests, bytes, requests >= refused_at);
     counting = requests = bytes = 0;
 }
 
