@@ -35,8 +35,7 @@ static size_t len[STRINGS], out_len;
 static struct mime_found found;
 static uint32_t answer;
 
-/* The requests for memory of the call: their number, the largest, and which is refused (from 1 on). How many blocks it holds and held at
- * most, and how many bytes. */
+/* The call's requests for memory: how many, the largest, which is refused (from 1 on); how many blocks and bytes it holds and held. */
 static size_t requests, largest, refused_at, blocks, most_blocks, held, most_held;
 
 void *__real_realloc(void *block, size_t size);

@@ -1,6 +1,5 @@
-"""What the tools share: commands with time limits, none of which outlives its tool; what passed in earlier runs; and programs, of which
-this proves and builds one for tools/run_proved. A tool that reads this with `--help` alone prints what stands at its head, and does nothing
-else."""
+"""What the tools share: commands with time limits, none of which outlives its tool; what passed in earlier runs; and programs. Run by
+tools/run_proved, it proves and builds one. A tool that reads this with `--help` alone only prints what stands at its head."""
 
 import fcntl
 import functools
@@ -96,8 +95,7 @@ def is_right(command, wanted, folder=TOP, **how):
 
 
 def exit_status(tries, least=1):
-    """The exit status of a tool, after its last line. Each of its tries says whether it passed; an error ends them; if there are fewer than
-    the least, some are lost."""
+    """The exit status of a tool, after its last line. Each try says whether it passed; an error ends them; fewer than the least fail."""
     results = []
     try:
         for well in tries:
@@ -202,8 +200,8 @@ def build(crate, command, log):
 
 @functools.cache
 def program(crate, kind=""):
-    """The program of a crate as LLVM builds it, or of another kind, that rt ci proved or that was built from the same sources. Otherwise rt
-    proves and builds it, once no other run does."""
+    """The program of a crate, of one of these kinds, that rt ci proved or that was built from the same sources. Otherwise rt proves and
+    builds it, once no other run does."""
     out, sources, command = f"{TOP}/crates/{crate}/out", run_ok("tools/sources", crate), KINDS[kind]
     made, began, log = f"{out}/{crate}{kind}", f"{out}/build.began", f"{out}/build.log"
     is_current = lambda: all(map(os.path.exists, (made, f"{made}.sources"))) and Path(f"{made}.sources").read_text("utf-8") == sources
