@@ -12,7 +12,9 @@ import sys
 import time
 from collections import namedtuple
 from concurrent.futures import ThreadPoolExecutor, wait
+from contextlib import suppress
 from difflib import unified_diff
+from glob import glob
 from pathlib import Path
 from subprocess import DEVNULL, PIPE, STDOUT
 
@@ -172,6 +174,20 @@ def text_of(path):
 def write(path, text):
     os.makedirs(os.path.dirname(path), exist_ok=True)
     Path(path).write_text(text, encoding="utf-8")
+
+
+def linked(file, to):
+    """Copies a file, or gives one of a proof or a library a second name, since rt replaces such a file and writes into none."""
+    with suppress(OSError):
+        if file.endswith(".oantt") or "/out/rlib/" in file:
+            return os.link(file, to)
+    return shutil.copy2(file, to)
+
+
+def copy_built(top, to, crates):
+    """Copies what was built of these crates below one folder to another."""
+    for it in (it for crate in crates for it in glob(f"crates/{crate}/out", root_dir=top)):
+        shutil.copytree(f"{top}/{it}", f"{to}/{it}", copy_function=linked)
 
 
 def below(crate):
