@@ -33,9 +33,6 @@ PIECES = [b"a", b"text", b"/", b"/", b";", b";", b"; ", b"=", b"=", b'"', b'"', 
           b"image/SVG+xml", b"text/of-40-bytes-which-ask-for-no-memory", b"text/of-41-bytes-which-do-ask-for-memory1"]
 # The numbers that tools/calls.c gives for a call, the last of which counts the bytes that it gives then.
 NUMBERS = struct.Struct("14N")
-# The checks are assertions.
-if not __debug__:
-    raise SystemExit("Python has to run without -O")
 
 
 class Given(namedtuple("Given", "answer length params printed slash subtype_end pos byte requests largest blocks held stack written")):

@@ -16,7 +16,6 @@ from contextlib import suppress
 from difflib import unified_diff
 from glob import glob
 from pathlib import Path
-from subprocess import DEVNULL, PIPE, STDOUT
 
 TOP = os.path.dirname(os.path.dirname(os.path.realpath(__file__)))
 TOOL = os.path.relpath(os.path.realpath(sys.argv[0]), TOP).removeprefix("tools/")
@@ -52,7 +51,7 @@ if sys.argv[1:] == ["--help"]:
 def run(words, seconds=RT_SECONDS, given=None, **how):
     """Runs a command on these bytes, or on nothing; the rest is for subprocess.Popen. A command that takes longer is ended with all that
     it started, and is a TimeoutError. Once the tool has been told to end, nothing more is started."""
-    how = {"stdin": DEVNULL if given is None else PIPE, "stdout": PIPE, "stderr": PIPE, **how}
+    how = {"stdin": subprocess.DEVNULL if given is None else subprocess.PIPE, "stdout": subprocess.PIPE, "stderr": subprocess.PIPE, **how}
     process = subprocess.Popen(["timeout", "-k", "5", str(seconds), *words], **how)
     _running.add(process)
     if _signals:
@@ -68,7 +67,7 @@ def run(words, seconds=RT_SECONDS, given=None, **how):
 
 def output(words, folder=TOP, given=None, **how):
     """What a command writes to standard output and standard error, as a string, and its status."""
-    it = run(words, given=given, cwd=folder, **{"stderr": STDOUT, **how})
+    it = run(words, given=given, cwd=folder, **{"stderr": subprocess.STDOUT, **how})
     return it.stdout.decode(errors="replace"), it.returncode
 
 
@@ -159,7 +158,7 @@ def need(what, *packages):
 def instructions(words, given):
     """How many instructions a whole run takes, as valgrind counts them. Its cachegrind takes half the time of callgrind."""
     counting = ["valgrind", "--tool=cachegrind", "--cache-sim=no", "--cachegrind-out-file=/dev/null"]
-    text = run([*counting, *words], given=given, stdout=DEVNULL).stderr
+    text = run([*counting, *words], given=given, stdout=subprocess.DEVNULL).stderr
     found = re.search(rb"I +refs: +([\d,]+)", text)
     if not found:
         raise OSError(f"valgrind counted nothing:\n{text[-600:].decode(errors='replace')}")
@@ -204,7 +203,7 @@ def build(crate, command, log):
     for it in below(crate):
         words = (command if it == crate else "rt lib").split()
         with ThreadPoolExecutor() as pool, open(log, "w", encoding="utf-8") as said:
-            rt = pool.submit(run, words, stdout=said, stderr=STDOUT, cwd=f"{TOP}/crates/{it}")
+            rt = pool.submit(run, words, stdout=said, stderr=subprocess.STDOUT, cwd=f"{TOP}/crates/{it}")
             while not wait([rt], pause).done:
                 minutes, seconds = divmod(int(time.monotonic() - began), 60)
                 far = re.findall("(?m)^so far.*", Path(log).read_text("utf-8", "replace"))[-1:]
@@ -236,8 +235,7 @@ def program(crate, kind=""):
             Path(built).unlink(missing_ok=True)
             build(crate, command, log)
             if not os.path.exists(built):
-                said = Path(log).read_text("utf-8", "replace")
-                raise OSError(f"{crate}: the program can't be built; {log} has what rt said:\n{said[-3000:]}")
+                raise OSError(f"{crate} can't be built; {log} has what rt said:\n{Path(log).read_text('utf-8', 'replace')[-3000:]}")
             os.replace(built, made)
             # If a source was touched or is lost meanwhile, the next run builds again.
             if not output(["tools/sources", crate], env={**os.environ, "SINCE": began})[0]:
