@@ -1,17 +1,21 @@
 """What the calls of include/mime.h have to answer: tools/c_calls tries this. tools/calls.c makes the calls. Each check of a text is a
-generator that yields calls, and is sent what they gave."""
+generator that yields calls, is sent what they gave, and compares it with what the model of mime_http says, or other calls do."""
 
 import io
 import random
 import re
+import runpy
 import struct
 import traceback
 from collections import namedtuple
 from contextlib import suppress
-from itertools import islice, repeat
+from itertools import chain, islice, repeat
+from types import SimpleNamespace
 
-from commands import run, told
+from commands import TOP, run, told
 
+# The model shares no code with the crates. In its texts a character stands for each byte.
+MODEL = SimpleNamespace(**runpy.run_path(f"{TOP}/vectors/http_model"))
 OK, _, MISSING_SUBTYPE, _, _, _, INVALID_BYTE, NO_MEMORY, NOT_UTF8, _, NOT_ACCEPTABLE, BAD_OFFER, NO_BOUNDARY, BAD_PARAMETER = range(14)
 # The length of the longest media type that asks for no memory.
 SHORT = 40
@@ -109,50 +113,47 @@ def check_list(text):
         assert read.strings[-1:] == [item[1:]] if item[:1] == b"+" else item[:1] == b"-" and read.answer != OK
 
 
+def latin(*texts):
+    return [it.decode("latin-1") for it in texts]
+
+
+def written(*texts):
+    """What a call writes of texts of the model."""
+    return b"".join(it.encode("latin-1") + b"\0" for it in texts)
+
+
 def check_content_type(text):
-    """Checks that the value, if mime_read reads it without the white space around it, or else what it is printed as, is read alike."""
-    same = yield call("read", text.strip(b" \t"))
     it = yield header(text)
     check_found(it, text)
-    is_plain, is_read = same.answer == OK, it.answer == OK
-    assert is_read or it.requests == 0
+    [value] = latin(text)
+    media, is_plain = MODEL.read(value), MODEL.ACCEPTED.fullmatch(value.strip(" \t")) is not None
+    assert it.written == (written(media[1], *chain(*media[2]), media[0]) if media else b"") and (it.answer == OK) == bool(media)
+    assert it.requests == 0 if not media else is_plain or it.requests == (2 if len(media[0]) > SHORT else 0)
     # What is written anew has at most a byte more for each parameter, which has four.
     assert it.blocks <= (1 if is_plain else 2) and it.largest <= len(text) + (0 if is_plain else len(text) // 4)
-    if is_read and not is_plain:
-        assert it.requests == (2 if len(it.strings[-1]) > SHORT else 0)
-        same = yield call("read", it.strings[-1])
-    assert is_read == (same.answer == OK)
-    if is_read:
-        assert it.strings == same.strings and it.slash == same.slash and it.written[-2:-1] not in (b" ", b"\t")
-        # What is before the first semicolon has the same essence.
-        bare = yield header(text.partition(b";")[0])
-        assert bare.answer == OK and bare.params == 0 and bare.strings[0] == it.strings[0]
 
 
 def check_accept(text):
     # An entry of 41 bytes with a semicolon at its end needs no memory, though it is asked for.
     it = yield call("accept", text, may_do_without=b";" in text)
-    ranges = re.findall(rb"(?:0\d{3}|1000)\0[^\0]*/[^\0]*\0(?:[^\0]+\0[^\0]*\0)*\0", it.written)
-    assert it.answer == OK and b"".join(ranges) == it.written
-    refusal = BAD_OFFER if it.params else NOT_ACCEPTABLE
-    may_do_without = bool(it.params) or b";" in text
+    ranges, bad = MODEL.entries(latin(text))
+    wanted = b"".join(written(f"{MODEL.weight_of(media):04}", media[1], *chain(*media[2]), "") for media in ranges)
+    assert (it.answer, it.params, it.written) == (OK, len(bad), wanted)
+    refusal, may_do_without = BAD_OFFER if bad else NOT_ACCEPTABLE, bool(bad) or b";" in text
     none = yield call("best", b"", text, may_do_without=may_do_without)
     assert (none.answer, none.length) == (refusal, 0)
     best = yield call("best_of_all", text, may_do_without=may_do_without)
-    assert (best.answer, best.length) == (OK if ranges and not it.params else refusal, 0)
-    best = yield call("best", text, b", ".join(OFFERS[:3]), may_do_without=True)
-    assert ranges and best.length < 3 if best.answer == OK else (best.answer, best.length) == (NOT_ACCEPTABLE, 0)
+    assert (best.answer, best.length) == (OK if ranges and not bad else refusal, 0)
 
 
 def check_order(text):
-    """Checks that each next offer is the best of those that are left."""
+    offers, ranges = [MODEL.read(it) for it in latin(*OFFERS)], MODEL.entries(latin(text))[0]
     # One of the requests isn't needed: without its memory the order is found in another way.
     it = yield call("order", text, b", ".join(OFFERS), may_do_without=True)
-    assert it.answer == (OK if it.length else NOT_ACCEPTABLE)
-    left = [*range(len(OFFERS))]
-    for position in (*struct.unpack(f"{it.length}N", it.written), None):
-        best = yield call("best", text, b",".join(OFFERS[at] for at in left), may_do_without=True)
-        assert best.answer == NOT_ACCEPTABLE if position is None else best.answer == OK and left.pop(best.length) == position
+    order = MODEL.order(ranges, offers)
+    assert it.written == struct.pack(f"{len(order)}N", *order) and it.answer == (OK if order else NOT_ACCEPTABLE)
+    best = yield call("best", text, b",".join(OFFERS), may_do_without=True)
+    assert (best.answer, best.length) == ((OK, order[0]) if order else (NOT_ACCEPTABLE, 0))
     it = yield call("order", text, b"a/b, c", may_do_without=True)
     assert (it.answer, it.length) == (BAD_OFFER, 0)
 
@@ -177,29 +178,14 @@ def check_boundary(text):
     assert it.strings == wanted and it.length == len(b"".join(wanted))
 
 
-def check_set(media, name, value, wanted):
-    """Checks a parameter that is written into a media type: it is read back, and the others stay. `wanted` is the answer."""
-    it = yield call("set_parameter", media, name, value, may_do_without=wanted != OK or b";" in media)
-    assert it.answer == wanted and (it.answer == OK or it.length == 0)
-    if it.answer == OK:
-        before, after = (yield header(media)), (yield call("read", it.written[:-1]))
-        assert before.answer == after.answer == OK and before.strings[0] == after.strings[0]
-        *kept, (last, written) = after.pairs
-        assert kept == [it for it in before.pairs if it[0] != last] and last == name.lower()
-        assert meant(written) == (value.lower() if last == b"charset" else value)
-
-
 def check_set_parameter(text):
-    it = yield header(text)
-    yield from check_set(text, b"P", b"x", it.answer)
-    yield from check_set(text, b"charset", b"UTF-8", it.answer)
-    # As the value: what mime_read takes in quotes is one, with a backslash before each quote and each backslash.
-    it = yield call("read", b'a/b;p="' + re.sub(rb'(["\\])', rb"\\\1", text) + b'"')
-    yield from check_set(b'a/b;p="y z";q=1', b"p", text, OK if it.answer == OK else BAD_PARAMETER)
-    # As the name: what mime_read takes before an equals sign is one, and nothing else.
-    it = yield call("read", b"a/b;" + text + b"=x")
-    is_name = it.answer == OK and it.params == 1 and len(it.strings[1]) == len(text)
-    yield from check_set(b"a/b", text, b"x y", OK if is_name else BAD_PARAMETER)
+    """Checks parameters that are written into the text, or have it as their value, or as their name."""
+    for given in ((text, b"P", b"x"), (text, b"charset", b"UTF-8"), (b'a/b;p="y z";q=1', b"p", text), (b"a/b", text, b"x y")):
+        before, (media, name, value) = (yield header(given[0])), latin(*given)
+        printed = before.answer == OK and MODEL.not_utf8(value) is None and MODEL.with_parameter(MODEL.read(media), name, value)
+        it = yield call("set_parameter", *given, may_do_without=not printed or b";" in given[0])
+        assert it.written == (written(printed) if printed else b"")
+        assert it.answer == (before.answer if printed or before.answer != OK else BAD_PARAMETER)
 
 
 CHECKS = check_read, check_list, check_content_type, check_accept, check_order, check_boundary, check_unescape, check_set_parameter
