@@ -1,5 +1,5 @@
 """What the tools share: commands with time limits, none of which outlives its tool; what passed in earlier runs; and programs. Run by
-tools/run_proved, it proves and builds one. A tool that reads this with `--help` alone only prints what stands at its head."""
+tools/run_proved, by Python 3.8 or later, it proves and builds one. A tool that reads this with `--help` alone only prints its head."""
 
 import fcntl
 import functools
@@ -18,7 +18,7 @@ from glob import glob
 from pathlib import Path
 
 TOP = os.path.dirname(os.path.dirname(os.path.realpath(__file__)))
-TOOL = os.path.relpath(os.path.realpath(sys.argv[0]), TOP).removeprefix("tools/")
+TOOL = re.sub("^tools/", "", os.path.relpath(os.path.realpath(sys.argv[0]), TOP))
 # Where the crates lie with the proofs that `rt check` keeps. `check` names a copy, since rt ci keeps none.
 PROVED = os.environ.get("PROVED") or TOP
 # What passed in earlier runs: a file each, with a checksum of all that it rests on. A fresh clone has none.
@@ -123,13 +123,13 @@ for _number in (signal.SIGTERM, signal.SIGINT):
     signal.signal(_number, _end)
 
 
-@functools.cache
+@functools.lru_cache(None)
 def tracked():
     """The files of the repository that git doesn't ignore."""
     return [it for it in run_ok("git", "ls-files", "-co", "--exclude-standard").split("\n") if os.path.isfile(f"{TOP}/{it}")]
 
 
-@functools.cache
+@functools.lru_cache(None)
 def checksum(*paths):
     """A checksum of the kit, and of these files and folders as far as git doesn't ignore them."""
     files = 'git ls-files -coz --exclude-standard -- "$@" | LC_ALL=C sort -z | xargs -0 sha256sum'
@@ -165,7 +165,7 @@ def instructions(words, given):
     return int(found[1].replace(b",", b""))
 
 
-@functools.cache
+@functools.lru_cache(None)
 def text_of(path):
     return Path(TOP, path).read_bytes().decode()
 
@@ -213,7 +213,7 @@ def build(crate, command, log):
     say(end=start)
 
 
-@functools.cache
+@functools.lru_cache(None)
 def program(crate, kind=""):
     """The program of a crate, of one of these kinds, that rt ci proved or that was built from the same sources. Otherwise rt proves and
     builds it, once no other run does."""
@@ -231,7 +231,7 @@ def program(crate, kind=""):
     with open(f"{out}/build.lock", "w", encoding="utf-8") as lock:
         fcntl.flock(lock, fcntl.LOCK_EX)
         if not is_current():
-            built = made.removesuffix(".by-rattle")
+            built = made.replace(".by-rattle", "")
             Path(built).unlink(missing_ok=True)
             build(crate, command, log)
             if not os.path.exists(built):
