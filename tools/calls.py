@@ -14,7 +14,7 @@ from types import SimpleNamespace
 
 from commands import TOP, run, told
 
-# The model shares no code with the crates. In its texts a character stands for each byte.
+# The model shares no code with the crates.
 MODEL = SimpleNamespace(**runpy.run_path(f"{TOP}/vectors/http_model"))
 OK, _, MISSING_SUBTYPE, _, _, _, INVALID_BYTE, NO_MEMORY, NOT_UTF8, _, NOT_ACCEPTABLE, BAD_OFFER, NO_BOUNDARY, BAD_PARAMETER = range(14)
 # The length of the longest media type that asks for no memory.
@@ -25,16 +25,16 @@ ROOMS = {
     "content_type": lambda value: 3 * len(value) + 2,
     "accept": lambda text: 3 * len(text) + 3,
     "list": lambda text: 2 * len(text),
-    "order": lambda accept, offers: 8 * offers.count(b",") + 8,
+    "order": lambda accept, offers: 8 * offers.count(",") + 8,
     "boundary": lambda value: 71,
     "unescape": lambda value: len(value) + 1,
     "set_parameter": lambda text, name, value: 2 * len(text) + len(name) + 2 * len(value) + 6,
 }
-OFFERS = [b"text/html", b"image/svg+xml;p=x", b"a/b", b"text/html"]
+OFFERS = ["text/html", "image/svg+xml;p=x", "a/b", "text/html"]
 # What the texts near the grammar are made of.
-PIECES = [b"a", b"text", b"/", b"/", b";", b";", b"; ", b"=", b"=", b'"', b'"', b"\\", b"+", b",", b"*/*", b"a/b", b"text/html;q=0.5", b" ",
-          b"\t", b"charset", b"UTF-8", b"Q", b"multipart/mixed;boundary=", b"\xc3\xa9", b"\xff", b"(", b"\x7f", b'p="x y"',
-          b"image/SVG+xml", b"text/of-40-bytes-which-ask-for-no-memory", b"text/of-41-bytes-which-do-ask-for-memory1"]
+PIECES = ["a", "text", "/", "/", ";", ";", "; ", "=", "=", '"', '"', "\\", "+", ",", "*/*", "a/b", "text/html;q=0.5", " ",
+          "\t", "charset", "UTF-8", "Q", "multipart/mixed;boundary=", "\xc3\xa9", "\xff", "(", "\x7f", 'p="x y"',
+          "image/SVG+xml", "text/of-40-bytes-which-ask-for-no-memory", "text/of-41-bytes-which-do-ask-for-memory1"]
 # The numbers that tools/calls.c gives for a call, the last of which counts the bytes that it gives then.
 NUMBERS = struct.Struct("14N")
 
@@ -42,7 +42,7 @@ NUMBERS = struct.Struct("14N")
 class Given(namedtuple("Given", "answer length params printed slash subtype_end pos byte requests largest blocks held stack written")):
     @property
     def strings(self):
-        return self.written.split(b"\0")[:-1]
+        return self.written.split("\0")[:-1]
 
     @property
     def pairs(self):
@@ -51,10 +51,10 @@ class Given(namedtuple("Given", "answer length params printed slash subtype_end 
 
 
 def call(name, *strings, may_do_without=False):
-    """A call as tools/calls.c reads it."""
+    """A call as tools/calls.c reads it. In its strings, and in what it gives, a character stands for each byte."""
     room = ROOMS[name](*strings) if name in ROOMS else 0
     lengths = [*map(len, strings), 0, 0]
-    return b"%b %d %d %d %d %d\n%b" % (name.encode(), room, may_do_without, *lengths[:3], b"".join(strings))
+    return f"{name} {room} {may_do_without:d} {' '.join(map(str, lengths[:3]))}\n{''.join(strings)}".encode("latin-1")
 
 
 def made(words, calls):
@@ -65,12 +65,12 @@ def made(words, calls):
     read = io.BytesIO(said).read
     for _ in calls:
         *numbers, count = NUMBERS.unpack(read(NUMBERS.size))
-        yield Given(*numbers, read(count))
+        yield Given(*numbers, read(count).decode("latin-1"))
 
 
 def header(value):
     """The call that reads a header. Of 41 bytes with a semicolon at the end those before it need no memory, though it is asked for."""
-    return call("content_type", value, may_do_without=len(value.strip(b" \t")) == SHORT + 1)
+    return call("content_type", value, may_do_without=len(value.strip(" \t")) == SHORT + 1)
 
 
 def check_found(it, text):
@@ -78,12 +78,12 @@ def check_found(it, text):
     if it.answer == OK:
         essence, printed = it.strings[0], it.strings[-1]
         assert len(it.strings) == 2 * it.params + 2 and it.printed == it.length - len(printed) - 1
-        assert it.written[it.slash : it.slash + 1] == b"/" and (essence[it.subtype_end : it.subtype_end + 1] or b"+") == b"+"
-        assert it.subtype_end <= len(essence) and not re.search(rb"[\1-\10\12-\37\177]", it.written)
+        assert it.written[it.slash : it.slash + 1] == "/" and (essence[it.subtype_end : it.subtype_end + 1] or "+") == "+"
+        assert it.subtype_end <= len(essence) and not re.search(r"[\1-\10\12-\37\177]", it.written)
     else:
         assert it.length == it.params == 0
     byte = text[it.pos : it.pos + 1]
-    rights = {INVALID_BYTE: byte == bytes([it.byte]), NOT_UTF8: byte > b"\x7f" and it.byte == 0}
+    rights = {INVALID_BYTE: byte == chr(it.byte), NOT_UTF8: byte > "\x7f" and it.byte == 0}
     assert rights.get(it.answer, it.pos == it.byte == 0)
 
 
@@ -93,8 +93,8 @@ def check_read(text):
     is_read = it.answer == OK
     asked = int(is_read and len(text) > SHORT)
     assert it.answer <= NOT_UTF8 and it.answer != NO_MEMORY and it.requests == asked and it.largest <= len(text)
-    rows = [(text, text, it.answer, is_read, 2 * asked), (b"*/*", text, it.answer, it.strings == [b"*/*"] * 2, asked),
-            (text, b"a/", MISSING_SUBTYPE if is_read else it.answer, 0, asked), (b"a/", text, MISSING_SUBTYPE, 0, 0)]
+    rows = [(text, text, it.answer, is_read, 2 * asked), ("*/*", text, it.answer, it.strings == ["*/*"] * 2, asked),
+            (text, "a/", MISSING_SUBTYPE if is_read else it.answer, 0, asked), ("a/", text, MISSING_SUBTYPE, 0, 0)]
     if is_read:
         printed = it.strings[-1]
         rows.append((text, printed, OK, 1, asked + (len(printed) > SHORT)))
@@ -106,28 +106,22 @@ def check_read(text):
 def check_list(text):
     it = yield call("list", text)
     assert (it.answer == OK or it.answer == NOT_UTF8 and not it.length) and it.blocks <= 1 and it.largest <= len(text)
-    good = [item[1:] for item in it.strings if item[:1] == b"+"]
+    good = [item[1:] for item in it.strings if item[:1] == "+"]
     assert sum(len(item) > SHORT for item in good) <= it.requests <= len(good)
     for item in it.strings:
         read = yield call("read", item[1:])
-        assert read.strings[-1:] == [item[1:]] if item[:1] == b"+" else item[:1] == b"-" and read.answer != OK
-
-
-def latin(*texts):
-    return [it.decode("latin-1") for it in texts]
+        assert read.strings[-1:] == [item[1:]] if item[:1] == "+" else item[:1] == "-" and read.answer != OK
 
 
 def written(*texts):
-    """What a call writes of texts of the model."""
-    return b"".join(it.encode("latin-1") + b"\0" for it in texts)
+    return "".join(f"{it}\0" for it in texts)
 
 
 def check_content_type(text):
     it = yield header(text)
     check_found(it, text)
-    [value] = latin(text)
-    media, is_plain = MODEL.read(value), MODEL.ACCEPTED.fullmatch(value.strip(" \t")) is not None
-    assert it.written == (written(media[1], *chain(*media[2]), media[0]) if media else b"") and (it.answer == OK) == bool(media)
+    media, is_plain = MODEL.read(text), MODEL.ACCEPTED.fullmatch(text.strip(" \t")) is not None
+    assert it.written == (written(media[1], *chain(*media[2]), media[0]) if media else "") and (it.answer == OK) == bool(media)
     assert it.requests == 0 if not media else is_plain or it.requests == (2 if len(media[0]) > SHORT else 0)
     # What is written anew has at most a byte more for each parameter, which has four.
     assert it.blocks <= (1 if is_plain else 2) and it.largest <= len(text) + (0 if is_plain else len(text) // 4)
@@ -135,56 +129,55 @@ def check_content_type(text):
 
 def check_accept(text):
     # An entry of 41 bytes with a semicolon at its end needs no memory, though it is asked for.
-    it = yield call("accept", text, may_do_without=b";" in text)
-    ranges, bad = MODEL.entries(latin(text))
-    wanted = b"".join(written(f"{MODEL.weight_of(media):04}", media[1], *chain(*media[2]), "") for media in ranges)
+    it = yield call("accept", text, may_do_without=";" in text)
+    ranges, bad = MODEL.entries([text])
+    wanted = "".join(written(f"{MODEL.weight_of(media):04}", media[1], *chain(*media[2]), "") for media in ranges)
     assert (it.answer, it.params, it.written) == (OK, len(bad), wanted)
-    refusal, may_do_without = BAD_OFFER if bad else NOT_ACCEPTABLE, bool(bad) or b";" in text
-    none = yield call("best", b"", text, may_do_without=may_do_without)
+    refusal, may_do_without = BAD_OFFER if bad else NOT_ACCEPTABLE, bool(bad) or ";" in text
+    none = yield call("best", "", text, may_do_without=may_do_without)
     assert (none.answer, none.length) == (refusal, 0)
     best = yield call("best_of_all", text, may_do_without=may_do_without)
     assert (best.answer, best.length) == (OK if ranges and not bad else refusal, 0)
 
 
 def check_order(text):
-    offers, ranges = [MODEL.read(it) for it in latin(*OFFERS)], MODEL.entries(latin(text))[0]
+    order = MODEL.order(MODEL.entries([text])[0], [MODEL.read(it) for it in OFFERS])
     # One of the requests isn't needed: without its memory the order is found in another way.
-    it = yield call("order", text, b", ".join(OFFERS), may_do_without=True)
-    order = MODEL.order(ranges, offers)
-    assert it.written == struct.pack(f"{len(order)}N", *order) and it.answer == (OK if order else NOT_ACCEPTABLE)
-    best = yield call("best", text, b",".join(OFFERS), may_do_without=True)
+    it = yield call("order", text, ", ".join(OFFERS), may_do_without=True)
+    assert it.written.encode("latin-1") == struct.pack(f"{len(order)}N", *order) and it.answer == (OK if order else NOT_ACCEPTABLE)
+    best = yield call("best", text, ",".join(OFFERS), may_do_without=True)
     assert (best.answer, best.length) == ((OK, order[0]) if order else (NOT_ACCEPTABLE, 0))
-    it = yield call("order", text, b"a/b, c", may_do_without=True)
+    it = yield call("order", text, "a/b, c", may_do_without=True)
     assert (it.answer, it.length) == (BAD_OFFER, 0)
 
 
 def meant(value):
     """What a value means, as RFC 9110, 5.6.4, says it."""
-    return re.sub(rb"(?s)\\(.?)", rb"\1", value)
+    return re.sub(r"(?s)\\(.?)", r"\1", value)
 
 
 def check_unescape(text):
     it = yield call("unescape", text)
-    assert (it.answer, it.written, it.requests) == (OK, meant(text) + b"\0", 0)
+    assert (it.answer, it.written, it.requests) == (OK, meant(text) + "\0", 0)
 
 
 def check_boundary(text):
     value = yield header(text)
-    named = [it for name, it in value.pairs if name == b"boundary" and value.strings[0].startswith(b"multipart/")]
+    named = [it for name, it in value.pairs if name == "boundary" and value.strings[0].startswith("multipart/")]
     # RFC 2046, 5.1.1
-    wanted = [it for it in map(meant, named[:1]) if re.fullmatch(rb"[\w'()+,\-./:=? ]{0,69}[\w'()+,\-./:=?]", it)]
+    wanted = [it for it in map(meant, named[:1]) if re.fullmatch(r"(?a)[\w'()+,\-./:=? ]{0,69}[\w'()+,\-./:=?]", it)]
     it = yield call("boundary", text, may_do_without=not wanted)
     assert it.answer == (value.answer if value.answer != OK or wanted else NO_BOUNDARY)
-    assert it.strings == wanted and it.length == len(b"".join(wanted))
+    assert it.strings == wanted and it.length == len("".join(wanted))
 
 
 def check_set_parameter(text):
     """Checks parameters that are written into the text, or have it as their value, or as their name."""
-    for given in ((text, b"P", b"x"), (text, b"charset", b"UTF-8"), (b'a/b;p="y z";q=1', b"p", text), (b"a/b", text, b"x y")):
-        before, (media, name, value) = (yield header(given[0])), latin(*given)
+    for media, name, value in ((text, "P", "x"), (text, "charset", "UTF-8"), ('a/b;p="y z";q=1', "p", text), ("a/b", text, "x y")):
+        before = yield header(media)
         printed = before.answer == OK and MODEL.not_utf8(value) is None and MODEL.with_parameter(MODEL.read(media), name, value)
-        it = yield call("set_parameter", *given, may_do_without=not printed or b";" in given[0])
-        assert it.written == (written(printed) if printed else b"")
+        it = yield call("set_parameter", media, name, value, may_do_without=not printed or ";" in media)
+        assert it.written == (written(printed) if printed else "")
         assert it.answer == (before.answer if printed or before.answer != OK else BAD_PARAMETER)
 
 
@@ -194,7 +187,7 @@ CHECKS = check_read, check_list, check_content_type, check_accept, check_order, 
 def near_grammar(count):
     """As many texts near the grammar, the same each time."""
     chance = random.Random(1)
-    return (b"".join(chance.choices(PIECES, k=chance.randrange(13))) for _ in range(count))
+    return ("".join(chance.choices(PIECES, k=chance.randrange(13))) for _ in range(count))
 
 
 def next_call(check, given):
