@@ -44,11 +44,6 @@ class Given(namedtuple("Given", "answer length params printed slash subtype_end 
     def strings(self):
         return self.written.split("\0")[:-1]
 
-    @property
-    def pairs(self):
-        """The names and the values of parameters."""
-        return [*zip(self.strings[1:-1:2], self.strings[2:-1:2])]
-
 
 def call(name, *strings, may_do_without=False):
     """A call as tools/calls.c reads it. In its strings, and in what it gives, a character stands for each byte."""
@@ -151,21 +146,17 @@ def check_order(text):
     assert (it.answer, it.length) == (BAD_OFFER, 0)
 
 
-def meant(value):
-    """What a value means, as RFC 9110, 5.6.4, says it."""
-    return re.sub(r"(?s)\\(.?)", r"\1", value)
-
-
 def check_unescape(text):
     it = yield call("unescape", text)
-    assert (it.answer, it.written, it.requests) == (OK, meant(text) + "\0", 0)
+    # RFC 9110, 5.6.4
+    assert (it.answer, it.written, it.requests) == (OK, re.sub(r"(?s)\\(.?)", r"\1", text) + "\0", 0)
 
 
 def check_boundary(text):
-    value = yield header(text)
-    named = [it for name, it in value.pairs if name == "boundary" and value.strings[0].startswith("multipart/")]
+    value, (_, essence, pairs) = (yield header(text)), MODEL.read(text) or ("", "", [])
+    named = [it for name, it in MODEL.meant(pairs) if name == "boundary" and essence.startswith("multipart/")]
     # RFC 2046, 5.1.1
-    wanted = [it for it in map(meant, named[:1]) if re.fullmatch(r"(?a)[\w'()+,\-./:=? ]{0,69}[\w'()+,\-./:=?]", it)]
+    wanted = [it for it in named[:1] if re.fullmatch(r"(?a)[\w'()+,\-./:=? ]{0,69}[\w'()+,\-./:=?]", it)]
     it = yield call("boundary", text, may_do_without=not wanted)
     assert it.answer == (value.answer if value.answer != OK or wanted else NO_BOUNDARY)
     assert it.strings == wanted and it.length == len("".join(wanted))
