@@ -175,18 +175,17 @@ def write(path, text):
     Path(path).write_text(text, encoding="utf-8")
 
 
-def linked(file, to):
-    """Copies a file, or gives one of a proof or a library a second name, since rt replaces such a file and writes into none."""
-    with suppress(OSError):
-        if file.endswith(".oantt") or "/out/rlib/" in file:
-            return os.link(file, to)
-    return shutil.copy2(file, to)
-
-
 def copy_built(top, to, crates):
-    """Copies what was built of these crates below one folder to another."""
+    """Copies what was built of these crates below one folder to another. A file of a proof or a library only gets a second name, if it can,
+    since rt replaces such a file and writes into none."""
+    def copy(file, copied):
+        with suppress(OSError):
+            if file.endswith(".oantt") or "/out/rlib/" in file:
+                return os.link(file, copied)
+        return shutil.copy2(file, copied)
+
     for it in (it for crate in crates for it in glob(f"crates/{crate}/out", root_dir=top)):
-        shutil.copytree(f"{top}/{it}", f"{to}/{it}", copy_function=linked)
+        shutil.copytree(f"{top}/{it}", f"{to}/{it}", copy_function=copy)
 
 
 def below(crate):
