@@ -35,14 +35,9 @@ OFFERS = ["text/html", "image/svg+xml;p=x", "a/b", "text/html"]
 PIECES = ["a", "text", "/", "/", ";", ";", "; ", "=", "=", '"', '"', "\\", "+", ",", "*/*", "a/b", "text/html;q=0.5", " ",
           "\t", "charset", "UTF-8", "Q", "multipart/mixed;boundary=", "\xc3\xa9", "\xff", "(", "\x7f", 'p="x y"',
           "image/SVG+xml", "text/of-40-bytes-which-ask-for-no-memory", "text/of-41-bytes-which-do-ask-for-memory1"]
-# The numbers that tools/calls.c gives for a call, the last of which counts the bytes that it gives then.
+# The numbers that tools/calls.c gives for a call, the last of which counts the bytes that it gives then; and those as strings, too.
 NUMBERS = struct.Struct("14N")
-
-
-class Given(namedtuple("Given", "answer length params printed slash subtype_end pos byte requests largest blocks held stack written")):
-    @property
-    def strings(self):
-        return self.written.split("\0")[:-1]
+Given = namedtuple("Given", "answer length params printed slash subtype_end pos byte requests largest blocks held stack written strings")
 
 
 def call(name, *strings, may_do_without=False):
@@ -60,7 +55,8 @@ def made(words, calls):
     read = io.BytesIO(said).read
     for _ in calls:
         *numbers, count = NUMBERS.unpack(read(NUMBERS.size))
-        yield Given(*numbers, read(count).decode("latin-1"))
+        text = read(count).decode("latin-1")
+        yield Given(*numbers, text, text.split("\0")[:-1])
 
 
 def header(value):
@@ -73,7 +69,7 @@ def check_found(it, text):
     if it.answer == OK:
         essence, printed = it.strings[0], it.strings[-1]
         assert len(it.strings) == 2 * it.params + 2 and it.printed == it.length - len(printed) - 1
-        assert it.written[it.slash : it.slash + 1] == "/" and (essence[it.subtype_end : it.subtype_end + 1] or "+") == "+"
+        assert it.slash == essence.index("/") and (essence[it.subtype_end : it.subtype_end + 1] or "+") == "+"
         assert it.subtype_end <= len(essence) and not re.search(r"[\1-\10\12-\37\177]", it.written)
     else:
         assert it.length == it.params == 0
@@ -120,6 +116,10 @@ def check_content_type(text):
     assert it.requests == 0 if not media else is_plain or it.requests == (2 if len(media[0]) > SHORT else 0)
     # What is written anew has at most a byte more for each parameter, which has four.
     assert it.blocks <= (1 if is_plain else 2) and it.largest <= len(text) + (0 if is_plain else len(text) // 4)
+    if media:
+        # mime_read reads alike what is printed, and what is before the first semicolon has the same essence.
+        same, bare = (yield call("read", media[0])), (yield header(text.partition(";")[0]))
+        assert same.strings == it.strings and (bare.params, bare.strings[:1]) == (0, it.strings[:1])
 
 
 def check_accept(text):
@@ -136,12 +136,14 @@ def check_accept(text):
 
 
 def check_order(text):
-    order = MODEL.order(MODEL.entries([text])[0], [MODEL.read(it) for it in OFFERS])
+    ranges = MODEL.entries([text])[0]
+    for count in range(1, len(OFFERS) + 1):
+        order = MODEL.order(ranges, [MODEL.read(it) for it in OFFERS[:count]])
+        best = yield call("best", text, ",".join(OFFERS[:count]), may_do_without=True)
+        assert (best.answer, best.length) == ((OK, order[0]) if order else (NOT_ACCEPTABLE, 0))
     # One of the requests isn't needed: without its memory the order is found in another way.
     it = yield call("order", text, ", ".join(OFFERS), may_do_without=True)
     assert it.written.encode("latin-1") == struct.pack(f"{len(order)}N", *order) and it.answer == (OK if order else NOT_ACCEPTABLE)
-    best = yield call("best", text, ",".join(OFFERS), may_do_without=True)
-    assert (best.answer, best.length) == ((OK, order[0]) if order else (NOT_ACCEPTABLE, 0))
     it = yield call("order", text, "a/b, c", may_do_without=True)
     assert (it.answer, it.length) == (BAD_OFFER, 0)
 
