@@ -1,5 +1,5 @@
 -- Lines are cut in one way, and each line is; and how far a line's first piece goes.
-use Rattle.mime_http.proofs.Common.{drop_of_length-le, AreBetweenCommas, At, BeginsPiece, IsInString, IsPiece, List, OneCut, Outside, [], after, after_outside, ap, append-nil, append_assoc, arith, nat_tests, comma, cond_both, cut, cut_from, ends, eqb-true, false, flat_map, line_end, no_line, opens_string, piece_byte, piece_end, piece_string, refl, string_byte, string_end, string_pair, subst, sym, true, ℕ, ⊤, ◌++◌, ◌==◌, ◌∙◌, ◌∷◌, ◌≡◌, Equals, Paired, before_mark, Bool, ap₂, cond, cut_after, drop, drop-drop, drop_more, get_or, get_or-drop, is_mark, length, length-drop, min, not, prefix_len, prefix_len-le-length, suc, take, zero, ◌&&◌, ◌+◌, ◌-◌, ◌<◌, ◌≤◌, IsNextOutside, piece_len, passes_at_first}
+use Rattle.mime_http.proofs.Common.{drop_of_length-le, AreBetweenCommas, At, BeginsPiece, IsInString, IsPiece, List, OneCut, Outside, [], after, after_outside, ap, append-nil, append_assoc, arith, nat_tests, comma, cond_both, cut, cut_from, ends, eqb-true, false, flat_map, line_end, no_line, opens_string, piece_byte, piece_end, piece_string, refl, string_byte, string_end, string_pair, subst, sym, true, ℕ, ⊤, ◌++◌, ◌==◌, ◌∙◌, ◌∷◌, ◌≡◌, Equals, Paired, before_mark, Bool, ap₂, cond, cut_after, drop, drop-drop, drop_more, get_or, get_or-drop, is_mark, length, length-drop, min, not, prefix_len, prefix_len-le-length, suc, take, zero, ◌&&◌, ◌+◌, ◌-◌, ◌<◌, ◌≤◌, IsNextOutside, piece_len, passes_at_first, true≢false, cases_Bool, ⊎_elim, take-append-drop, take_rest}
 use Rattle.mime_http.specs.LineCut.{Quoted}
 use Rattle.mime_search.{specs.Classes.is_stop, specs.Classes.end_of_run, specs.Quoted.awaits_next, specs.Quoted.len_from, specs.declared.class.Class.Class}
 
@@ -38,23 +38,21 @@ piece_passes (piece_string content piece inside rest) = (refl, (refl, string_pas
 
 -- ---- what passes is a piece
 
--- what follows an opening quote: content, a quote, and a piece
-pub data Opened : List ℕ → Type 0 where
-  opened : (content piece : List ℕ) → IsInString content → IsPiece piece → Opened (content ++ (34 ∷ piece))
+-- a string may have a byte or a pair more at its start
+more_text : {bytes : List ℕ} (b : ℕ) → (b == 34) ≡ false → (b == 92) ≡ false → IsPiece (61 ∷ 34 ∷ bytes) → IsPiece (61 ∷ 34 ∷ b ∷ bytes)
+more_text b quote single (piece_byte _ _ _ opens _) = absurd (true≢false opens)
+more_text b quote single (piece_string content piece inside rest) = piece_string (b ∷ content) piece (string_byte b content quote single inside) rest
 
--- the content may have more before it
-content_before : (front : List ℕ) → ((content : List ℕ) → IsInString content → IsInString (front ++ content)) →
-    {bytes : List ℕ} → Opened bytes
-    → Opened (front ++ bytes)
-content_before front onto (opened content piece inside rest) =
-    subst Opened (append_assoc front content (34 ∷ piece)) (opened (front ++ content) piece (onto content inside) rest)
+more_pair : {bytes : List ℕ} (b : ℕ) → IsPiece (61 ∷ 34 ∷ bytes) → IsPiece (61 ∷ 34 ∷ 92 ∷ b ∷ bytes)
+more_pair b (piece_byte _ _ _ opens _) = absurd (true≢false opens)
+more_pair b (piece_string content piece inside rest) = piece_string (92 ∷ b ∷ content) piece (string_pair b content inside) rest
 
--- what bytes are from a place on, with those that lead there from outside strings or from an opening quote
+-- what bytes are from a place on, with those that lead there from outside strings
 abbrev pub Continues : At → List ℕ → Type 0
 Continues Outside bytes = IsPiece bytes
 Continues Equals bytes = IsPiece (61 ∷ bytes)
-Continues Quoted bytes = Opened bytes
-Continues Paired bytes = Opened (92 ∷ bytes)
+Continues Quoted bytes = IsPiece (61 ∷ 34 ∷ bytes)
+Continues Paired bytes = IsPiece (61 ∷ 34 ∷ 92 ∷ bytes)
 
 -- a byte outside strings may stand before a piece,
 byte_before : (b : ℕ) (bytes : List ℕ) → (b == 44) ≡ false → Continues (after_outside b) bytes → IsPiece (b ∷ bytes)
@@ -66,17 +64,14 @@ byte_before b bytes on = cond_both (b == 61) _ _ (λ place. Continues place byte
 further : (place : At) (b : ℕ) (bytes : List ℕ) → ends place b ≡ false → Continues (after place b) bytes → Continues place (b ∷ bytes)
 further Outside b bytes on = byte_before b bytes on
 further Equals b bytes on = cond_both (b == 34) _ _ (λ place. Continues place bytes → IsPiece (61 ∷ b ∷ bytes))
-    (λ quote inside. subst (λ c. IsPiece (61 ∷ c ∷ bytes)) (sym (eqb-true b 34 quote)) (string inside))
+    (λ quote. subst (λ c. IsPiece (61 ∷ c ∷ bytes)) (sym (eqb-true b 34 quote)))
     (λ other is. piece_byte 61 (b ∷ bytes) refl other (byte_before b bytes on is))
-  where
-    string : {bytes : List ℕ} → Opened bytes → IsPiece (61 ∷ 34 ∷ bytes)
-    string (opened content piece inside rest) = piece_string content piece inside rest
-further Quoted b bytes on = cond_both (b == 92) _ _ (λ place. Continues place bytes → Opened (b ∷ bytes))
-    (λ backslash. subst (λ c. Opened (c ∷ bytes)) (sym (eqb-true b 92 backslash)))
-    (λ single. cond_both (b == 34) _ _ (λ place. Continues place bytes → Opened (b ∷ bytes))
-    (λ quote is. subst (λ c. Opened (c ∷ bytes)) (sym (eqb-true b 34 quote)) (opened [] bytes string_end is))
-    (λ other. content_before (b ∷ []) (λ content. string_byte b content other single)))
-further Paired b bytes on = content_before (92 ∷ b ∷ []) (string_pair b)
+further Quoted b bytes on = cond_both (b == 92) _ _ (λ place. Continues place bytes → IsPiece (61 ∷ 34 ∷ b ∷ bytes))
+    (λ backslash. subst (λ c. IsPiece (61 ∷ 34 ∷ c ∷ bytes)) (sym (eqb-true b 92 backslash)))
+    (λ single. cond_both (b == 34) _ _ (λ place. Continues place bytes → IsPiece (61 ∷ 34 ∷ b ∷ bytes))
+    (λ quote is. subst (λ c. IsPiece (61 ∷ 34 ∷ c ∷ bytes)) (sym (eqb-true b 34 quote)) (piece_string [] bytes string_end is))
+    (λ other. more_text b other single))
+further Paired b bytes on = more_pair b
 
 -- so what passes is a piece
 pub is_piece : (place : At) (bytes : List ℕ) → IsWhole place bytes → Continues place bytes
@@ -256,3 +251,31 @@ cut_at_end line from end is =
     let n = piece_len Outside (drop from line) in
     cut_goes_on Outside [] (drop from line)
     ∙ ap₂ (λ m left. take m (drop from line) ∷ cut_after left) (omega (arith, is)) (drop-drop n from line ∙ ap (λ i. drop i line) (sym is))
+
+-- ---- the first piece
+
+-- a comma outside strings ends a piece,
+piece_before : (place : At) (bytes : List ℕ) → piece_len place bytes < length bytes
+    → (get_or bytes (piece_len place bytes) 0 ≡ 44) × IsWhole place (take (piece_len place bytes) bytes)
+piece_before place [] less = absurd (omega (arith, less))
+piece_before place (b ∷ bytes) less = grind (arith, nat_tests, less, piece_before (after place b) bytes)
+
+-- and with no such comma a line goes on with one
+goes_on : (place : At) (bytes : List ℕ) → length bytes ≤ piece_len place bytes → (more : List ℕ) × IsWhole place (bytes ++ more)
+goes_on place [] past = ended place
+goes_on place (b ∷ bytes) past =
+    ⊎_elim (λ (end : ends place b ≡ true). absurd (grind (arith, past, end))) (λ (on : ends place b ≡ false).
+    let rest = goes_on (after place b) bytes (grind (arith, past, on)) in (rest.0, (on, rest.1))) (cases_Bool (ends place b))
+
+module _ (line : List ℕ) {end : ℕ} (is : end ≡ end_on Outside line 0) where
+  pub first_entry : end < length line
+      → (line ≡ take end line ++ (44 ∷ take (length line - (end + 1)) (drop (end + 1) line))) × IsPiece (take end line)
+  first_entry within =
+      let same : piece_len Outside line ≡ end = omega (arith, is) in
+      let whole = piece_before Outside line (omega (arith, is, within)) in (
+        grind (arith, is, whole.0, take-append-drop end line, drop_more line end 0 within, take_rest line (end + 1)),
+        subst (λ n. IsPiece (take n line)) same (is_piece Outside _ whole.1),
+      )
+
+  pub last_entry : length line ≤ end → BeginsPiece line
+  last_entry past = let more = goes_on Outside line (omega (arith, is, past)) in (more.0, is_piece Outside _ more.1)

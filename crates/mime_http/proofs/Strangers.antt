@@ -1,7 +1,7 @@
 -- A range that covers none of the offers only moves the ranges after it by one position, which changes no comparison.
 use Rattle.mime_http.proofs.Common.{cons_option, filter_map, find, AllPairs, Contains, List, MediaType, None, Rank, Some, StrangerChangesNothing, [], ap, arith, closeness, enumerate_from, get_or, if◌then◌else◌, is_le, length, length-append, list_all, list_all-map, map, merit, nat_cmp, nat_lt, nat_tests, option_map, ordering_then, position, position_from, position_from-zero, rank_cmp, refl, subst, sym, zero, ℕ, ◌++◌, ◌+◌, ◌-◌, ◌<◌, ◌↔◌, ◌∙◌, ◌∷◌, ◌≡◌, ◌≤◌, Contains-append_right}
 use Rattle.std.proofs.Math.ListN.{get_or-map}
-use Rattle.mime_http.proofs.{Highest.is_best, Highest.lowest, Order.ComesBefore, Order.rank_at, Highest.is_top}
+use Rattle.mime_http.{specs.Ranges.ComesBefore, proofs.Highest.is_best, proofs.Highest.lowest, proofs.Highest.rank_at, proofs.Highest.is_top}
 
 -- a rank with another last place
 abbrev moved : (ℕ → ℕ) → Rank → Rank
@@ -45,7 +45,7 @@ module _ (g : ℕ → ℕ) (same : (x y : ℕ) → nat_cmp (g x) (g y) ≡ nat_c
     rank_so at = ap (get_or (map (moved g) all) at) (sym none) ∙ get_or-map (moved g) all at lowest
 
     -- and comes before the same others
-    same_turn : (at other : ℕ) → ComesBefore all at other → ComesBefore (map (moved g) all) at other
+    same_turn : (at other : ℕ) → ComesBefore (rank_at all) at other → ComesBefore (rank_at (map (moved g) all)) at other
     same_turn at other before = grind (arith, rank_so at, rank_so other, same_order (rank_at all at) (rank_at all other), before)
 
 -- ---- the closest range
@@ -129,7 +129,7 @@ stranger_changes_nothing before after offers range none =
       λ offer there. ap (λ (rank : Rank). rank.0) (merit_so before after range offer (none offer there)),
       ap (λ all. position (is_best all) all) ranks ∙ same_best g alike old,
       λ order are. record {
-        best_first = subst (λ ranks. AllPairs (ComesBefore ranks) order) (sym ranks)
+        best_first = subst (λ ranks. AllPairs (ComesBefore (rank_at ranks)) order) (sym ranks)
             (λ i j d below within. same_turn g alike old stays _ _ (are.best_first i j d below within));
         all = subst (λ ranks. (at : ℕ) → Contains order at ↔ (0 < (rank_at ranks at).0)) (sym ranks)
             (λ at. subst (λ (rank : Rank). Contains order at ↔ (0 < rank.0)) (sym (rank_so g alike old stays at)) (are.all at));

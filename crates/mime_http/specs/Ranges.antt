@@ -69,8 +69,11 @@ best_offer ranges offers =
 abbrev pub merit_at : List MediaType → List MediaType → ℕ → Rank
 merit_at ranges offers at = slice_index_or (map (merit ranges) offers) at (0, 0, 0, 0)
 
--- the positions of all offers that weigh more than 0: of two the first ranks higher, or as high and is offered first
+-- of two offers, at positions of these ranks, the first comes before the second: it ranks higher, or as high and is offered first
+abbrev pub ComesBefore : (ℕ → Rank) → ℕ → ℕ → Type 0
+ComesBefore rank at other = IsTrue (is_gt (rank_cmp (rank at) (rank other))) ⊎ ((rank at ≡ rank other) × (at < other))
+
+-- the positions of all offers that weigh more than 0, in order
 pub record AreInOrder (ranges offers : List MediaType) (order : List ℕ) : Type 0 where
-  pub best_first : AllPairs (λ at other. IsTrue (is_gt (rank_cmp (merit_at ranges offers at) (merit_at ranges offers other)))
-      ⊎ ((merit_at ranges offers at ≡ merit_at ranges offers other) × (at < other))) order
+  pub best_first : AllPairs (ComesBefore (merit_at ranges offers)) order
   pub all : (at : ℕ) → Contains order at ↔ (0 < (merit_at ranges offers at).0)

@@ -5,6 +5,7 @@ ghost use Rattle.std.specs.Option.{option_cmp};
 ghost use Rattle.std.specs.Ordering.{ord_max};
 ghost use Rattle.std.specs.Vec.{vec_items};
 ghost use Rattle.mime.specs.Values.{type_of};
+ghost use Rattle.mime_http.specs.Sorted.{AreRanked};
 ghost use Rattle.mime_http.specs.Ranges.{rank_cmp, closeness, closest, merit, best_offer, AreInOrder};
 
 use crate::range::{demanded, named_parts};
@@ -130,11 +131,32 @@ pub(crate) fn best_of(ranges: &[Mime], offers: &[Mime]) -> Option<usize>
     if most.0 > 0 { best } else { None }
 }
 
-/// Returns the positions of ranked offers.
-fn positions(
+/// An offer's rank and its position. Of two offers, the lower of these comes first.
+pub(crate) type Ranked = (Reverse<(u16, u8, usize, usize)>, usize);
+
+/// Returns the offers that weigh at least `least`, the best first.
+#[inline(always)]
+pub(crate) fn ranked(
     alloc: Global,
-    offers: &[(Reverse<(u16, u8, usize, usize)>, usize)],
-) -> Result<Vec<usize>, AllocError>
+    ranges: &[Mime],
+    offers: &[Mime],
+    least: u16,
+) -> Result<Vec<Ranked>, AllocError>
+    ensures { IfOk result (λ ranked. AreRanked least (map (λ range. range.media) ranges.now) (map (λ offer. offer.media) offers.now) (vec_items ranked)) }
+{
+    let mut ranked = Vec::new(alloc);
+    for (at, offer) in offers.iter().enumerate() {
+        let merit = merit(ranges, offer);
+        if merit.0 >= least {
+            ranked.push((Reverse(merit), at))?;
+        }
+    }
+    ranked.sort()?;
+    Ok(ranked)
+}
+
+/// Returns the positions of ranked offers.
+fn positions(alloc: Global, offers: &[Ranked]) -> Result<Vec<usize>, AllocError>
     ensures { IfOk result (λ order. vec_items order ≡ map (λ offer. offer.1) offers.now) }
 {
     offers.iter().map(|offer| offer.1).collect(alloc)
@@ -152,13 +174,5 @@ pub(crate) fn order_of(
     if offers.is_empty() {
         return Ok(Vec::new(alloc));
     }
-    let mut ranked = Vec::new(alloc);
-    for (at, offer) in offers.iter().enumerate() {
-        let merit = merit(ranges, offer);
-        if merit.0 > 0 {
-            ranked.push((Reverse(merit), at))?;
-        }
-    }
-    ranked.sort()?;
-    positions(alloc, &ranked)
+    positions(alloc, &ranked(alloc, ranges, offers, 1)?)
 }

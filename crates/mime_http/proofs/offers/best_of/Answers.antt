@@ -1,6 +1,6 @@
 -- The next merit is above the highest so far, or it isn't.
 use Rattle.mime_http.proofs.Common.{arith, is_gt, length-map, map, merit, nat_tests, rank_cmp, ◌∙◌, ◌≡◌}
-use Rattle.mime_http.proofs.{Highest.value_at, Highest.highest_raised, Highest.highest_stays, Highest.best_is_found, Highest.none_is_found, Highest.lowest, offers.best_of.Goals.then-gt, offers.best_of.Goals.else-gt}
+use Rattle.mime_http.proofs.{Highest.value_at, Highest.highest_raised, Highest.highest_stays, Highest.best_is_found, Highest.lowest, offers.best_of.Goals.then-gt, offers.best_of.Goals.else-gt}
 use Rattle.mime_http.proofs.offers.best_of.Goals as goal
 
 pub loop-at-preserved : goal.loop-at-preserved
@@ -23,9 +23,7 @@ loop-at-preserved c =
     ]
 
 pub returns-then-most-gt0-clause-exact : goal.returns-then-most-gt0-clause-exact
-returns-then-most-gt0-clause-exact c =
-    best_is_found c.loop-at.invariant.first (simp length-map (omega arith)) (omega (arith, c.if-most-gt0.true))
+returns-then-most-gt0-clause-exact c = grind (arith, nat_tests, best_is_found c.loop-at.invariant.first (simp length-map (omega arith)))
 
 pub returns-else-most-gt0-clause-exact : goal.returns-else-most-gt0-clause-exact
-returns-else-most-gt0-clause-exact c =
-    none_is_found c.loop-at.invariant.first (simp length-map (omega arith)) (omega (arith, c.if-most-gt0.false))
+returns-else-most-gt0-clause-exact c = grind (arith, nat_tests, best_is_found c.loop-at.invariant.first (simp length-map (omega arith)))
