@@ -1,6 +1,6 @@
 -- What a range demands of an offer, and its weight: item by item, and by a kept text that ends in a weight of one decimal. What covers an
 -- offer is told by what both mean.
-use Rattle.mime_http.proofs.Common.{IsFirstAccepted, Item, List, MediaType, None, Option, Some, [], arith, bytes_eq, bytes_eq-Decides, list_any, name_seen, name_text, refl, sym, true, unescaped, ◌&&◌, ◌++◌, ◌∙◌, codes, demanded, first_value, has, if◌then◌else◌, items_of, length, list_all, option_map, option_or, thousandths_of, unwrap_or, ℕ, ◌+◌, ◌∷◌, ◌≡◌, AreSpaces, HasBytesAt, Reads, SyntaxTree, ap, ap₂, drop, drop-append_seam, essence_of, final, is_ascii_digit, is_token_byte, length-append, listed, lowered_tree, one_reading, plain, read_number, text_from_reads, text_of_tail, value_of, ◌*◌, ◌-◌, Bool, CoversItself, MeaningCounts, and_from, map, meaning_of, not, list_all-from_AllPass, get_or, All-filter, list_any_at}
+use Rattle.mime_http.proofs.Common.{IsFirstAccepted, Item, List, MediaType, None, Option, Some, [], arith, bytes_eq, bytes_eq-Decides, list_any, name_seen, name_text, refl, sym, true, unescaped, ◌&&◌, ◌++◌, ◌∙◌, codes, demanded, first_value, has, if◌then◌else◌, items_of, length, list_all, option_map, option_or, thousandths_of, unwrap_or, ℕ, ◌+◌, ◌∷◌, ◌≡◌, AreSpaces, HasBytesAt, Reads, SyntaxTree, ap, ap₂, drop, drop-append_seam, essence_of, final, is_ascii_digit, is_token_byte, length-append, listed, lowered_tree, one_reading, plain, read_number, text_from_reads, text_of_tail, value_of, ◌*◌, ◌-◌, Bool, CoversItself, MeaningCounts, and_from, map, meaning_of, not, list_all-from_AllPass, get_or, All-filter, list_any_at, item_of, list_all-map, length-map}
 use Rattle.mime.{specs.declared.name.Name.Name, proofs.HandedOut.text_of-essence}
 use Rattle.mime_http.proofs.{Numbers.read_is, Written.lengths}
 
@@ -40,17 +40,17 @@ found_of_all offer pairs = grind (arith, found_after offer 0 None pairs)
 
 -- ---- what a look-up finds
 
--- a test of an offer's items is one of its pairs
+-- a test of what is mapped is one of the list
+list_any-map : {X Y : Type 0} (p : Y → Bool) (f : X → Y) (xs : List X) → list_any p (map f xs) ≡ list_any (λ x. p (f x)) xs
+list_any-map p f [] = refl
+list_any-map p f (x ∷ xs) = grind (arith, list_any-map p f xs)
+
+-- so a test of an offer's items is one of its pairs
 pub has_item : (offer : MediaType) (name value : List ℕ)
     → list_any (λ item. bytes_eq item.name name && bytes_eq (unescaped item.value) (unescaped value)) (items_of offer.pairs)
     ≡ has offer (name, value)
-has_item offer name value = go offer.pairs
-  where
-    go : (pairs : List (List ℕ × List ℕ))
-        → list_any (λ item. bytes_eq item.name name && bytes_eq (unescaped item.value) (unescaped value)) (items_of pairs)
-        ≡ list_any (λ own. bytes_eq own.0 name && bytes_eq (unescaped own.1) (unescaped value)) pairs
-    go [] = refl
-    go (pair ∷ pairs) = grind (arith, go pairs)
+has_item offer name value =
+    list_any-map (λ item. bytes_eq item.name name && bytes_eq (unescaped item.value) (unescaped value)) item_of offer.pairs
 
 -- the value of the first parameter that is accepted is the first of that name
 pub first_is : (name : List ℕ) (found : Option Name) (pairs : List (List ℕ × List ℕ))
@@ -119,23 +119,18 @@ covers_itself media =
 abbrev has_meant : Pairs → List ℕ × List ℕ → Bool
 has_meant meant pair = list_any (λ own. bytes_eq own.0 pair.0 && bytes_eq own.1 pair.1) meant
 
--- an offer has a parameter if it has what that means,
-has_by_meaning : (pairs : Pairs) (pair : List ℕ × List ℕ)
-    → list_any (λ own. bytes_eq own.0 pair.0 && bytes_eq (meaning_of own).1 (meaning_of pair).1) pairs
-    ≡ has_meant (map meaning_of pairs) (meaning_of pair)
-has_by_meaning [] pair = refl
-has_by_meaning (own ∷ pairs) pair = grind (arith, has_by_meaning pairs pair)
+-- what is demanded means what is demanded of parameters as they are meant,
+demanded-map : (pairs : Pairs) → demanded (map meaning_of pairs) ≡ map meaning_of (demanded pairs)
+demanded-map [] = refl
+demanded-map (pair ∷ pairs) = grind (arith, demanded-map pairs)
 
--- and all that are demanded are there if it has what they mean
+-- and all of it is there if an offer has what it means
 all_by_meaning : (offer : MediaType) (pairs : Pairs)
     → list_all (has offer) (demanded pairs) ≡ list_all (has_meant (map meaning_of offer.pairs)) (demanded (map meaning_of pairs))
-all_by_meaning offer [] = refl
-all_by_meaning offer (pair ∷ pairs) = grind (arith, has_by_meaning offer.pairs pair, all_by_meaning offer pairs)
-
--- and as many are demanded
-count_by_meaning : (pairs : Pairs) → length (demanded pairs) ≡ length (demanded (map meaning_of pairs))
-count_by_meaning [] = refl
-count_by_meaning (pair ∷ pairs) = grind (arith, count_by_meaning pairs)
+all_by_meaning offer pairs =
+    let has_meaning = has_meant (map meaning_of offer.pairs) in
+    sym (ap (list_all has_meaning) (demanded-map pairs) ∙ (list_all-map has_meaning meaning_of (demanded pairs) ∙ (λ i. list_all (λ pair.
+    list_any-map (λ own. bytes_eq own.0 pair.0 && bytes_eq own.1 (unescaped pair.1)) meaning_of offer.pairs i) (demanded pairs))))
 
 -- so a header says the same of media types that mean the same
 pub meaning_counts : MeaningCounts
@@ -144,5 +139,6 @@ meaning_counts range other offer offered at same alike weighs =
     all_by_meaning offer range.pairs ∙ ((λ i. list_all (has_meant (alike.pairs i)) (demanded (same.pairs i)))
     ∙ sym (all_by_meaning offered other.pairs)) in
     let count : length (demanded range.pairs) ≡ length (demanded other.pairs) =
-    count_by_meaning range.pairs ∙ (ap (λ pairs. length (demanded pairs)) same.pairs ∙ sym (count_by_meaning other.pairs)) in
+    sym (length-map (demanded range.pairs) meaning_of) ∙ (ap length (sym (demanded-map range.pairs) ∙ (ap demanded same.pairs ∙ demanded-map other.pairs))
+    ∙ length-map (demanded other.pairs) meaning_of) in
     grind (arith, all, count, weighs, same.essence, alike.essence, alike.top)

@@ -1,7 +1,7 @@
 -- A range that covers none of the offers only moves the ranges after it by one position, which changes no comparison.
-use Rattle.mime_http.proofs.Common.{cons_option, filter_map, find, AllPairs, Contains, List, MediaType, None, Rank, Some, StrangerChangesNothing, [], ap, arith, closeness, enumerate_from, get_or, if◌then◌else◌, is_le, length, length-append, list_all, list_all-map, map, merit, nat_cmp, nat_lt, nat_tests, option_map, ordering_then, position, position_from, position_from-zero, rank_cmp, refl, subst, sym, zero, ℕ, ◌++◌, ◌+◌, ◌-◌, ◌<◌, ◌↔◌, ◌∙◌, ◌∷◌, ◌≡◌, ◌≤◌, Contains-append_right}
+use Rattle.mime_http.proofs.Common.{cons_option, filter_map, find, AllPairs, Contains, List, MediaType, None, Rank, Some, StrangerChangesNothing, [], ap, arith, closeness, enumerate_from, get_or, if◌then◌else◌, is_le, length, length-append, list_all, list_all-map, map, merit, nat_cmp, nat_lt, nat_tests, option_map, ordering_then, position, rank_cmp, refl, subst, sym, zero, ℕ, ◌&&◌, ◌++◌, ◌+◌, ◌-◌, ◌<◌, ◌↔◌, ◌∙◌, ◌∷◌, ◌≡◌, ◌≤◌, Contains-append_right}
 use Rattle.std.proofs.Math.ListN.{get_or-map}
-use Rattle.mime_http.{specs.Ranges.ComesBefore, proofs.Highest.is_best, proofs.Highest.lowest, proofs.Highest.rank_at, proofs.Highest.is_top}
+use Rattle.mime_http.{specs.Ranges.ComesBefore, proofs.Highest.is_best, proofs.Highest.lowest, proofs.Highest.position-map, proofs.Highest.rank_at, proofs.Highest.is_top}
 
 -- a rank with another last place
 abbrev moved : (ℕ → ℕ) → Rank → Rank
@@ -32,12 +32,7 @@ module _ (g : ℕ → ℕ) (same : (x y : ℕ) → nat_cmp (g x) (g y) ≡ nat_c
   -- and the place of the best is the same
   same_best : (all : List Rank) → position (is_best (map (moved g) all)) (map (moved g) all) ≡ position (is_best all) all
   same_best all =
-      position_from-zero (is_best (map (moved g) all)) (map (moved g) all) ∙ (place 0 all ∙ sym (position_from-zero (is_best all) all))
-    where
-      place : (at : ℕ) (ranks : List Rank) → position_from (is_best (map (moved g) all)) at (map (moved g) ranks)
-          ≡ position_from (is_best all) at ranks
-      place at [] = refl
-      place at (one ∷ ranks) = rw (same_top all one) (ap (λ rest. if is_best all one then Some at else rest) (place (at + 1) ranks))
+      position-map (is_best (map (moved g) all)) (moved g) all ∙ (λ i. position (λ one. nat_lt 0 one.0 && same_top all one i) all)
 
   module _ (all : List Rank) (none : moved g lowest ≡ lowest) where
     -- an offer ranks so,

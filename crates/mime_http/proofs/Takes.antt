@@ -55,6 +55,15 @@ module _ (keeps_bad : Bool) (piece : List ℕ) (old : Header) where
 abbrev pub nothing : Header
 nothing = record { ranges = []; bad = [] }
 
+-- the pieces of lines
+abbrev pub pieces_of : List (List ℕ) → List (List ℕ)
+pieces_of lines = flat_map cut lines
+
+-- lines that are there are the lines of a header
+pub or_any : (lines : List (List ℕ)) → 0 < length lines → lines_or_any lines ≡ lines
+or_any [] some = absurd (omega (arith, some))
+or_any (line ∷ lines) some = refl
+
 -- nothing is read of the pieces of lines that hold nothing,
 pub pieces_of_nothing : {lines : List (List ℕ)} → IsHeader lines nothing → AreSorted (flat_map cut (lines_or_any lines)) [] []
 pieces_of_nothing holds = subst (λ pieces. AreSorted pieces [] []) (only_cut holds.cut) holds.sorted
