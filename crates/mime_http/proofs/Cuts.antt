@@ -1,5 +1,5 @@
 -- Lines are cut in one way, and each line is; and how far a line's first piece goes.
-use Rattle.mime_http.proofs.Common.{drop_of_length-le, AreBetweenCommas, At, BeginsPiece, IsInString, IsPiece, List, OneCut, Outside, [], after, after_outside, ap, append-nil, append_assoc, arith, nat_tests, comma, cond_both, cut, cut_from, ends, eqb-true, false, flat_map, line_end, no_line, opens_string, piece_byte, piece_end, piece_string, refl, string_byte, string_end, string_pair, subst, sym, true, ℕ, ⊤, ◌++◌, ◌==◌, ◌∙◌, ◌∷◌, ◌≡◌, Equals, Paired, before_mark, Bool, ap₂, cond, cut_after, drop, drop-drop, drop_more, get_or, get_or-drop, is_mark, length, length-drop, min, not, prefix_len, prefix_len-le-length, suc, take, zero, ◌&&◌, ◌+◌, ◌-◌, ◌<◌, ◌≤◌, IsNextOutside, piece_len, passes_at_first, true≢false, cases_Bool, ⊎_elim, take-append-drop, take_rest}
+use Rattle.mime_http.proofs.Common.{drop_of_length-le, AreBetweenCommas, At, BeginsPiece, IsInString, IsPiece, List, OneCut, Outside, [], after, after_outside, ap, append-nil, append_assoc, arith, nat_tests, comma, cond_both, cut, cut_from, ends, eqb-true, false, flat_map, line_end, no_line, opens_string, piece_byte, piece_end, piece_string, refl, string_byte, string_end, string_pair, subst, sym, true, ℕ, ⊤, ◌++◌, ◌==◌, ◌∙◌, ◌∷◌, ◌≡◌, Equals, Paired, before_mark, Bool, ap₂, cond, cut_after, drop, drop-drop, drop_more, get_or, get_or-drop, is_mark, length, length-drop, min, not, prefix_len, prefix_len-le-length, suc, take, zero, ◌&&◌, ◌+◌, ◌-◌, ◌<◌, ◌≤◌, IsNextOutside, piece_len, passes_at_first, true≢false, cases_Bool, ⊎_elim, take-append-drop, take_all, cases_lt}
 use Rattle.mime_http.specs.LineCut.{Quoted}
 use Rattle.mime_search.{specs.Classes.is_stop, specs.Classes.end_of_run, specs.Quoted.awaits_next, specs.Quoted.len_from, specs.declared.class.Class.Class}
 
@@ -104,44 +104,6 @@ only_cut (line_end text lines texts begins rest) =
 only_cut (comma text line lines texts is rest) =
     ap (λ ps. text ∷ ps) (only_cut rest) ∙ ap (λ c. c ++ flat_map cut lines) (sym (first_piece text [] (44 ∷ line) Outside []
     (subst (IsWhole Outside) (sym (append-nil text)) (piece_passes is)) (λ place piece whole. grind (arith, nat_tests, whole))))
-
--- ---- each line has a cut
-
--- from each place on some bytes are left of a piece
-ended : (place : At) → (more : List ℕ) × IsWhole place more
-ended Outside = ([], tt)
-ended Equals = ([], tt)
-ended Quoted = (34 ∷ [], (refl, tt))
-ended Paired = (0 ∷ 34 ∷ [], (refl, (refl, tt)))
-
--- the pieces from a place on, before those of the next lines, are between commas
-is_cut : (bytes : List ℕ) (place : At) (piece : List ℕ) → ((more : List ℕ) → IsWhole place more → IsPiece (piece ++ more))
-    → {lines pieces : List (List ℕ)} → AreBetweenCommas IsPiece BeginsPiece lines pieces
-    → AreBetweenCommas IsPiece BeginsPiece ((piece ++ bytes) ∷ lines) (cut_from place piece bytes ++ pieces)
-is_cut [] place piece so_far {lines = lines} {pieces = pieces} rest =
-    let end = ended place in
-    subst (λ text. AreBetweenCommas IsPiece BeginsPiece (text ∷ lines) (piece ∷ pieces)) (sym (append-nil piece))
-    (line_end piece lines pieces (end.0, so_far end.0 end.1) rest)
-is_cut (b ∷ bytes) place piece so_far {lines = lines} {pieces = pieces} rest =
-    cond_both (ends place b) _ _ (λ found. AreBetweenCommas IsPiece BeginsPiece ((piece ++ (b ∷ bytes)) ∷ lines) (found ++ pieces))
-    (λ (end : ends place b ≡ true).
-    let there : (b ≡ 44) × IsOutside place = grind (arith, nat_tests, end) in
-    subst (λ c. AreBetweenCommas IsPiece BeginsPiece ((piece ++ (c ∷ bytes)) ∷ lines) (piece ∷ (cut bytes ++ pieces))) (sym there.0)
-    (comma piece bytes lines (cut bytes ++ pieces) (subst IsPiece (append-nil piece) (so_far [] there.1))
-    (is_cut bytes Outside [] (is_piece Outside) rest)))
-    (λ on.
-    rw (sym (append_assoc piece (b ∷ []) bytes))
-    (is_cut bytes (after place b) (piece ++ (b ∷ []))
-    (λ more whole. subst IsPiece (sym (append_assoc piece (b ∷ []) more)) (so_far (b ∷ more) (on, whole))) rest))
-
--- so the pieces of the cut are those between commas
-pub are_cut : (lines : List (List ℕ)) → AreBetweenCommas IsPiece BeginsPiece lines (flat_map cut lines)
-are_cut [] = no_line
-are_cut (line ∷ lines) = is_cut line Outside [] (is_piece Outside) (are_cut lines)
-
--- lines are cut in one way
-pub one_cut : OneCut
-one_cut lines = (flat_map cut lines, are_cut lines, λ other is. only_cut is)
 
 -- where the piece ends that a position of a line is in, at this place
 abbrev pub end_on : At → List ℕ → ℕ → ℕ
@@ -260,22 +222,52 @@ piece_before : (place : At) (bytes : List ℕ) → piece_len place bytes < lengt
 piece_before place [] less = absurd (omega (arith, less))
 piece_before place (b ∷ bytes) less = grind (arith, nat_tests, less, piece_before (after place b) bytes)
 
--- and with no such comma a line goes on with one
+-- and from each place on some bytes are left of a piece,
+ended : (place : At) → (more : List ℕ) × IsWhole place more
+ended Outside = ([], tt)
+ended Equals = ([], tt)
+ended Quoted = (34 ∷ [], (refl, tt))
+ended Paired = (0 ∷ 34 ∷ [], (refl, (refl, tt)))
+
+-- also after bytes that have no such comma
 goes_on : (place : At) (bytes : List ℕ) → length bytes ≤ piece_len place bytes → (more : List ℕ) × IsWhole place (bytes ++ more)
 goes_on place [] past = ended place
 goes_on place (b ∷ bytes) past =
     ⊎_elim (λ (end : ends place b ≡ true). absurd (grind (arith, past, end))) (λ (on : ends place b ≡ false).
     let rest = goes_on (after place b) bytes (grind (arith, past, on)) in (rest.0, (on, rest.1))) (cases_Bool (ends place b))
 
-module _ (line : List ℕ) {end : ℕ} (is : end ≡ end_on Outside line 0) where
-  pub first_entry : end < length line
-      → (line ≡ take end line ++ (44 ∷ take (length line - (end + 1)) (drop (end + 1) line))) × IsPiece (take end line)
+module _ (line : List ℕ) {end : ℕ} (is : end ≡ piece_len Outside line) where
+  pub first_entry : end < length line → (line ≡ take end line ++ (44 ∷ drop (end + 1) line)) × IsPiece (take end line)
   first_entry within =
-      let same : piece_len Outside line ≡ end = omega (arith, is) in
       let whole = piece_before Outside line (omega (arith, is, within)) in (
-        grind (arith, is, whole.0, take-append-drop end line, drop_more line end 0 within, take_rest line (end + 1)),
-        subst (λ n. IsPiece (take n line)) same (is_piece Outside _ whole.1),
+        grind (arith, is, whole.0, take-append-drop end line, drop_more line end 0 within),
+        subst (λ n. IsPiece (take n line)) (sym is) (is_piece Outside _ whole.1),
       )
 
   pub last_entry : length line ≤ end → BeginsPiece line
   last_entry past = let more = goes_on Outside line (omega (arith, is, past)) in (more.0, is_piece Outside _ more.1)
+
+-- ---- each line has a cut
+
+-- the pieces of a line, before those of the next lines, are between commas
+is_cut : (most : ℕ) (line : List ℕ) → length line < most → {lines pieces : List (List ℕ)} → AreBetweenCommas IsPiece BeginsPiece lines pieces
+    → AreBetweenCommas IsPiece BeginsPiece (line ∷ lines) (cut line ++ pieces)
+is_cut zero line short rest = absurd (omega (arith, short))
+is_cut (suc most) line short {lines} {pieces} rest =
+    let n = piece_len Outside line in
+    rw (cut_goes_on Outside [] line) (⊎_elim (λ less.
+    let first = first_entry line refl less in
+    let others = is_cut most (drop (n + 1) line) (omega (arith, short, less, length-drop (n + 1) line)) rest in
+    subst (λ text. AreBetweenCommas IsPiece BeginsPiece (text ∷ lines) (take n line ∷ (cut_after (drop n line) ++ pieces))) (sym first.0)
+    (rw (drop_more line n 0 less) (comma (take n line) (drop (n + 1) line) lines _ first.1 others)))
+    (λ past. rw (take_all n line past, drop_of_length-le line past) (line_end line lines pieces (last_entry line refl past) rest))
+    (cases_lt n (length line)))
+
+-- so the pieces of the cut are those between commas
+pub are_cut : (lines : List (List ℕ)) → AreBetweenCommas IsPiece BeginsPiece lines (flat_map cut lines)
+are_cut [] = no_line
+are_cut (line ∷ lines) = is_cut (suc (length line)) line (omega arith) (are_cut lines)
+
+-- lines are cut in one way
+pub one_cut : OneCut
+one_cut lines = (flat_map cut lines, are_cut lines, λ other is. only_cut is)

@@ -1,5 +1,5 @@
 -- A range that covers none of the offers only moves the ranges after it by one position, which changes no comparison.
-use Rattle.mime_http.proofs.Common.{cons_option, filter_map, find, AllPairs, Contains, List, MediaType, None, Rank, Some, StrangerChangesNothing, [], ap, arith, closeness, enumerate_from, get_or, if◌then◌else◌, is_le, length, length-append, list_all, list_all-map, map, merit, nat_cmp, nat_lt, nat_tests, option_map, ordering_then, position, rank_cmp, refl, subst, sym, zero, ℕ, ◌&&◌, ◌++◌, ◌+◌, ◌-◌, ◌<◌, ◌↔◌, ◌∙◌, ◌∷◌, ◌≡◌, ◌≤◌, Contains-append_right}
+use Rattle.mime_http.proofs.Common.{cons_option, filter_map, find, AllPairs, Contains, List, MediaType, None, Rank, StrangerChangesNothing, [], ap, arith, closeness, enumerate_from, get_or, if◌then◌else◌, is_le, length, length-append, list_all, list_all-map, map, merit, nat_cmp, nat_lt, nat_tests, option_map, ordering_then, position, rank_cmp, refl, subst, sym, zero, ℕ, ◌&&◌, ◌++◌, ◌+◌, ◌-◌, ◌<◌, ◌↔◌, ◌∙◌, ◌∷◌, ◌≡◌, ◌≤◌, Contains-append_right}
 use Rattle.std.proofs.Math.ListN.{get_or-map}
 use Rattle.mime_http.{specs.Ranges.ComesBefore, proofs.Highest.is_best, proofs.Highest.lowest, proofs.Highest.position-map, proofs.Highest.rank_at, proofs.Highest.is_top}
 

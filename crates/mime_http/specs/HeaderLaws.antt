@@ -1,11 +1,7 @@
 -- The laws of a header's value: what it is, what is printed of it, and its fault.
 use Rattle.std.specs.Prelude.{◌≡◌, ℕ, List}
-use Rattle.mime.specs.Values.{MediaType, Reads}
-use Rattle.mime.specs.Comparison.{Same}
-use Rattle.mime.specs.declared.scan.fault.ParseError.{ParseError}
-use Rattle.mime_http.specs.HttpMediaType.{HttpReads, IsHttpMediaType}
-use Rattle.mime_http.specs.HttpList.{IsPrinted}
-use Rattle.mime_http.specs.HttpFaults.{IsHttpFault}
+use Rattle.mime.specs.{Values.MediaType, Values.Reads, Comparison.Same, declared.scan.fault.ParseError.ParseError}
+use Rattle.mime_http.specs.{HttpMediaType.HttpReads, HttpMediaType.IsHttpMediaType, HttpList.IsPrinted, HttpFaults.IsHttpFault}
 
 -- HTTP allows whatever `mime` reads, as the same media type.
 abbrev pub PlainIsHttp : Type 0

@@ -1,11 +1,8 @@
 -- Why an offer is chosen: its weight, the range that decides, and a range of which it lacks a parameter (RFC 9110, 12.4.2 and 12.5.1).
 use Rattle.std.specs.Prelude.{◌≡◌, ◌↔◌, ◌<◌, ℕ, ◌-◌, Bool, true, false, List, [], ◌∷◌, length, Some, None, Contains, is_some, map, nat_lt, not, ◌&&◌, ◌||◌, ◌==◌, if◌then◌else◌}
-use Rattle.std.specs.Char.{is_ascii_digit}
-use Rattle.std.specs.List.{list_all, AllPairs}
-use Rattle.std.specs.Str.{bytes_eq}
+use Rattle.std.specs.{Char.is_ascii_digit, List.list_all, List.AllPairs, Str.bytes_eq}
 use Rattle.mime.specs.Values.{MediaType}
-use Rattle.mime_http.specs.Ranges.{Rank, ComesBefore, closeness, merit_at}
-use Rattle.mime_http.specs.declared.ranking.RankedOffer.{RankedOffer}
+use Rattle.mime_http.specs.{Ranges.Rank, Ranges.ComesBefore, Ranges.closeness, Ranges.merit_at, declared.ranking.RankedOffer.RankedOffer}
 
 -- what the rank of an offer at a position says: its weight, and the position of the range that decides, which the rank counts from the end
 abbrev pub ranked_as : ℕ → Rank → ℕ → RankedOffer

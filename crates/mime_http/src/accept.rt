@@ -1,12 +1,9 @@
 //! Reads an `Accept` header once, and chooses among a server's offers.
 
 ghost use Rattle.std.specs.Prelude.{◌≡◌, ◌≢◌, ◌<◌, true, [], ◌∷◌, ◌++◌, map, length, if◌then◌else◌, IfSome, IsOk, IfOk, OnOk};
-ghost use Rattle.std.specs.Str.{IsAscii, IsUtf8};
-ghost use Rattle.std.specs.Vec.{vec_items};
+ghost use Rattle.std.specs.{Str.IsAscii, Str.IsUtf8, Vec.vec_items};
 ghost use Rattle.mime.specs.Faults.{Explains};
-ghost use Rattle.mime_http.specs.HttpList.{trimmed, AreSorted, Header, IsHeader};
-ghost use Rattle.mime_http.specs.Ranges.{given_weight, best_offer, AreInOrder};
-ghost use Rattle.mime_http.specs.LineCut.{cut, Takes};
+ghost use Rattle.mime_http.specs.{HttpList.trimmed, HttpList.AreSorted, HttpList.Header, HttpList.IsHeader, Ranges.given_weight, Ranges.best_offer, Ranges.AreInOrder, LineCut.cut, LineCut.Takes};
 
 use crate::list::{is_empty_piece, is_short_ascii, piece_end, trim_end, trim_start};
 use crate::offers::{best_of, merit, order_of};

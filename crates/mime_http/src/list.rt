@@ -2,10 +2,8 @@
 
 ghost use Rattle.std.specs.Prelude.{◌≡◌, ◌<◌, ◌≤◌, ◌+◌, ℕ, true, length, drop, slice_index};
 ghost use Rattle.std.specs.Str.{IsAscii};
-ghost use Rattle.mime.specs.Bytes.{comma_byte, quote_byte};
-ghost use Rattle.mime.specs.Grammar.{is_space};
-ghost use Rattle.mime_http.specs.HttpList.{trim_start, trim_end};
-ghost use Rattle.mime_http.specs.LineCut.{Outside, Quoted, IsNextOutside, before_mark, piece_len};
+ghost use Rattle.mime.specs.{Bytes.comma_byte, Bytes.quote_byte, Grammar.is_space};
+ghost use Rattle.mime_http.specs.{HttpList.trim_start, HttpList.trim_end, LineCut.Outside, LineCut.Quoted, LineCut.IsNextOutside, LineCut.before_mark, LineCut.piece_len};
 
 use mime_search::{Class, content_end, first_stop};
 use std::simd::prelude::*;

@@ -1,12 +1,9 @@
 //! The weights and the order of a server's offers, according to the ranges of an `Accept` header.
 
 ghost use Rattle.std.specs.Prelude.{◌≡◌, ◌<◌, [], None, map, length, IfSome, IfOk, IsOk};
-ghost use Rattle.std.specs.Option.{option_cmp};
-ghost use Rattle.std.specs.Ordering.{ord_max};
-ghost use Rattle.std.specs.Vec.{vec_items};
+ghost use Rattle.std.specs.{Option.option_cmp, Ordering.ord_max, Vec.vec_items};
 ghost use Rattle.mime.specs.Values.{type_of};
-ghost use Rattle.mime_http.specs.Sorted.{AreRanked};
-ghost use Rattle.mime_http.specs.Ranges.{rank_cmp, closeness, closest, merit, best_offer, AreInOrder};
+ghost use Rattle.mime_http.specs.{Sorted.AreRanked, Ranges.rank_cmp, Ranges.closeness, Ranges.closest, Ranges.merit, Ranges.best_offer, Ranges.AreInOrder};
 
 use crate::range::{demanded, named_parts};
 use mime::Mime;

@@ -1,13 +1,9 @@
 //! Explains why an offer is chosen: ranks all offers, names the range that decides each weight, and cuts off a header's entries one by one.
 
 ghost use Rattle.std.specs.Prelude.{◌≡◌, ◌++◌, ◌∷◌, ◌==◌, ◌||◌, ◌&&◌, not, map, option_map, unwrap_or, true, position, codes, IfOk, MatchOption};
-ghost use Rattle.std.specs.Char.{is_ascii_digit};
-ghost use Rattle.std.specs.List.{list_all};
-ghost use Rattle.std.specs.Vec.{vec_items};
+ghost use Rattle.std.specs.{Char.is_ascii_digit, List.list_all, Vec.vec_items};
 ghost use Rattle.mime.specs.Bytes.{comma_byte};
-ghost use Rattle.mime_http.specs.HttpList.{IsPiece, BeginsPiece};
-ghost use Rattle.mime_http.specs.Ranges.{first_value};
-ghost use Rattle.mime_http.specs.Ranking.{are_decimals, is_qvalue, is_lacking, ranked_as, IsRanking};
+ghost use Rattle.mime_http.specs.{HttpList.IsPiece, HttpList.BeginsPiece, Ranges.first_value, Ranking.are_decimals, Ranking.is_qvalue, Ranking.is_lacking, Ranking.ranked_as, Ranking.IsRanking};
 
 use crate::list::piece_end;
 use crate::offers::{Ranked, ranked};

@@ -1,6 +1,6 @@
 -- The next line's pieces come before those of the lines that are left.
-use Rattle.mime_http.proofs.Common.{[], ap, arith, codes, common_steps, cut, drop_more, drop_of_length-le, length, lines_or_any, map, nil_from_length, sym, true≢false, ◌≡◌, ◌≤◌}
-use Rattle.mime_http.proofs.{Takes.AreLeft, Takes.all_left, Takes.both_are_nothing, Takes.header_taken, Takes.nothing, Takes.or_any, Takes.pieces_of_nothing, Takes.rest_left, accept.Accept.read.Goals.then-is_empty+in_ok-take_line, accept.Accept.read.Goals.else-is_empty}
+use Rattle.mime_http.proofs.Common.{[], arith, codes, common_steps, cut, drop_more, drop_of_length-le, map, nil_from_length, sym, true≢false, ◌≡◌}
+use Rattle.mime_http.proofs.{Takes.all_left, Takes.both_are_nothing, Takes.header_taken, Takes.or_any, Takes.pieces_of_nothing, Takes.rest_left, accept.Accept.read.Goals.then-is_empty+in_ok-take_line, accept.Accept.read.Goals.else-is_empty}
 use Rattle.mime_http.proofs.accept.Accept.read.Goals as goal
 
 pub returns-in_err-take_line-clause-nothing : goal.returns-in_err-take_line-clause-nothing
