@@ -1,34 +1,26 @@
 -- Worked facts of the pages `Ranges` and `Unescaped`: what covers an offer, and which is the best; with the examples of RFC 9110 (12.5.1)
 -- and of RFC 7231 (5.3.2). Ranges and offers are given by their texts.
-use Rattle.mime_http.proofs.Common.{AreInOrder, Bool, Contains, List, MeanTheSame, MediaType, None, Option, Some, [], ap, arith, best_offer, closeness, codes, drop, false, get_or, given_weight, if◌then◌else◌, is_some, map, not, prefix_len, refl, same_Some, slice_get, subst, suc, sym, true, unwrap_or, zero, ℕ, ◌++◌, ◌<◌, ◌==◌, ◌∷◌, ◌≡◌}
+use Rattle.mime_http.proofs.Common.{AreInOrder, Bool, Contains, List, MeanTheSame, MediaType, None, Option, Some, [], ap, arith, best_offer, closeness, codes, drop, false, get_or, given_weight, is_some, map, not, prefix_len, refl, same_Some, slice_get, subst, suc, sym, true, unwrap_or, zero, ℕ, ◌<◌, ◌==◌, ◌∷◌, ◌≡◌}
+use Rattle.std.specs.List.{slice_split}
 use Rattle.mime_http.proofs.{Order.best_is_acceptable, Order.best_is_first, Demanded.covers_itself, Demanded.meaning_counts, Strangers.stranger_changes_nothing}
 
--- the parts of a text between marks, of which the first begins with these bytes
-abbrev pieces_at : ℕ → List ℕ → List ℕ → List (List ℕ)
-pieces_at mark part [] = part ∷ []
-pieces_at mark part (b ∷ bytes) = if b == mark then part ∷ pieces_at mark [] bytes else pieces_at mark (part ++ (b ∷ [])) bytes
-
--- the bytes before a mark
-abbrev up_to_mark : ℕ → List ℕ → List ℕ
-up_to_mark mark text = get_or (pieces_at mark [] text) 0 []
-
--- the parameter of a text
-abbrev pair : List ℕ → List ℕ × List ℕ
-pair text = (up_to_mark 61 text, get_or (pieces_at 61 [] text) 1 [])
+-- the parts of a text between marks
+abbrev parts_at : ℕ → List ℕ → List (List ℕ)
+parts_at mark text = slice_split (λ b. b == mark) text
 
 -- the media type of a text without spaces,
 abbrev pub media : List ℕ → MediaType
 media text = record {
-  essence = up_to_mark 59 text;
+  essence = get_or (parts_at 59 text) 0 [];
   slash = prefix_len (λ b. not (b == 47)) text;
   plus = None;
-  pairs = map pair (drop 1 (pieces_at 59 [] text));
+  pairs = map (λ pair. (get_or (parts_at 61 pair) 0 [], get_or (parts_at 61 pair) 1 [])) (drop 1 (parts_at 59 text));
   kept = [];
 }
 
 -- and those of a list
 abbrev pub all : List ℕ → List MediaType
-all text = map media (pieces_at 44 [] text)
+all text = map media (parts_at 44 text)
 
 -- whether a range covers an offer
 abbrev covers : List ℕ → List ℕ → Bool
