@@ -1,6 +1,6 @@
 -- What is taken of lines, piece by piece.
-use Rattle.mime_http.proofs.Common.{AreKept, AreSorted, AreSpaces, Bool, Header, HttpReads, IsHeader, IsHttpMediaType, IsPrinted, IsAscii, IsUtf8, List, MediaType, OnOk, Outside, Result, Takes, [], a_bad, a_range, ap, append-nil, append_assoc, cut, cut_after, arith, drop, drop-append_seam, drop_more, drop_of_length-le, flat_map, get_or, if◌then◌else◌, length, lines_or_any, no_text, on_ok_weaker, refl, subst, sym, take, take-append_seam, trimmed, ℕ, ◌++◌, ◌+◌, ◌-◌, ◌<◌, ◌∙◌, ◌∷◌, ◌≡◌, ◌≤◌, IsAscii-drop, IsAscii-take}
-use Rattle.mime_http.{specs.HttpList.blank, proofs.Around.white_around, proofs.Cuts.are_cut, proofs.Cuts.only_cut, proofs.Cuts.cut_at_end, proofs.Cuts.end_on, proofs.Around.trimmed_from_blank}
+use Rattle.mime_http.proofs.Common.{AreKept, AreSorted, AreSpaces, Bool, Header, HttpReads, IsHeader, IsHttpMediaType, IsPrinted, IsUtf8, List, MediaType, OnOk, Outside, Result, Takes, [], a_bad, a_range, ap, append-nil, append_assoc, cut, cut_after, arith, drop, drop_more, drop_of_length-le, flat_map, get_or, if◌then◌else◌, length, lines_or_any, no_text, on_ok_weaker, refl, subst, sym, take, trimmed, ℕ, ◌++◌, ◌+◌, ◌-◌, ◌<◌, ◌∷◌, ◌≡◌, ◌≤◌}
+use Rattle.mime_http.{specs.HttpList.blank, proofs.Cuts.are_cut, proofs.Cuts.only_cut, proofs.Cuts.cut_at_end, proofs.Cuts.end_on, proofs.Around.trimmed_from_blank}
 
 -- two runs of texts are sorted one after the other
 pub sorted_both : {texts more : List (List ℕ)} {ranges others : List MediaType} {bad poor : List (List ℕ)} → AreSorted texts ranges bad
@@ -12,15 +12,6 @@ sorted_both (a_range text range texts ranges bad utf8 reads kept rest) second =
 sorted_both (a_bad text texts ranges bad some isnt rest) second = a_bad text _ _ _ some isnt (sorted_both rest second)
 
 -- ---- a piece
-
--- what is left of ASCII is ASCII
-pub ascii_trimmed : (piece : List ℕ) → IsAscii piece → IsAscii (trimmed piece)
-ascii_trimmed piece ascii =
-    let (before, after, first, last, same) = white_around piece in
-    let left = trimmed piece in
-    subst IsAscii (ap (λ bytes. take (length left) (drop (length before) bytes)) same
-    ∙ (ap (take (length left)) (drop-append_seam before (left ++ after)) ∙ take-append_seam left after))
-    (IsAscii-take (drop (length before) piece) (length left) (IsAscii-drop piece (length before) ascii))
 
 module _ (keeps_bad : Bool) (piece : List ℕ) (old : Header) where
   -- white space alone is nothing,
