@@ -5,7 +5,7 @@ ghost use Rattle.std.specs.{Str.IsUtf8, Vec.vec_items};
 ghost use Rattle.mime.specs.Faults.{Explains};
 ghost use Rattle.mime_http.specs.{HttpList.trimmed, HttpList.AreSorted, HttpList.Header, HttpList.IsHeader, Ranges.given_weight, Ranges.best_offer, Ranges.AreInOrder, LineCut.cut, LineCut.Takes};
 
-use crate::list::{is_empty_piece, piece_end, trim_end, trim_start};
+use crate::list::{piece_end, trim_end, trim_start};
 use crate::offers::{best_of, merit, order_of};
 use crate::value::{FieldError, read_rejected, text_of_piece};
 use mime::{Mime, ParseError};
@@ -112,7 +112,7 @@ impl Accept {
         let mut from = 0;
         loop {
             // An empty piece is skipped without being read.
-            if is_empty_piece(line, from) {
+            if line.get(from) == Some(&b',') {
                 from += 1;
                 continue;
             }

@@ -62,14 +62,6 @@ fn quoted_piece_len(line: &[u8], quote: usize) -> usize
     at
 }
 
-/// Returns `true` if a comma is at `from`, so that a line's piece that begins there is empty.
-#[inline(always)]
-pub(crate) fn is_empty_piece(line: &[u8], from: usize) -> bool
-    ensures { result ≡ true → (from < length line.now) × (slice_index line.now from ≡ comma_byte) }
-{
-    from < line.len() && line[from] == b','
-}
-
 /// Returns the end of a line's piece that begins at `from`: the position of the first comma outside quoted strings, or the length of the
 /// line.
 #[inline(always)]

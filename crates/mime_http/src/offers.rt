@@ -70,11 +70,12 @@ impl Closest {
     }
 }
 
-/// Returns what `Closest` holds of the most specific of these ranges that covers an offer, or `None` if no range covers the offer.
+/// Returns the rank of an offer: its weight, then how specific its range is, then how early its range is in the header. Returns zeros if no
+/// range covers the offer.
 #[inline(always)]
 #[tactic(auto, using(crate::proofs::Highest::closest_is_kept))]
-fn closest_of(ranges: &[Mime], offer: &Mime) -> Option<(u8, usize, u16, usize)>
-    ensures { result ≡ closest (map (λ range. range.media) ranges.now) offer.now.media }
+pub(crate) fn merit(ranges: &[Mime], offer: &Mime) -> (u16, u8, usize, usize)
+    ensures { result ≡ merit (map (λ range. range.media) ranges.now) offer.now.media }
 {
     let parts = Offer {
         mime: offer,
@@ -90,22 +91,12 @@ fn closest_of(ranges: &[Mime], offer: &Mime) -> Option<(u8, usize, u16, usize)>
     for (at, range) in ranges.iter().enumerate() {
         closest.look_at(range, parts, at);
     }
-    let named = closest.named?;
-    Some((named, closest.demanded, closest.weight, closest.at))
-}
-
-/// Returns the rank of an offer: its weight, then how specific its range is, then how early its range is in the header. Returns zeros if no
-/// range covers the offer.
-#[inline(always)]
-pub(crate) fn merit(ranges: &[Mime], offer: &Mime) -> (u16, u8, usize, usize)
-    ensures { result ≡ merit (map (λ range. range.media) ranges.now) offer.now.media }
-{
-    match closest_of(ranges, offer) {
-        Some((named, demanded, weight, at)) => (
-            weight,
+    match closest.named {
+        Some(named) => (
+            closest.weight,
             named,
-            demanded,
-            ranges.len().saturating_sub(at),
+            closest.demanded,
+            ranges.len().saturating_sub(closest.at),
         ),
         None => (0, 0, 0, 0),
     }

@@ -23,23 +23,7 @@ pub struct RankedOffer {
     pub range: Option<usize>,
 }
 
-/// Returns an offer with its weight and range, from its rank and its position. `count` is the number of ranges.
-fn ranked_offer(count: usize, ranked: &Ranked) -> RankedOffer
-    ensures { result ≡ ranked_as count ranked.now.0.0 ranked.now.1 }
-{
-    let (Reverse(rank), offer) = *ranked;
-    RankedOffer {
-        offer,
-        weight: rank.0,
-        range: if rank.3 == 0 {
-            None
-        } else {
-            Some(count.saturating_sub(rank.3))
-        },
-    }
-}
-
-/// Returns offers with their weights and ranges, from their ranks and positions.
+/// Returns offers with their weights and ranges, from their ranks and positions. `count` is the number of ranges.
 fn ranked_offers(
     alloc: Global,
     count: usize,
@@ -47,10 +31,12 @@ fn ranked_offers(
 ) -> Result<Vec<RankedOffer>, AllocError>
     ensures { IfOk result (λ offers. vec_items offers ≡ map (λ one. ranked_as count one.0.0 one.1) ranked.now) }
 {
-    ranked
-        .iter()
-        .map(|one| ranked_offer(count, one))
-        .collect(alloc)
+    let offers = ranked.iter().map(|&(Reverse(rank), offer)| RankedOffer {
+        offer,
+        weight: rank.0,
+        range: (rank.3 > 0).then(|| count.saturating_sub(rank.3)),
+    });
+    offers.collect(alloc)
 }
 
 /// Returns all offers, the best first, each with its weight and the range that decides the weight. Offers are compared as in

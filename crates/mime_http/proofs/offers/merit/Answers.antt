@@ -1,6 +1,6 @@
 -- The next range is the first of those that are left.
 use Rattle.mime_http.proofs.Common.{drop, drop_more, sym, ◌+◌, ◌∙◌, ◌∷◌, ◌≡◌, ap}
-use Rattle.mime_http.proofs.offers.closest_of.Goals as goal
+use Rattle.mime_http.proofs.offers.merit.Goals as goal
 
 pub loop-at-preserved : goal.loop-at-preserved
 loop-at-preserved c =

@@ -1,6 +1,6 @@
 -- The closest so far, and the ranges that are left, give the closest of all.
 use Rattle.mime_http.proofs.Common.{closeness, closest, drop, enumerate_from, fold, map, option_cmp, ord_max, rank_cmp, ◌≡◌}
-use Rattle.mime_http.proofs.offers.closest_of.Given as goal
+use Rattle.mime_http.proofs.offers.merit.Given as goal
 
 abbrev pub invariant-loop-at : goal.invariant-loop-at
 invariant-loop-at l =
