@@ -103,7 +103,7 @@ found_top (rank ∷ ranks) = by (fold (ord_max cmp) None (map Some all)) (top_of
     by None is = absurd (true≢false (All-head (λ one. NotAbove None (Some one)) rank ranks is.above))
     by (Some top) is =
         let found : (x : Rank) × Contains all x × (Some x ≡ Some top) = ⊎_elim (λ none. absurd cc) (λ found. found) is.among in
-        let there : Contains all top = subst (Contains all) (same_Some _ _ found.2) found.1 in
+        let there : Contains all top = rw (same_Some _ _ found.2) at found.1 in
         let low = λ (other : Rank). All-contains (λ one. NotAbove (Some top) (Some one)) all other is.above in
         find_one (is_top all) all top there
         (list_all-from_AllPass (λ one. is_low one top) all (λ k d within. let low = is.above k d within in grind (arith, nat_tests, low)))

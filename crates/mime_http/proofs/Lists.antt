@@ -40,7 +40,7 @@ whole_from (b ∷ bytes) state at parts is = by_option (next state b)
     (λ next goes.
     let Leads = λ (next : State). (ends (place_of state) b ≡ false) × (after (place_of state) b ≡ place_of next) in
     let it = MatchOption-at_some ⊤ Leads next goes (follows state b) in
-    (it.0, subst (λ place. IsWhole place bytes) (sym it.1) (whole_from bytes next (at + 1) parts (rw goes at is))))
+    (it.0, rw it.1 (whole_from bytes next (at + 1) parts (rw goes at is))))
 
 -- and a media type as HTTP writes it is a piece,
 http_is_piece : {value : List ℕ} {media : MediaType} → HttpReads value media → IsPiece value
@@ -57,7 +57,7 @@ spaces_are_piece (b ∷ white) all =
 
 -- a piece begins one
 begins : {text : List ℕ} → IsPiece text → BeginsPiece text
-begins {text} is = ([], subst IsPiece (sym (append-nil text)) is)
+begins {text} is = ([], rw (append-nil text) is)
 
 -- ---- forth
 
@@ -126,7 +126,7 @@ pub read_are_http_lists : ReadAreHttpLists
 read_are_http_lists lines header is none = record {
   texts = is.pieces;
   between = of_any is.cut;
-  elements = elements_of (subst (AreSorted is.pieces header.ranges) none is.sorted);
+  elements = elements_of (rw none at is.sorted);
 }
 
 -- ---- pieces are sorted in one way
@@ -156,8 +156,7 @@ one_sorting (a_bad text _ _ _ not_blank isnt rest) (a_bad _ _ _ _ _ _ more) =
 -- so lines are read as one header
 pub one_header : OneHeader
 one_header lines header other first second =
-    let same : first.pieces ≡ second.pieces = only_cut first.cut ∙ sym (only_cut second.cut) in
-    let is = one_sorting (subst (λ pieces. AreSorted pieces header.ranges header.bad) same first.sorted) second.sorted in
+    let is = one_sorting (rw (only_cut first.cut, sym (only_cut second.cut)) at first.sorted) second.sorted in
     λ i. record { ranges = is.0 i; bad = is.1 i }
 
 -- a bad piece changes nothing of those before it and after it

@@ -101,7 +101,7 @@ are_ranked least ranges offers found sorted past was moved up =
       all = λ i. (
         All-contains Counts (map place sorted) i (All-map Counts place sorted (λ k d within.
             let is = stand found sorted was moved k d within in
-            (omega (arith, past, is.1), subst (λ (rank : Rank). least ≤ rank.0) is.0 is.2))),
+            (omega (arith, past, is.1), rw is.0 at is.2))),
         λ counts. Contains-permutation (map place found) (map place sorted) i (IsPermutation-map place found sorted moved)
             (was.all i (omega (arith, past, counts.0)) counts.1),
       );

@@ -124,9 +124,7 @@ stranger_changes_nothing before after offers range none =
       λ offer there. ap (λ (rank : Rank). rank.0) (merit_so before after range offer (none offer there)),
       ap (λ all. position (is_best all) all) ranks ∙ same_best g alike old,
       λ order are. record {
-        best_first = subst (λ ranks. AllPairs (ComesBefore (rank_at ranks)) order) (sym ranks)
-            (λ i j d below within. same_turn g alike old stays _ _ (are.best_first i j d below within));
-        all = subst (λ ranks. (at : ℕ) → Contains order at ↔ (0 < (rank_at ranks at).0)) (sym ranks)
-            (λ at. subst (λ (rank : Rank). Contains order at ↔ (0 < rank.0)) (sym (rank_so g alike old stays at)) (are.all at));
+        best_first = rw ranks (λ i j d below within. same_turn g alike old stays _ _ (are.best_first i j d below within));
+        all = λ at. rw (ranks, rank_so g alike old stays at) (are.all at);
       },
     )

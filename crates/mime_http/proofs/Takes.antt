@@ -1,5 +1,5 @@
 -- What is taken of lines, piece by piece.
-use Rattle.mime_http.proofs.Common.{AreKept, AreSorted, AreSpaces, Bool, Header, HttpReads, IsHeader, IsHttpMediaType, IsPrinted, IsUtf8, List, MediaType, OnOk, Outside, Result, Takes, [], a_bad, a_range, ap, append-nil, append_assoc, cut, cut_after, arith, drop, drop_more, drop_of_length-le, flat_map, get_or, if◌then◌else◌, length, lines_or_any, no_text, on_ok_weaker, refl, subst, sym, take, trimmed, ℕ, ◌++◌, ◌+◌, ◌-◌, ◌<◌, ◌∷◌, ◌≡◌, ◌≤◌}
+use Rattle.mime_http.proofs.Common.{AreSorted, AreSpaces, Bool, Header, HttpReads, IsHeader, IsHttpMediaType, IsPrinted, IsUtf8, List, MediaType, OnOk, Outside, Result, Takes, [], a_bad, a_range, ap, append-nil, append_assoc, cut, cut_after, arith, drop, drop_more, drop_of_length-le, flat_map, get_or, if◌then◌else◌, length, lines_or_any, no_text, on_ok_weaker, refl, subst, sym, take, trimmed, ℕ, ◌++◌, ◌+◌, ◌-◌, ◌<◌, ◌∷◌, ◌≡◌, ◌≤◌}
 use Rattle.mime_http.{specs.HttpList.blank, proofs.Cuts.are_cut, proofs.Cuts.only_cut, proofs.Cuts.cut_at_end, proofs.Cuts.end_on, proofs.Around.trimmed_from_blank}
 
 -- two runs of texts are sorted one after the other
@@ -21,24 +21,22 @@ module _ (keeps_bad : Bool) (piece : List ℕ) (old : Header) where
       (held.0, rw (append-nil old.ranges, append-nil held.0) at sorted, held.2)
 
   -- a media type is a range if it was taken,
-  pub takes_range : (range : MediaType) (new : Header) {X E : Type 0} (result : Result X E) → IsUtf8 piece → HttpReads piece range
+  pub takes_range : {range : MediaType} (new : Header) {X E : Type 0} (result : Result X E) → IsUtf8 piece → HttpReads piece range
       → IsPrinted piece range → OnOk result (new ≡ record old { ranges = old.ranges ++ (range ∷ []) })
       → OnOk result (Takes keeps_bad (piece ∷ []) old new)
-  takes_range range new result utf8 reads printed = on_ok_weaker result (λ is before held.
+  takes_range {range} new result utf8 reads printed = on_ok_weaker result (λ is before held.
       let sorted = sorted_both held.1 (a_range piece range [] [] [] utf8 reads printed no_text) in
-      subst (AreKept keeps_bad (before ++ (piece ∷ []))) (sym is) (held.0, rw (append-nil held.0) at sorted, held.2))
+      rw is (held.0, rw (append-nil held.0) at sorted, held.2))
 
   -- and any other is bad
-  pub takes_bad : (entry : List ℕ) (new : Header) {X E : Type 0} (result : Result X E) → entry ≡ trimmed piece → ¬ (trimmed piece ≡ [])
+  pub takes_bad : {entry : List ℕ} (new : Header) {X E : Type 0} (result : Result X E) → entry ≡ trimmed piece → ¬ (trimmed piece ≡ [])
       → ¬ (IsUtf8 piece × IsHttpMediaType piece)
       → OnOk result (new ≡ record old { bad = if keeps_bad then old.bad ++ (entry ∷ []) else old.bad })
       → OnOk result (Takes keeps_bad (piece ∷ []) old new)
-  takes_bad entry new result trim some isnt = on_ok_weaker result (λ is before held.
+  takes_bad {entry} new result trim some isnt = on_ok_weaker result (λ is before held.
       let not_blank = λ (white : AreSpaces piece). some (trimmed_from_blank piece white) in
       let sorted = sorted_both held.1 (a_bad piece [] [] [] not_blank isnt no_text) in
-      let listed = subst (λ e. AreSorted (before ++ (piece ∷ [])) (old.ranges ++ []) (held.0 ++ (e ∷ []))) (sym trim) sorted in
-      subst (AreKept keeps_bad (before ++ (piece ∷ []))) (sym is)
-      (held.0 ++ (entry ∷ []), rw (append-nil old.ranges) at listed, grind (arith, held.2)))
+      rw is (held.0 ++ (entry ∷ []), rw (append-nil old.ranges, sym trim) at sorted, grind (arith, held.2)))
 
 -- ---- texts of which nothing is read
 
@@ -57,7 +55,7 @@ or_any (line ∷ lines) some = refl
 
 -- nothing is read of the pieces of lines that hold nothing,
 pub pieces_of_nothing : {lines : List (List ℕ)} → IsHeader lines nothing → AreSorted (flat_map cut (lines_or_any lines)) [] []
-pieces_of_nothing holds = subst (λ pieces. AreSorted pieces [] []) (only_cut holds.cut) holds.sorted
+pieces_of_nothing holds = rw (only_cut holds.cut) at holds.sorted
 
 -- of texts of which nothing is read, nothing is read of the first and of the rest,
 pub both_are_nothing : (first : List (List ℕ)) {rest : List (List ℕ)} → AreSorted (first ++ rest) [] []
@@ -119,13 +117,13 @@ module _ {keeps_bad : Bool} where
 
       -- after its comma,
       pub past_piece : end < length line → AreLeft keeps_bad old new (cut line) (cut (drop (end + 1) line))
-      past_piece more = subst (AreLeft keeps_bad old new (cut line)) (ap cut_after (drop_more line end 0 more)) passed
+      past_piece more = rw (drop_more line end 0 more) at passed
 
       -- and at the line's end all are taken
       pub past_last : length line ≤ end → Takes keeps_bad (cut line) old new
-      past_last past = all_taken (subst (AreLeft keeps_bad old new (cut line)) (ap cut_after (drop_of_length-le line past)) passed)
+      past_last past = all_taken (rw (drop_of_length-le line past) at passed)
 
     -- the first piece is white space if nothing is read of the line
     pub blank_there : (end : ℕ) → end ≡ end_on Outside line from → AreSorted (cut line) [] []
         → trimmed (take (end - from) (drop from line)) ≡ []
-    blank_there end is sorted = is_blank (subst (λ pieces. AreSorted pieces [] []) (cut_at_end line from end is) (left.nothing sorted))
+    blank_there end is sorted = is_blank (rw (cut_at_end line from end is) at (left.nothing sorted))

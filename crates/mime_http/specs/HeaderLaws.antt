@@ -13,18 +13,15 @@ OneHttpReading = (value : List ℕ) (first second : MediaType) → HttpReads val
 
 -- Each value has one printed text.
 abbrev pub OnePrintedText : Type 0
-OnePrintedText =
-    (value : List ℕ) (first second : MediaType) → HttpReads value first → IsPrinted value first → HttpReads value second
+OnePrintedText = (value : List ℕ) (first second : MediaType) → HttpReads value first → IsPrinted value first → HttpReads value second
     → IsPrinted value second → first ≡ second
 
 -- The printed text of a value is read by `mime`, and so by HTTP's grammar, as the same media type, with the same text.
 abbrev pub PrintedIsRead : Type 0
-PrintedIsRead =
-    (value : List ℕ) (media : MediaType) → HttpReads value media → IsPrinted value media
+PrintedIsRead = (value : List ℕ) (media : MediaType) → HttpReads value media → IsPrinted value media
     → Reads media.kept media × HttpReads media.kept media
 
 -- A value that HTTP doesn't allow has exactly one fault.
 abbrev pub OneHttpFault : Type 0
-OneHttpFault =
-    (value : List ℕ) → ¬ (IsHttpMediaType value)
+OneHttpFault = (value : List ℕ) → ¬ (IsHttpMediaType value)
     → (fault : ParseError) × IsHttpFault value fault × ((other : ParseError) → IsHttpFault value other → other ≡ fault)

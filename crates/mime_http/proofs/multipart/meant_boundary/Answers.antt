@@ -10,7 +10,6 @@ returns-then-bytes c = λ is.
       | then-bytes-via-then-bytes w ↦ absurd (omega (arith, is.most, length-unescaped value, w.if-bytes.true))
       | then-bytes-via-else-bytes+then-not-contains w ↦
           let finds = contains_char 92 value w.contains.result w.contains.ensures.cases (omega arith) in
-          let not_one : ¬ (IsBoundary value) = search rules in
-          not_one (subst IsBoundary (unescaped_same value
-          (λ i below there. absurd (grind (arith, w.if-not-contains.true, finds.1 i below there)))) is)
+          let same = unescaped_same value (λ i below there. absurd (grind (arith, w.if-not-contains.true, finds.1 i below there))) in
+          let not_one : ¬ (IsBoundary value) = search rules in not_one (rw same at is)
     ]
