@@ -57,8 +57,7 @@ Continues Paired bytes = IsPiece (61 ∷ 34 ∷ 92 ∷ bytes)
 -- a byte outside strings may stand before a piece,
 byte_before : (b : ℕ) (bytes : List ℕ) → (b == 44) ≡ false → Continues (after_outside b) bytes → IsPiece (b ∷ bytes)
 byte_before b bytes on = cond_both (b == 61) _ _ (λ place. Continues place bytes → IsPiece (b ∷ bytes))
-    (λ equals. subst (λ c. IsPiece (c ∷ bytes)) (sym (eqb-true b 61 equals)))
-    (λ other. piece_byte b bytes on (opens_none b bytes other))
+    (λ equals. subst (λ c. IsPiece (c ∷ bytes)) (sym (eqb-true b 61 equals))) (λ other. piece_byte b bytes on (opens_none b bytes other))
 
 -- and so may the byte at each place
 further : (place : At) (b : ℕ) (bytes : List ℕ) → ends place b ≡ false → Continues (after place b) bytes → Continues place (b ∷ bytes)
@@ -232,8 +231,7 @@ ended Paired = (0 ∷ 34 ∷ [], (refl, (refl, tt)))
 -- also after bytes that have no such comma
 goes_on : (place : At) (bytes : List ℕ) → length bytes ≤ piece_len place bytes → (more : List ℕ) × IsWhole place (bytes ++ more)
 goes_on place [] past = ended place
-goes_on place (b ∷ bytes) past =
-    ⊎_elim (λ (end : ends place b ≡ true). absurd (grind (arith, past, end))) (λ (on : ends place b ≡ false).
+goes_on place (b ∷ bytes) past = ⊎_elim (λ (end : ends place b ≡ true). absurd (grind (arith, past, end))) (λ (on : ends place b ≡ false).
     let rest = goes_on (after place b) bytes (grind (arith, past, on)) in (rest.0, (on, rest.1))) (cases_Bool (ends place b))
 
 module _ (line : List ℕ) {end : ℕ} (is : end ≡ piece_len Outside line) where

@@ -26,8 +26,7 @@ found_from offer count weight (item ∷ items) =
 
 -- the items of a range's pairs decide what is found
 found_after : (offer : MediaType) (count : ℕ) (weight : Option (List ℕ)) (pairs : List (List ℕ × List ℕ))
-    → found_from offer count weight (items_of pairs)
-    ≡ (if list_all (has offer) (demanded pairs)
+    → found_from offer count weight (items_of pairs) ≡ (if list_all (has offer) (demanded pairs)
     then found_of (count + length (demanded pairs)) (option_or weight (first_value (codes "q") pairs)) else None)
 found_after offer count weight [] = grind (arith)
 found_after offer count weight (pair ∷ pairs) =
@@ -57,8 +56,7 @@ pub first_is : (name : List ℕ) (found : Option Name) (pairs : List (List ℕ �
     → IsFirstAccepted (λ text flag. text ≡ name) (items_of pairs) (option_map name_seen found)
     → option_map name_text found ≡ first_value name pairs
 first_is name found [] is = grind (arith, is)
-first_is name found (pair ∷ pairs) is =
-    grind (arith, bytes_eq-Decides pair.0 name, is.0, is.1, first_is name found pairs)
+first_is name found (pair ∷ pairs) is = grind (arith, bytes_eq-Decides pair.0 name, is.0, is.1, first_is name found pairs)
 
 -- ---- a weight of one decimal, right after the essence
 

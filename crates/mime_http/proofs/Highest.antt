@@ -32,8 +32,7 @@ one_rank x y same = grind (arith, nat_tests)
 
 -- ranks are in a total order, and so are those that may be missing
 pub ranks_total : IsTotalOrder rank_cmp
-ranks_total =
-    then_total (then_total (then_total (on_total (λ rank. rank.0) nat_cmp_total) (on_total (λ rank. rank.1) nat_cmp_total))
+ranks_total = then_total (then_total (then_total (on_total (λ rank. rank.0) nat_cmp_total) (on_total (λ rank. rank.1) nat_cmp_total))
     (on_total (λ rank. rank.2) nat_cmp_total)) (on_total (λ rank. rank.3) nat_cmp_total)
 
 abbrev cmp : Option Rank → Option Rank → Ordering
@@ -128,8 +127,7 @@ closest_is_closest ranges offer =
     let is = subst (IsTop (closeness offer) None items) (closest_is_kept ranges offer) (top_of (closeness offer) None items) in
     let low = λ (item : ℕ × MediaType) (there : Contains items item).
     All-contains (λ item. is_gt (cmp (closeness offer item) (closest ranges offer)) ≡ false) items item is.above there in
-    by_option (closest ranges offer)
-    (λ none. rw none (λ item there. grind (arith, nat_tests, low item there, none)))
+    by_option (closest ranges offer) (λ none. rw none (λ item there. grind (arith, nat_tests, low item there, none)))
     (λ close found. rw found (
       ⊎_elim (λ none. absurd (cc)) (λ found. found) (rw found at is.among),
       λ item other there covers. grind (arith, nat_tests, low item there, found, covers),
@@ -177,8 +175,7 @@ module _ {ranks : List Rank} {at : ℕ} {most : Rank} {best : Option ℕ} (x : R
 -- so the best offer is where the highest of all ranks is first, if that weighs something
 pub best_is_found : {all : List Rank} {at : ℕ} {most : Rank} {best : Option ℕ} → IsHighest all at most best → length all ≤ at
     → position (is_best all) all ≡ (if nat_lt 0 most.0 then best else None)
-best_is_found {all} {at} {most} {best} is past =
-    ⊎_elim (λ some.
+best_is_found {all} {at} {most} {best} is past = ⊎_elim (λ some.
     let (place, same, there, before) = is.first some in
     let within : place < length all = grind (arith, some, there, get_or_past all place lowest) in
     let found = position_or_len_is (is_best all) all place lowest (omega (arith, within))
@@ -190,5 +187,4 @@ best_is_found {all} {at} {most} {best} is past =
     (λ none.
     let found = position_or_len_is (is_best all) all (length all) lowest (omega arith)
     (λ j less. and_left (nat_lt 0 (rank_at all j).0) _ (grind (arith, nat_tests, is.above j (omega (arith, past, less)), none))) (λ less. absurd (omega (arith, less))) in
-    grind (arith, nat_tests, found, none))
-    (cases_lt 0 most.0)
+    grind (arith, nat_tests, found, none)) (cases_lt 0 most.0)

@@ -1,5 +1,5 @@
 -- Lists as HTTP writes them are read as their elements, and what is read with nothing bad are such lists.
-use Rattle.mime_http.proofs.Common.{At, Outside, State, Parts, Option, MatchOption, MatchOption-at_some, MissingSlash, by_option, next, ends, after, answer_of, answer_from, answer_at_end, read, before_type, in_subtype, in_value, in_string, is_quoted_byte, ◌+◌, AreBetweenCommas, AreElements, AreSame, AreSorted, AreSpaces, BadIsAlone, BeginsPiece, HttpListsAreRead, HttpReads, IsAccepted, IsHttpMediaType, IsPiece, IsPrinted, List, MediaType, OneHeader, ReadAreHttpLists, [], a_bad, a_range, accepted_or_rejected, and_parts, anew, ap, append-nil, arith, as_it_stands, comma, element, false, is_space, is_token_byte, line_end, nat_tests, no_line, no_text, nothing, piece_byte, piece_end, refl, subst, sym, trimmed, with_pairs, without_kept, ℕ, ⊎_elim, ⊤, ◌++◌, ◌∙◌, ◌∷◌, ◌≡◌, Equals, Paired, awaits_after, awaits_after-append, cases_Bool, if◌then◌else◌}
+use Rattle.mime_http.proofs.Common.{At, Outside, State, Parts, Option, MatchOption, MatchOption-at_some, MissingSlash, by_option, next, ends, after, answer_of, answer_from, answer_at_end, read, before_type, in_subtype, in_value, in_string, is_quoted_byte, ◌+◌, AreBetweenCommas, AreElements, AreSame, AreSorted, AreSpaces, BadIsAlone, BeginsPiece, HttpListsAreRead, HttpReads, IsAccepted, IsHttpMediaType, IsPiece, IsPrinted, List, MediaType, OneHeader, ReadAreHttpLists, [], a_bad, a_range, accepted_or_rejected, and_parts, anew, ap, append-nil, arith, as_it_stands, comma, element, false, is_space, is_token_byte, line_end, nat_tests, no_line, no_text, nothing, piece_byte, piece_end, refl, sym, trimmed, with_pairs, without_kept, ℕ, ⊎_elim, ⊤, ◌++◌, ◌∙◌, ◌∷◌, ◌≡◌, Equals, Paired, awaits_after, awaits_after-append, cases_Bool, if◌then◌else◌}
 use Rattle.mime_http.{specs.HttpList.blank, specs.LineCut.Quoted, proofs.Around.reads_around, proofs.Around.white_more, proofs.HttpLaws.one_printed_text, proofs.HttpLaws.same_anew, proofs.PlainIsHttp.plain_is_http, proofs.Takes.sorted_both, proofs.Cuts.IsOutside, proofs.Cuts.IsWhole, proofs.Cuts.is_piece, proofs.Cuts.only_cut, proofs.Cuts.opens_none, proofs.ReadFaults.rejected_is_none, proofs.ReadForth.http_is_answered, proofs.Runs.keeps_before, proofs.Runs.over_white}
 use Rattle.mime_http.specs.ListLaws.{no_text as no_element}
 
@@ -21,8 +21,7 @@ follows (in_subtype top []) b = grind (arith, nat_tests)
 follows (in_subtype top (s ∷ sub)) b = grind (arith, nat_tests)
 follows (in_value parts name []) b = grind (arith, nat_tests)
 follows (in_value parts name (v ∷ value)) b = grind (arith, nat_tests)
-follows (in_string parts name content) b = ⊎_elim
-    (λ paired. grind (arith, nat_tests, paired, awaits_after-append false content (b ∷ [])))
+follows (in_string parts name content) b = ⊎_elim (λ paired. grind (arith, nat_tests, paired, awaits_after-append false content (b ∷ [])))
     (λ text. grind (arith, nat_tests, text, awaits_after-append false content (b ∷ []))) (cases_Bool (awaits_after false content))
 follows state b = grind (arith, nat_tests)
 
@@ -35,9 +34,7 @@ whole_from [] state at parts is = ended state is
     ended (in_value _ name []) is = absurd cc
     ended (in_string _ name content) is = absurd cc
     ended state is = tt
-whole_from (b ∷ bytes) state at parts is = by_option (next state b)
-    (λ stops. absurd (cc (rw stops at is)))
-    (λ next goes.
+whole_from (b ∷ bytes) state at parts is = by_option (next state b) (λ stops. absurd (cc (rw stops at is))) (λ next goes.
     let Leads = λ (next : State). (ends (place_of state) b ≡ false) × (after (place_of state) b ≡ place_of next) in
     let it = MatchOption-at_some ⊤ Leads next goes (follows state b) in
     (it.0, rw it.1 (whole_from bytes next (at + 1) parts (rw goes at is))))
@@ -77,8 +74,7 @@ elements_are_pieces (comma text line lines texts any rest) (element _ _ _ _ utf8
 -- a text of one media type is printed in some way,
 printed : (text : List ℕ) (media : MediaType) → HttpReads text media
     → (range : MediaType) × HttpReads text range × IsPrinted text range × (without_kept range ≡ without_kept media)
-printed text media reads =
-    ⊎_elim (λ (plain : IsAccepted (trimmed text)).
+printed text media reads = ⊎_elim (λ (plain : IsAccepted (trimmed text)).
     let http = reads_around text plain.0 (plain_is_http (trimmed text) plain.0 plain.1) in
     (plain.0, http, as_it_stands text plain.0 plain.1, ap without_kept (same_anew text plain.0 media http reads)))
     (λ (rejected : ¬ (IsAccepted (trimmed text))).

@@ -5,8 +5,7 @@ use Rattle.mime_http.{specs.HttpList.blank, proofs.Around.AreAscii, proofs.Aroun
 -- ---- weights (RFC 9110, 12.4.2)
 
 -- texts and how many thousandths they are
-weights :
-    (thousandths_of (codes "0.5") ≡ 500) × (thousandths_of (codes "1.000") ≡ 1000) × (thousandths_of (codes "0.001") ≡ 1)
+weights : (thousandths_of (codes "0.5") ≡ 500) × (thousandths_of (codes "1.000") ≡ 1000) × (thousandths_of (codes "0.001") ≡ 1)
     × (thousandths_of (codes "0") ≡ 0)
     -- of strings that are no weights, three digits after the dot count, and those before another byte,
     × (thousandths_of (codes "0.1239") ≡ 123) × (thousandths_of (codes "0x.5") ≡ 0)
@@ -70,14 +69,12 @@ as_range text parts ascii answered same =
 -- empty elements are no elements
 two_elements : AreHttpLists (codes ",a/b , ,c/d" ∷ []) (media_of a_b ∷ media_of c_d ∷ [])
 unfolding is_token_byte
-two_elements =
-    read_are_http_lists (codes ",a/b , ,c/d" ∷ []) (record { ranges = media_of a_b ∷ media_of c_d ∷ []; bad = [] })
-    (record {
-      pieces = _;
-      cut = are_cut _;
-      sorted = blank [] _ _ _ refl (as_range (codes "a/b ") a_b (omega arith) refl refl
-          (blank (codes " ") _ _ _ refl (as_range (codes "c/d") c_d (omega arith) refl refl no_text)));
-    }) refl
+two_elements = read_are_http_lists (codes ",a/b , ,c/d" ∷ []) (record { ranges = media_of a_b ∷ media_of c_d ∷ []; bad = [] }) (record {
+  pieces = _;
+  cut = are_cut _;
+  sorted = blank [] _ _ _ refl (as_range (codes "a/b ") a_b (omega arith) refl refl
+      (blank (codes " ") _ _ _ refl (as_range (codes "c/d") c_d (omega arith) refl refl no_text)));
+}) refl
 
 -- a text with a space within is no media type
 not_media_type : ¬ (IsHttpMediaType (codes " a b"))
@@ -85,13 +82,10 @@ unfolding is_token_byte
 not_media_type = rejected_is_none (codes " a b") _ refl
 
 -- so an entry that is one is bad as a whole, also between two others
-bad_between :
-    IsHeader (codes "c/d, a b" ∷ codes "a/b " ∷ []) (record { ranges = media_of c_d ∷ media_of a_b ∷ []; bad = codes "a b" ∷ [] })
+bad_between : IsHeader (codes "c/d, a b" ∷ codes "a/b " ∷ []) (record { ranges = media_of c_d ∷ media_of a_b ∷ []; bad = codes "a b" ∷ [] })
 unfolding is_token_byte
-bad_between =
-    (bad_is_alone (codes "c/d, a b" ∷ codes "a/b " ∷ []) (codes "c/d" ∷ codes "a/b " ∷ []) (codes "c/d" ∷ []) (codes "a/b " ∷ [])
-    (codes " a b") _ _ [] []
-    (as_range (codes "c/d") c_d (omega arith) refl refl no_text)
+bad_between = (bad_is_alone (codes "c/d, a b" ∷ codes "a/b " ∷ []) (codes "c/d" ∷ codes "a/b " ∷ []) (codes "c/d" ∷ []) (codes "a/b " ∷ [])
+    (codes " a b") _ _ [] [] (as_range (codes "c/d") c_d (omega arith) refl refl no_text)
     (as_range (codes "a/b ") a_b (omega arith) refl refl no_text)
     (λ blank. true≢false (sym blank)) (λ is. not_media_type is.1) (are_cut _) (are_cut _)).0
 
@@ -102,8 +96,7 @@ not_a_list media is =
     absurd (omega (arith, ap (λ (header : Header). length header.bad) (one_header _ _ _ bad_between read.2)))
 
 -- and a range prints no other text than its own
-other_text :
-    ¬ (IsHeader (codes "c/d, a b" ∷ codes "a/b " ∷ [])
+other_text : ¬ (IsHeader (codes "c/d, a b" ∷ codes "a/b " ∷ [])
     (record { ranges = record (media_of c_d) { kept = codes "C/d" } ∷ media_of a_b ∷ []; bad = codes "a b" ∷ [] }))
 other_text is =
     let kept = λ (header : Header). get_or (get_or (map (λ (range : MediaType). range.kept) header.ranges) 0 []) 0 0 in

@@ -34,8 +34,7 @@ module _ {least : ℕ} {ranks : List Rank} {at : ℕ} {found : List (Reverse Ran
       → Ranked least ranks (at + 1) (found ++ (offer ∷ []))
   one_ranked offer there rank weighs = record {
     are = All-push (HasRank least ranks (at + 1)) found offer still (rank ∙ ap (rank_at ranks) (sym there), omega (arith, there), weighs);
-    all = λ i below some.
-        rw (map-append place found (offer ∷ []))
+    all = λ i below some. rw (map-append place found (offer ∷ []))
         (⊎_elim (λ less. Contains-append_left (map place found) (offer.1 ∷ []) i (was.all i less some))
         (λ least. Contains-append_right (map place found) (offer.1 ∷ []) i (0, omega arith, omega (arith, there, below, least)))
         (cases_lt i at));
@@ -174,8 +173,7 @@ best_is_first ranges offers order are =
 -- so is the first of a ranking, unless it weighs nothing
 begins_with_best : (ranges offers : List MediaType) (ranking : List RankedOffer) (is : IsRanking ranges offers ranking)
     → best_offer ranges offers ≡ first_weighs (map (merit ranges) offers) is.order
-begins_with_best ranges offers ranking is =
-    best_by_order (map (merit ranges) offers) is.order is.best_first (λ at weighs. (is.all at).1
+begins_with_best ranges offers ranking is = best_by_order (map (merit ranges) offers) is.order is.best_first (λ at weighs. (is.all at).1
     (omega (arith, weighs_within (map (merit ranges) offers) at weighs, length-map offers (merit ranges))))
 
 -- the best offer passes the test of the best: it weighs more than 0

@@ -56,8 +56,7 @@ what_covers = (refl, refl, refl, refl, refl, refl, refl, refl, refl, refl, refl)
 -- values that mean the same are covered as closely
 same_meaning : closeness (media (codes "a/b;p=flowed")) (0, media (codes "a/b;p=\\flowed"))
     ≡ closeness (media (codes "a/b;p=\\f\\lowed")) (0, media (codes "a/b;p=flowed"))
-same_meaning =
-    meaning_counts (media (codes "a/b;p=\\flowed")) (media (codes "a/b;p=flowed")) (media (codes "a/b;p=flowed"))
+same_meaning = meaning_counts (media (codes "a/b;p=\\flowed")) (media (codes "a/b;p=flowed")) (media (codes "a/b;p=flowed"))
     (media (codes "a/b;p=\\f\\lowed")) 0 (record { essence = refl; top = refl; pairs = refl })
     (record { essence = refl; top = refl; pairs = refl }) refl
 
@@ -109,8 +108,7 @@ choices :
     -- alike in all, the first offered is the best
     × (best (codes "*/*") (codes "text/html,application/json") ≡ Some 0)
     -- if each offer weighs 0, none is the best, and neither is one of none
-    × (best (codes "application/json,text/html;q=0") (codes "text/html,image/jpeg") ≡ None)
-    × (best_offer (all (codes "*/*")) [] ≡ None)
+    × (best (codes "application/json,text/html;q=0") (codes "text/html,image/jpeg") ≡ None) × (best_offer (all (codes "*/*")) [] ≡ None)
 choices = (refl, refl, refl, refl, refl, refl, refl, refl, refl, refl, refl)
 
 -- the best of two is the second, which weighs more than 0,

@@ -13,16 +13,14 @@ qvalues :
 qvalues = (refl, refl, refl, refl, refl, refl, refl, refl, refl, refl, refl, refl, refl)
 
 -- an offer lacks a parameter of a range of its essence alone, and only one that it doesn't have
-lacks :
-    (is_lacking (media (codes "application/json")) (media (codes "application/json;charset=utf-8")) ≡ true)
+lacks : (is_lacking (media (codes "application/json")) (media (codes "application/json;charset=utf-8")) ≡ true)
     × (is_lacking (media (codes "a/b;p=x")) (media (codes "a/b;p=y")) ≡ true)
     × (is_lacking (media (codes "a/b;p=x")) (media (codes "a/b;p=x")) ≡ false)
     × (is_lacking (media (codes "a/c")) (media (codes "a/b;p=x")) ≡ false)
 lacks = (refl, refl, refl, refl)
 
 -- what a rank says: the range that decides is the second of two, or there is none
-said :
-    (ranked_as 2 (500, 2, 0, 1) 3 ≡ record { offer = 3; weight = 500; range = Some 1 })
+said : (ranked_as 2 (500, 2, 0, 1) 3 ≡ record { offer = 3; weight = 500; range = Some 1 })
     × (ranked_as 2 (0, 0, 0, 0) 3 ≡ record { offer = 3; weight = 0; range = None })
 said = (refl, refl)
 

@@ -1,5 +1,5 @@
 -- A range that covers none of the offers only moves the ranges after it by one position, which changes no comparison.
-use Rattle.mime_http.proofs.Common.{cons_option, filter_map, find, AllPairs, Contains, List, MediaType, None, Rank, StrangerChangesNothing, [], ap, arith, closeness, enumerate_from, get_or, if◌then◌else◌, is_le, length, length-append, list_all, list_all-map, map, merit, nat_cmp, nat_lt, nat_tests, option_map, ordering_then, position, rank_cmp, refl, subst, sym, zero, ℕ, ◌&&◌, ◌++◌, ◌+◌, ◌-◌, ◌<◌, ◌↔◌, ◌∙◌, ◌∷◌, ◌≡◌, ◌≤◌, Contains-append_right}
+use Rattle.mime_http.proofs.Common.{cons_option, filter_map, find, Contains, List, MediaType, None, Rank, StrangerChangesNothing, [], ap, arith, closeness, enumerate_from, get_or, if◌then◌else◌, is_le, length, length-append, list_all, list_all-map, map, merit, nat_cmp, nat_lt, nat_tests, option_map, ordering_then, position, rank_cmp, refl, sym, zero, ℕ, ◌&&◌, ◌++◌, ◌+◌, ◌-◌, ◌∙◌, ◌∷◌, ◌≡◌, ◌≤◌, Contains-append_right}
 use Rattle.std.proofs.Math.ListN.{get_or-map}
 use Rattle.mime_http.{specs.Ranges.ComesBefore, proofs.Highest.is_best, proofs.Highest.lowest, proofs.Highest.position-map, proofs.Highest.rank_at, proofs.Highest.is_top}
 
@@ -19,8 +19,7 @@ module _ (g : ℕ → ℕ) (same : (x y : ℕ) → nat_cmp (g x) (g y) ≡ nat_c
 
   -- so is which is above all,
   same_top : (all : List Rank) (one : Rank) → is_top (map (moved g) all) (moved g one) ≡ is_top all one
-  same_top all one =
-      list_all-map (λ other. is_le (rank_cmp other (moved g one))) (moved g) all
+  same_top all one = list_all-map (λ other. is_le (rank_cmp other (moved g one))) (moved g) all
       ∙ (λ i. list_all (λ other. is_le (same_order other one i)) all)
 
   -- the highest is found,
@@ -64,16 +63,14 @@ module _ (offer : MediaType) (k : ℕ) where
   later : (at : ℕ) (ranges : List MediaType) → k ≤ at
       → ranks_from offer (at + 1) ranges ≡ map (moved (shifted k)) (ranks_from offer at ranges)
   later at [] after = refl
-  later at (range ∷ ranges) after =
-      ap (cons_option (closeness offer (at + 1, range))) (later (at + 1) ranges (omega (arith, after)))
+  later at (range ∷ ranges) after = ap (cons_option (closeness offer (at + 1, range))) (later (at + 1) ranges (omega (arith, after)))
       ∙ moved_first range at (at + 1) _ (grind (arith, nat_tests))
 
   -- and with one that covers nothing before them
   one_more : (range : MediaType) (after : List MediaType) → closeness offer (0, range) ≡ None
       → (at : ℕ) (before : List MediaType) → k ≡ at + length before
       → ranks_from offer at (before ++ (range ∷ after)) ≡ map (moved (shifted k)) (ranks_from offer at (before ++ after))
-  one_more range after none at [] long =
-      ap (λ first. cons_option first (ranks_from offer (at + 1) after))
+  one_more range after none at [] long = ap (λ first. cons_option first (ranks_from offer (at + 1) after))
       (covers_so offer range (λ _. at) 0 ∙ ap (option_map (moved (λ _. at))) none) ∙ later at after (omega (arith, long))
   one_more range after none at (other ∷ before) long =
       ap (cons_option (closeness offer (at, other))) (one_more range after none (at + 1) before (omega (arith, long)))
@@ -109,8 +106,7 @@ module _ (before after : List MediaType) (range : MediaType) where
   merits_so : (offers : List MediaType) → ((offer : MediaType) → Contains offers offer → closeness offer (0, range) ≡ None)
       → map (merit with_it) offers ≡ map (moved raised) (map (merit (before ++ after)) offers)
   merits_so [] none = refl
-  merits_so (offer ∷ offers) none = λ i.
-      merit_so offer (none offer (zero, omega arith, refl)) i
+  merits_so (offer ∷ offers) none = λ i. merit_so offer (none offer (zero, omega arith, refl)) i
       ∷ merits_so offers (λ other there. none other (Contains-append_right (offer ∷ []) offers other there)) i
 
 -- so a range that covers none of the offers changes nothing

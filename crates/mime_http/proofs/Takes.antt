@@ -1,5 +1,5 @@
 -- What is taken of lines, piece by piece.
-use Rattle.mime_http.proofs.Common.{AreSorted, AreSpaces, Bool, Header, HttpReads, IsHeader, IsHttpMediaType, IsPrinted, IsUtf8, List, MediaType, OnOk, Outside, Result, Takes, [], a_bad, a_range, ap, append-nil, append_assoc, cut, cut_after, arith, drop, drop_more, drop_of_length-le, flat_map, get_or, if◌then◌else◌, length, lines_or_any, no_text, on_ok_weaker, refl, subst, sym, take, trimmed, ℕ, ◌++◌, ◌+◌, ◌-◌, ◌<◌, ◌∷◌, ◌≡◌, ◌≤◌}
+use Rattle.mime_http.proofs.Common.{AreSorted, AreSpaces, Bool, Header, HttpReads, IsHeader, IsHttpMediaType, IsPrinted, IsUtf8, List, MediaType, OnOk, Outside, Result, Takes, [], a_bad, a_range, append-nil, append_assoc, cut, cut_after, arith, drop, drop_more, drop_of_length-le, flat_map, get_or, if◌then◌else◌, length, lines_or_any, no_text, on_ok_weaker, refl, sym, take, trimmed, ℕ, ◌++◌, ◌+◌, ◌-◌, ◌<◌, ◌∷◌, ◌≡◌, ◌≤◌}
 use Rattle.mime_http.{specs.HttpList.blank, proofs.Cuts.are_cut, proofs.Cuts.only_cut, proofs.Cuts.cut_at_end, proofs.Cuts.end_on, proofs.Around.trimmed_from_blank}
 
 -- two runs of texts are sorted one after the other
@@ -106,8 +106,7 @@ module _ {keeps_bad : Bool} where
   module _ (line : List ℕ) (from : ℕ) {old now : Header} (left : AreLeft keeps_bad old now (cut line) (cut (drop from line))) where
     -- after an empty piece of a line those behind it are left,
     pub past_empty : from < length line → get_or line from 0 ≡ 44 → AreLeft keeps_bad old now (cut line) (cut (drop (from + 1) line))
-    past_empty within comma =
-        rest_left ([] ∷ []) (rw (drop_more line from 0 within, comma) at left) (takes_blank keeps_bad [] now refl)
+    past_empty within comma = rest_left ([] ∷ []) (rw (drop_more line from 0 within, comma) at left) (takes_blank keeps_bad [] now refl)
 
     module _ (end : ℕ) (is : end ≡ end_on Outside line from) {new : Header}
         (taken : Takes keeps_bad (take (end - from) (drop from line) ∷ []) now new) where

@@ -1,5 +1,5 @@
 -- A boundary means itself; what is too long means none, and what has no backslash means itself.
-use Rattle.mime_http.proofs.Common.{IsBoundary, arith, contains_char, rules, subst}
+use Rattle.mime_http.proofs.Common.{IsBoundary, arith, contains_char, rules}
 use Rattle.mime_http.proofs.{Contents.length-unescaped, Contents.unescaped_same, multipart.meant_boundary.Goals.then-bytes-via-then-bytes, multipart.meant_boundary.Goals.then-bytes-via-else-bytes+then-not-contains}
 use Rattle.mime_http.proofs.multipart.meant_boundary.Goals as goal
 

@@ -4,8 +4,7 @@ use Rattle.mime_http.proofs.Demanded.{weight_of_one_decimal}
 use Rattle.mime_http.proofs.range.demanded.Goals as goal
 
 pub returns-in-59 : goal.returns-in-59
-returns-in-59 c =
-    weight_of_one_decimal [] (get_or c.after_essence.result.now 5 0) _ c.args.offer.now.media c.args.range.now.media _ refl
+returns-in-59 c = weight_of_one_decimal [] (get_or c.after_essence.result.now 5 0) _ c.args.offer.now.media c.args.range.now.media _ refl
     c.after_essence.ensures.reads c.after_essence.ensures.after (omega (arith, c.in-59.len_below, c.in-59.len_at_least)) (search rules)
     (search rules) c.tenths.ensures
 

@@ -4,6 +4,5 @@ use Rattle.mime_http.proofs.Takes.{AreLeft, nothing, pieces_of}
 use Rattle.mime_http.proofs.accept.Accept.read.Given as goal
 
 abbrev pub invariant-loop-line : goal.invariant-loop-line
-invariant-loop-line l =
-    AreLeft l.keeps_bad nothing l.accept (pieces_of (lines_or_any (map (λ line. line.now) l.lines)))
+invariant-loop-line l = AreLeft l.keeps_bad nothing l.accept (pieces_of (lines_or_any (map (λ line. line.now) l.lines)))
     (pieces_of (map (λ line. line.now) (drop l.line-index l.lines)))
