@@ -41,7 +41,8 @@ piece_passes (piece_string content piece inside rest) = (refl, (refl, string_pas
 -- a string may have a byte or a pair more at its start
 more_text : {bytes : List ℕ} (b : ℕ) → (b == 34) ≡ false → (b == 92) ≡ false → IsPiece (61 ∷ 34 ∷ bytes) → IsPiece (61 ∷ 34 ∷ b ∷ bytes)
 more_text b quote single (piece_byte _ _ _ opens _) = absurd (true≢false opens)
-more_text b quote single (piece_string content piece inside rest) = piece_string (b ∷ content) piece (string_byte b content quote single inside) rest
+more_text b quote single (piece_string content piece inside rest) =
+    piece_string (b ∷ content) piece (string_byte b content quote single inside) rest
 
 more_pair : {bytes : List ℕ} (b : ℕ) → IsPiece (61 ∷ 34 ∷ bytes) → IsPiece (61 ∷ 34 ∷ 92 ∷ b ∷ bytes)
 more_pair b (piece_byte _ _ _ opens _) = absurd (true≢false opens)
@@ -248,8 +249,8 @@ module _ (line : List ℕ) {end : ℕ} (is : end ≡ piece_len Outside line) whe
 -- ---- each line has a cut
 
 -- the pieces of a line, before those of the next lines, are between commas
-is_cut : (most : ℕ) (line : List ℕ) → length line < most → {lines pieces : List (List ℕ)} → AreBetweenCommas IsPiece BeginsPiece lines pieces
-    → AreBetweenCommas IsPiece BeginsPiece (line ∷ lines) (cut line ++ pieces)
+is_cut : (most : ℕ) (line : List ℕ) → length line < most → {lines pieces : List (List ℕ)}
+    → AreBetweenCommas IsPiece BeginsPiece lines pieces → AreBetweenCommas IsPiece BeginsPiece (line ∷ lines) (cut line ++ pieces)
 is_cut zero line short rest = absurd (omega (arith, short))
 is_cut (suc most) line short {lines} {pieces} rest =
     let n = piece_len Outside line in

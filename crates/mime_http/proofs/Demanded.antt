@@ -137,6 +137,6 @@ meaning_counts range other offer offered at same alike weighs =
     all_by_meaning offer range.pairs ∙ ((λ i. list_all (has_meant (alike.pairs i)) (demanded (same.pairs i)))
     ∙ sym (all_by_meaning offered other.pairs)) in
     let count : length (demanded range.pairs) ≡ length (demanded other.pairs) =
-    sym (length-map (demanded range.pairs) meaning_of) ∙ (ap length (sym (demanded-map range.pairs) ∙ (ap demanded same.pairs ∙ demanded-map other.pairs))
-    ∙ length-map (demanded other.pairs) meaning_of) in
+    sym (length-map (demanded range.pairs) meaning_of) ∙ (ap length (sym (demanded-map range.pairs) ∙ (ap demanded same.pairs
+    ∙ demanded-map other.pairs)) ∙ length-map (demanded other.pairs) meaning_of) in
     grind (arith, all, count, weighs, same.essence, alike.essence, alike.top)

@@ -1,6 +1,6 @@
 -- The highest of ranks: which one a fold keeps, as the closest range's, and where it stands first, as the best offer's.
-use Rattle.mime_http.proofs.Common.{All, All-contains, AllPass-from_list_all, Bool, ClosestIsClosest, Contains, Contains-append_right, Contains-get_or, Equal, IsTotalOrder, List, MediaType, None, Option, Ordering, Rank, Some, [], and_from, ap, arith, by_option, cases_lt, closeness, closest, enumerate_from, fails_before_first, false, filter_map, find, find_at, fold, get_or, get_or-map, get_or_default, get_or_past, if◌then◌else◌, inl, inr, is_gt, is_le, is_lt, length, length-map, list_all, list_all-from_AllPass, map, nat_cmp_total, nat_lt, nat_tests, on_total, option_cmp, ord_max, passes_at_first, position, position_or_len, position_or_len_is, rank_cmp, refl, same_Some, slice_get-get_or, subst, sym, then_total, true, true≢false, ℕ, ⊎_elim, ◌&&◌, ◌+◌, ◌<◌, ◌∙◌, ◌∷◌, ◌≡◌, ◌≤◌, ◌⊎◌}
-use Rattle.std.{proofs.lemmas.Cmp.upto, proofs.lemmas.List.Elements.All-cons, proofs.lemmas.List.Elements.All-head, proofs.lemmas.List.Elements.All-nil, proofs.lemmas.List.Folds.list_all_at, proofs.lemmas.Bool.and_right, proofs.lemmas.Bool.and_left, proofs.lemmas.Bool.cases_cond, specs.Cmp.Lexicographic.options_total}
+use Rattle.mime_http.proofs.Common.{All, All-contains, AllPass-from_list_all, list_any, list_any_at, cases_Bool, suc, Bool, ClosestIsClosest, Contains, Contains-append_right, Equal, IsTotalOrder, List, MediaType, None, Option, Ordering, Rank, Some, [], and_from, ap, arith, by_option, cases_lt, closeness, closest, enumerate_from, false, filter_map, find, fold, get_or, get_or-map, get_or_default, get_or_past, if◌then◌else◌, inl, inr, is_gt, is_le, is_lt, length, length-map, list_all, list_all-from_AllPass, map, nat_cmp_total, nat_lt, nat_tests, on_total, option_cmp, ord_max, position, position_or_len, position_or_len_is, rank_cmp, refl, same_Some, subst, sym, then_total, true, true≢false, ℕ, ⊎_elim, ◌&&◌, ◌+◌, ◌<◌, ◌∙◌, ◌∷◌, ◌≡◌, ◌≤◌, ◌⊎◌}
+use Rattle.std.{proofs.lemmas.Cmp.upto, proofs.lemmas.List.Elements.All-cons, proofs.lemmas.List.Elements.All-nil, proofs.lemmas.List.Folds.list_all_at, proofs.lemmas.Bool.and_right, proofs.lemmas.Bool.and_left, proofs.lemmas.Bool.cases_cond, specs.Cmp.Lexicographic.options_total}
 use borrow.Author.Count.{below_more}
 
 -- the value of an item's value is the one at its position
@@ -75,20 +75,18 @@ folded f first [] = refl
 folded f first (x ∷ xs) = grind (arith, folded f first xs, folded f (ord_max cmp first (f x)) xs)
 
 -- whether no other rank is above one
-abbrev is_low : Rank → Rank → Bool
-is_low other one = is_le (rank_cmp other one)
+abbrev pub is_low : Rank → Rank → Bool
+is_low one other = is_le (rank_cmp other one)
 
 abbrev pub is_top : List Rank → Rank → Bool
-is_top all one = list_all (λ other. is_low other one) all
+is_top all one = list_all (is_low one) all
 
 -- what is found, if no other passes
-find_one : {X : Type 0} (p : X → Bool) (xs : List X) (x : X) → Contains xs x → p x ≡ true → ((y : X) → Contains xs y → p y ≡ true → y ≡ x)
-    → find p xs ≡ Some x
-find_one p xs x (k, among, is) passes one =
-    let at = position_or_len p xs in
-    let within : at < length xs = ⊎_elim (λ before. before) (λ past. absurd (true≢false (sym passes ∙ (ap p (sym is)
-    ∙ fails_before_first p xs k x (omega (arith, among, past)))))) (cases_lt at (length xs)) in
-    find_at p xs ∙ (slice_get-get_or xs at x within ∙ ap Some (one _ (Contains-get_or xs at x within) (passes_at_first p xs x within)))
+find_one : {X : Type 0} (p : X → Bool) (xs : List X) (x : X) → list_any p xs ≡ true → All (λ y. p y ≡ true → y ≡ x) xs → find p xs ≡ Some x
+find_one p [] x some one = absurd cc
+find_one p (y ∷ xs) x some one =
+    ⊎_elim (λ passes. rw passes (ap Some (one 0 y (omega arith) passes)))
+    (λ fails. rw fails (find_one p xs x (rw fails at some) (λ k d within. one (suc k) d (omega (arith, within))))) (cases_Bool (p y))
 
 -- the highest is the one that none is above
 found_top : (all : List Rank) → find (is_top all) all ≡ fold (ord_max cmp) None (map Some all)
@@ -99,37 +97,35 @@ found_top (rank ∷ ranks) = by (fold (ord_max cmp) None (map Some all)) (top_of
     all = rank ∷ ranks
 
     by : (top : Option Rank) → IsTop Some None all top → find (is_top all) all ≡ top
-    by None is = absurd (true≢false (All-head (λ one. NotAbove None (Some one)) rank ranks is.above))
+    by None is = absurd (true≢false (is.above 0 rank (omega arith)))
     by (Some top) is =
         let found : (x : Rank) × Contains all x × (Some x ≡ Some top) = ⊎_elim (λ none. absurd cc) (λ found. found) is.among in
-        let there : Contains all top = rw (same_Some _ _ found.2) at found.1 in
-        let low = λ (other : Rank). All-contains (λ one. NotAbove (Some top) (Some one)) all other is.above in
-        find_one (is_top all) all top there
-        (list_all-from_AllPass (λ one. is_low one top) all (λ k d within. let low = is.above k d within in grind (arith, nat_tests, low)))
-        (λ other among high. one_rank other top (grind (
-          arith,
-          nat_tests,
-          low other among,
-          All-contains (λ one. is_low one other ≡ true) all top (AllPass-from_list_all (λ one. is_low one other) all high) there,
-        )))
+        let (k, within, there) : Contains all top = rw (same_Some _ _ found.2) at found.1 in
+        let top_passes = list_all-from_AllPass (is_low top) all (λ j d inside.
+        let low = is.above j d inside in grind (arith, nat_tests, low)) in
+        find_one (is_top all) all top (list_any_at (is_top all) all k top within (ap (is_top all) there ∙ top_passes)) (λ j d inside passes.
+        let low = is.above j d inside in
+        let high = rw there at (AllPass-from_list_all (is_low (get_or all j d)) all passes k top within) in
+        one_rank _ top (grind (arith, nat_tests, low, high)))
 
 -- ---- the closest range
 
 -- the range that a fold over the ranges keeps is the closest,
 pub closest_is_kept : (ranges : List MediaType) (offer : MediaType)
     → fold (ord_max cmp) None (map (closeness offer) (enumerate_from 0 ranges)) ≡ closest ranges offer
-closest_is_kept ranges offer = sym (folded (closeness offer) None (enumerate_from 0 ranges)) ∙ sym (found_top (filter_map (closeness offer) (enumerate_from 0 ranges)))
+closest_is_kept ranges offer =
+    let items = enumerate_from 0 ranges in
+    sym (folded (closeness offer) None items) ∙ sym (found_top (filter_map (closeness offer) items))
 
 -- and no other is closer
 pub closest_is_closest : ClosestIsClosest
 closest_is_closest ranges offer =
     let items = enumerate_from 0 ranges in
     let is = subst (IsTop (closeness offer) None items) (closest_is_kept ranges offer) (top_of (closeness offer) None items) in
-    let low = λ (item : ℕ × MediaType) (there : Contains items item).
-    All-contains (λ item. is_gt (cmp (closeness offer item) (closest ranges offer)) ≡ false) items item is.above there in
+    let low = λ (item : ℕ × MediaType). All-contains (λ item. NotAbove (closest ranges offer) (closeness offer item)) items item is.above in
     by_option (closest ranges offer) (λ none. rw none (λ item there. grind (arith, nat_tests, low item there, none)))
     (λ close found. rw found (
-      ⊎_elim (λ none. absurd (cc)) (λ found. found) (rw found at is.among),
+      ⊎_elim (λ none. absurd cc) (λ found. found) (rw found at is.among),
       λ item other there covers. grind (arith, nat_tests, low item there, found, covers),
     ))
 
@@ -139,52 +135,58 @@ closest_is_closest ranges offer =
 abbrev pub is_best : List Rank → Rank → Bool
 is_best all one = nat_lt 0 one.0 && is_top all one
 
+-- whether a rank is above another
+abbrev pub beats : Rank → Rank → Bool
+beats one other = is_gt (rank_cmp one other)
+
+-- what is above one rank is above what isn't,
+above_both : (x y z : Rank) → beats x y ≡ true → beats z y ≡ false → beats x z ≡ true
+above_both x y z above low = grind (arith, nat_tests)
+
+-- which isn't above it
+not_back : (x y : Rank) → beats x y ≡ true → beats y x ≡ false
+not_back x y above = grind (arith, nat_tests)
+
 -- of the ranks before a position that weigh something, none is above the highest, which has a first place if it weighs something
 pub record IsHighest (ranks : List Rank) (at : ℕ) (most : Rank) (best : Option ℕ) : Type 0 where
-  pub above : (j : ℕ) → j < at → 0 < (rank_at ranks j).0 → is_gt (rank_cmp (rank_at ranks j) most) ≡ false
+  pub above : (j : ℕ) → j < at → 0 < (rank_at ranks j).0 → beats (rank_at ranks j) most ≡ false
   pub first : 0 < most.0 → (place : ℕ) × (best ≡ Some place) × (rank_at ranks place ≡ most)
-      × ((j : ℕ) → j < place → is_gt (rank_cmp most (rank_at ranks j)) ≡ true)
-
--- what is above one rank is above what isn't
-above_both : (x y z : Rank) → is_gt (rank_cmp x y) ≡ true → is_gt (rank_cmp z y) ≡ false → is_gt (rank_cmp x z) ≡ true
-above_both x y z above low = grind (arith, nat_tests)
+      × ((j : ℕ) → j < place → 0 < (rank_at ranks j).0 → beats most (rank_at ranks j) ≡ true)
 
 module _ {ranks : List Rank} {at : ℕ} {most : Rank} {best : Option ℕ} (x : Rank) (was : IsHighest ranks at most best)
     (next : x ≡ rank_at ranks at) where
   -- a rank above the highest is the highest, and last,
-  pub highest_raised : is_gt (rank_cmp x most) ≡ true → IsHighest ranks (at + 1) x (Some at)
-  highest_raised higher = record {
-    above = below_more (λ j. 0 < (rank_at ranks j).0 → is_gt (rank_cmp (rank_at ranks j) x) ≡ false) at
-        (λ j less some. grind (arith, nat_tests, above_both x most (rank_at ranks j) higher (was.above j less some))) (λ _. rw (sym next) (grind (arith, nat_tests)));
-    first = λ some. (
-      at,
-      refl,
-      sym next,
-      λ j less. ⊎_elim (λ heavy. above_both x most (rank_at ranks j) higher (was.above j less heavy))
-          (λ light. grind (arith, nat_tests, light, some)) (cases_lt 0 (rank_at ranks j).0),
-    );
-  }
+  pub highest_raised : beats x most ≡ true → IsHighest ranks (at + 1) x (Some at)
+  highest_raised higher =
+      let beaten = λ (j : ℕ) (less : j < at) (some : 0 < (rank_at ranks j).0). above_both x most (rank_at ranks j) higher (was.above j less some) in
+      record {
+        above = below_more (λ j. 0 < (rank_at ranks j).0 → beats (rank_at ranks j) x ≡ false) at
+            (λ j less some. not_back x (rank_at ranks j) (beaten j less some)) (λ _. rw (sym next) (grind (arith, nat_tests)));
+        first = λ _. (at, refl, sym next, beaten);
+      }
 
   -- and beside another the highest stays
-  pub highest_stays : is_gt (rank_cmp x most) ≡ false → IsHighest ranks (at + 1) most best
+  pub highest_stays : beats x most ≡ false → IsHighest ranks (at + 1) most best
   highest_stays low = record {
-    above = below_more (λ j. 0 < (rank_at ranks j).0 → is_gt (rank_cmp (rank_at ranks j) most) ≡ false) at was.above (λ _. rw (sym next) low);
+    above = below_more (λ j. 0 < (rank_at ranks j).0 → beats (rank_at ranks j) most ≡ false) at was.above (λ _. rw (sym next) low);
     first = was.first;
   }
 
 -- so the best offer is where the highest of all ranks is first, if that weighs something
 pub best_is_found : {all : List Rank} {at : ℕ} {most : Rank} {best : Option ℕ} → IsHighest all at most best → length all ≤ at
     → position (is_best all) all ≡ (if nat_lt 0 most.0 then best else None)
-best_is_found {all} {at} {most} {best} is past = ⊎_elim (λ some.
+best_is_found {all} {at} {most} {best} is past =
+    let light = λ (j : ℕ) (none : (rank_at all j).0 ≤ 0). and_left (nat_lt 0 (rank_at all j).0) (is_top all (rank_at all j)) (grind (arith, nat_tests)) in
+    ⊎_elim (λ some.
     let (place, same, there, before) = is.first some in
     let within : place < length all = grind (arith, some, there, get_or_past all place lowest) in
-    let found = position_or_len_is (is_best all) all place lowest (omega (arith, within))
-    (λ j less. and_right _ _ (list_all_at (λ other. is_low other (rank_at all j)) all place lowest within
-    (grind (arith, nat_tests, there, before j less))))
-    (λ _. and_from _ _ (grind (arith, nat_tests, there, some)) (list_all-from_AllPass (λ other. is_low other (rank_at all place)) all
-    (λ k d less. rw (get_or_default all k d lowest less, there) (grind (arith, nat_tests, is.above k (omega (arith, past, less)), some))))) in
+    let found = position_or_len_is (is_best all) all place lowest (omega (arith, within)) (λ j less. ⊎_elim (λ heavy.
+    and_right _ _ (list_all_at (is_low (rank_at all j)) all place lowest within (grind (arith, nat_tests, there, before j less heavy))))
+    (light j) (cases_lt 0 (rank_at all j).0))
+    (λ _. and_from _ _ (grind (arith, nat_tests, there, some)) (list_all-from_AllPass (is_low (rank_at all place)) all (λ k d less.
+    rw (get_or_default all k d lowest less, there) (grind (arith, nat_tests, is.above k (omega (arith, past, less)), some))))) in
     grind (arith, nat_tests, found, same, within, some))
     (λ none.
     let found = position_or_len_is (is_best all) all (length all) lowest (omega arith)
-    (λ j less. and_left (nat_lt 0 (rank_at all j).0) _ (grind (arith, nat_tests, is.above j (omega (arith, past, less)), none))) (λ less. absurd (omega (arith, less))) in
+    (λ j less. light j (grind (arith, nat_tests, is.above j (omega (arith, past, less)), none))) (λ less. absurd (omega (arith, less))) in
     grind (arith, nat_tests, found, none)) (cases_lt 0 most.0)

@@ -114,13 +114,14 @@ in_order {ranges} {offers} order are is = rw is (record {
   best_first = are.best_first;
   all = λ at. (
     λ there. omega (arith, ((are.all at).0 there).1),
-    λ weighs. (are.all at).1 (omega (arith, weighs_within (map (merit ranges) offers) at weighs, length-map offers (merit ranges)), omega (arith, weighs)),
+    λ weighs. (are.all at).1
+        (omega (arith, weighs_within (map (merit ranges) offers) at weighs, length-map offers (merit ranges)), omega (arith, weighs)),
   );
 })
 
 -- and what all say of the ranges that decide
-pub is_ranking : {ranges offers : List MediaType} {ranked : List (Reverse Rank × ℕ)} (count : ℕ) (ranking : List RankedOffer) → AreRanked 0 ranges offers ranked
-    → count ≡ length ranges → ranking ≡ map (λ one. ranked_as count one.0.0 one.1) ranked → IsRanking ranges offers ranking
+pub is_ranking : {ranges offers : List MediaType} {ranked : List (Reverse Rank × ℕ)} (count : ℕ) (ranking : List RankedOffer)
+    → AreRanked 0 ranges offers ranked → count ≡ length ranges → ranking ≡ map (λ one. ranked_as count one.0.0 one.1) ranked → IsRanking ranges offers ranking
 is_ranking {ranges} {offers} {ranked} count ranking are counted is = record {
   order = map place ranked;
   best_first = are.best_first;
@@ -151,7 +152,7 @@ best_by_order ranks [] first all = best_is_found {at = length ranks} {most = low
 }) (omega arith)
 best_by_order ranks (best ∷ others) first all = best_is_found {at = length ranks} {most = rank_at ranks best} (record {
   above = λ at _ weighs. grind (arith, nat_tests, stands at weighs);
-  first = λ some. (best, refl, refl, λ at less. ⊎_elim (λ weighs. grind (arith, nat_tests, less, stands at weighs)) (λ none. grind (arith, nat_tests, none, some)) (cases_lt 0 (rank_at ranks at).0));
+  first = λ _. (best, refl, refl, λ at less weighs. grind (arith, nat_tests, less, stands at weighs));
 }) (omega arith)
   where
     stands : (at : ℕ) → 0 < (rank_at ranks at).0 → (best ≡ at) ⊎ ComesBefore (rank_at ranks) best at

@@ -3,8 +3,8 @@ use Rattle.mime_http.proofs.Common.{Contains, None, Some, [], ap, arith, codes, 
 use Rattle.mime_http.{specs.Ranges.merit_at, specs.Ranking.IsRanking, specs.Ranking.is_lacking, specs.Ranking.is_qvalue, specs.Ranking.ranked_as, proofs.RangesFacts.all, proofs.RangesFacts.media}
 
 -- strings that are weights (RFC 9110, 12.4.2), and others
-qvalues :
-    (is_qvalue (codes "0") ≡ true) × (is_qvalue (codes "0.") ≡ true) × (is_qvalue (codes "0.125") ≡ true) × (is_qvalue (codes "1.000") ≡ true)
+qvalues : (is_qvalue (codes "0") ≡ true) × (is_qvalue (codes "0.") ≡ true)
+    × (is_qvalue (codes "0.125") ≡ true) × (is_qvalue (codes "1.000") ≡ true)
     -- a fourth decimal is too many, and nothing is above 1
     × (is_qvalue (codes "0.1250") ≡ false) × (is_qvalue (codes "1.5") ≡ false) × (is_qvalue (codes "2") ≡ false)
     -- a digit comes before the dot, and no other byte

@@ -12,8 +12,10 @@ loop-at-preserved c =
     let above : is_gt (rank_cmp found c.loop-at.most) ≡ c.gt.result = grind (arith, nat_tests, c.gt.ensures) in
     let first = c.loop-at.invariant.first in
     elim c.if-gt.branch [
-      | then-gt w ↦ rw (w.most-is, w.best-is) (record { first = highest_raised found first rank (above ∙ w.if-gt.true); within = omega arith })
-      | else-gt w ↦ rw (w.most-is, w.best-is) (record { first = highest_stays found first rank (above ∙ w.if-gt.false); within = grind (arith, c.loop-at.invariant.within) })
+      | then-gt w ↦ rw (w.most-is, w.best-is)
+          (record { first = highest_raised found first rank (above ∙ w.if-gt.true); within = omega arith })
+      | else-gt w ↦ rw (w.most-is, w.best-is)
+          (record { first = highest_stays found first rank (above ∙ w.if-gt.false); within = grind (arith, c.loop-at.invariant.within) })
     ]
 
 pub returns-then-most-gt0-clause-exact : goal.returns-then-most-gt0-clause-exact

@@ -9,4 +9,5 @@ pub returns : goal.returns
 returns c =
     let lacks = is_lacking c.args.offer.now.media in
     position_from_yields_List (λ range. lacks range.media) _ _ c.position.result c.position.ensures.ran
-    (YieldsList-from_slice c.args.ranges.now cc) (λ x b q k. search (rules, tests)) ∙ sym (position-map lacks (λ range. range.media) c.args.ranges.now)
+    (YieldsList-from_slice c.args.ranges.now cc) (λ x b q k. search (rules, tests))
+    ∙ sym (position-map lacks (λ range. range.media) c.args.ranges.now)
