@@ -1,5 +1,5 @@
 -- Lines are cut in one way, and each line is; and how far a line's first piece goes.
-use Rattle.mime_http.proofs.Common.{drop_of_length-le, AreBetweenCommas, At, BeginsPiece, IsInString, IsPiece, List, OneCut, Outside, [], after, after_outside, ap, append-nil, append_assoc, arith, nat_tests, comma, cond_both, cut, cut_from, ends, eqb-true, false, flat_map, line_end, no_line, opens_string, piece_byte, piece_end, piece_string, refl, string_byte, string_end, string_pair, subst, sym, true, ℕ, ⊤, ◌++◌, ◌==◌, ◌∙◌, ◌∷◌, ◌≡◌, Equals, Paired, before_mark, Bool, ap₂, cond, cut_after, drop, drop-drop, drop_more, get_or, get_or-drop, is_mark, length, length-drop, min, not, prefix_len, prefix_len-le-length, suc, take, zero, ◌&&◌, ◌+◌, ◌-◌, ◌<◌, ◌≤◌, IsNextOutside, piece_len, passes_at_first, true≢false, cases_Bool, ⊎_elim, take-append-drop, take_all, cases_lt}
+use Rattle.mime_http.proofs.Common.{drop_of_length-le, AreBetweenCommas, At, BeginsPiece, IsInString, IsPiece, List, OneCut, Outside, [], after, after_outside, ap, append-nil, append_assoc, arith, nat_tests, comma, cond_both, cut, cut_from, ends, eqb-true, false, flat_map, line_end, no_line, opens_string, piece_byte, piece_end, piece_string, refl, string_byte, string_end, string_pair, subst, sym, true, ℕ, ⊤, ◌++◌, ◌==◌, ◌∙◌, ◌∷◌, ◌≡◌, Equals, Paired, before_mark, Bool, cond, cut_after, drop, drop-drop, drop_more, get_or, get_or-drop, is_mark, length, length-drop, min, not, prefix_len, prefix_len-le-length, suc, take, zero, ◌&&◌, ◌+◌, ◌-◌, ◌<◌, ◌≤◌, IsNextOutside, piece_len, passes_at_first, true≢false, cases_Bool, ⊎_elim, take-append-drop, take_all, cases_lt}
 use Rattle.mime_http.specs.LineCut.{Quoted}
 use Rattle.mime_search.{specs.Classes.is_stop, specs.Classes.end_of_run, specs.Quoted.awaits_next, specs.Quoted.len_from, specs.declared.class.Class.Class}
 
@@ -86,24 +86,25 @@ is_piece place (b ∷ bytes) whole = further place b bytes whole.0 (is_piece (af
 first_piece : (bytes more rest : List ℕ) (place : At) (piece : List ℕ) {pieces : List (List ℕ)} → IsWhole place (bytes ++ more)
     → ((place : At) (piece : List ℕ) → IsWhole place more → cut_from place piece rest ≡ piece ∷ pieces)
     → cut_from place piece (bytes ++ rest) ≡ (piece ++ bytes) ∷ pieces
-first_piece [] more rest place piece {pieces} whole ends = ends place piece whole ∙ ap (λ p. p ∷ pieces) (sym (append-nil piece))
+first_piece [] more rest place piece {pieces} whole ends = rw (append-nil piece) (ends place piece whole)
 first_piece (b ∷ bytes) more rest place piece {pieces} whole ends =
-    rw whole.0 (first_piece bytes more rest (after place b) (piece ++ (b ∷ [])) whole.1 ends
-    ∙ ap (λ p. p ∷ pieces) (append_assoc piece (b ∷ []) bytes))
+    rw (whole.0, sym (append_assoc piece (b ∷ []) bytes)) (first_piece bytes more rest (after place b) (piece ++ (b ∷ [])) whole.1 ends)
 
 -- a text that begins a piece is cut into itself
 pub cut_of_piece : {text : List ℕ} → BeginsPiece text → cut text ≡ text ∷ []
 cut_of_piece {text} begins =
-    ap cut (sym (append-nil text)) ∙ first_piece text begins.0 [] Outside [] (piece_passes begins.1) (λ place piece whole. refl)
+    rw (append-nil text) at (first_piece text begins.0 [] Outside [] {pieces = []} (piece_passes begins.1) (λ place piece whole. refl))
 
 -- the pieces between commas are those of the cut
 pub only_cut : {lines pieces : List (List ℕ)} → AreBetweenCommas IsPiece BeginsPiece lines pieces → pieces ≡ flat_map cut lines
 only_cut no_line = refl
-only_cut (line_end text lines texts begins rest) =
-    ap (λ ps. text ∷ ps) (only_cut rest) ∙ ap (λ c. c ++ flat_map cut lines) (sym (cut_of_piece begins))
-only_cut (comma text line lines texts is rest) =
-    ap (λ ps. text ∷ ps) (only_cut rest) ∙ ap (λ c. c ++ flat_map cut lines) (sym (first_piece text [] (44 ∷ line) Outside []
-    (subst (IsWhole Outside) (sym (append-nil text)) (piece_passes is)) (λ place piece whole. grind (arith, nat_tests, whole))))
+only_cut (line_end text lines texts begins rest) = grind (arith, only_cut rest, cut_of_piece begins)
+only_cut (comma text line lines texts is rest) = grind (
+  arith,
+  only_cut rest,
+  first_piece text [] (44 ∷ line) Outside [] {pieces = cut line}
+      (rw (append-nil text) (piece_passes is)) (λ place piece whole. grind (arith, nat_tests, whole)),
+)
 
 -- where the piece ends that a position of a line is in, at this place
 abbrev pub end_on : At → List ℕ → ℕ → ℕ
@@ -120,8 +121,7 @@ no_quote_next (c ∷ bytes) other = rw other refl
 pub outside_byte : (line : List ℕ) (at : ℕ) → at < length line → (get_or line at 0 == 44) ≡ false
     → (get_or line at 0 == 61 && get_or line (at + 1) 0 == 34) ≡ false → end_on Outside line (at + 1) ≡ end_on Outside line at
 outside_byte line at within on opens =
-    let next = get_or-drop (at + 1) line 0 0 ∙ ap (λ i. get_or line i 0) {y = at + 1} (omega arith) in
-    grind (arith, nat_tests, drop_more line at 0 within, on, opens, next, no_quote_next (drop (at + 1) line))
+    grind (arith, nat_tests, drop_more line at 0 within, on, opens, get_or-drop (at + 1) line 0 0, no_quote_next (drop (at + 1) line))
 
 -- a comma outside strings ends the piece, and so does the line's end
 pub ends_outside : (line : List ℕ) (at : ℕ) → (at < length line → get_or line at 0 ≡ 44) → end_on Outside line at ≡ at
@@ -171,9 +171,8 @@ pub string_closed : (line : List ℕ) (from to : ℕ) → from ≤ length line �
     → to + piece_len Outside (drop to line) ≡ from + piece_len Quoted (drop from line)
 string_closed line from to within is =
     let n = min (len_from false (drop from line) + 1) (length (drop from line)) in
-    ap (end_on Outside line) {y = from + n} (omega (arith, length-drop from line))
-    ∙ (ap (λ rest. from + n + piece_len Outside rest) (sym (drop-drop n from line)) ∙ (omega arith
-    ∙ ap (λ n. from + n) (string_left false (drop from line))))
+    let to_is : to ≡ from + n = omega (arith, is, length-drop from line) in
+    rw (to_is, sym (drop-drop n from line)) (omega (arith, string_left false (drop from line)))
 
 -- ---- the next mark
 
@@ -202,17 +201,18 @@ outside_next line from to within is =
 cut_goes_on : (place : At) (piece bytes : List ℕ) → cut_from place piece bytes
     ≡ (piece ++ take (piece_len place bytes) bytes) ∷ cut_after (drop (piece_len place bytes) bytes)
 cut_goes_on place piece [] = ap (λ p. p ∷ []) (sym (append-nil piece))
-cut_goes_on place piece (b ∷ bytes) =
-    let rest = cut_goes_on (after place b) (piece ++ (b ∷ [])) bytes in
-    grind (arith, append-nil piece, append_assoc piece (b ∷ []) (take (piece_len (after place b) bytes) bytes), rest)
+cut_goes_on place piece (b ∷ bytes) = grind (
+  arith,
+  append-nil piece,
+  append_assoc piece (b ∷ []) (take (piece_len (after place b) bytes) bytes),
+  cut_goes_on (after place b) (piece ++ (b ∷ [])) bytes,
+)
 
 -- so from a position on it has the bytes up to the piece's end first
 pub cut_at_end : (line : List ℕ) (from end : ℕ) → end ≡ end_on Outside line from
     → cut (drop from line) ≡ take (end - from) (drop from line) ∷ cut_after (drop end line)
 cut_at_end line from end is =
-    let n = piece_len Outside (drop from line) in
-    cut_goes_on Outside [] (drop from line)
-    ∙ ap₂ (λ m left. take m (drop from line) ∷ cut_after left) (omega (arith, is)) (drop-drop n from line ∙ ap (λ i. drop i line) (sym is))
+    grind (arith, is, cut_goes_on Outside [] (drop from line), drop-drop (piece_len Outside (drop from line)) from line)
 
 -- ---- the first piece
 
