@@ -4,38 +4,32 @@ use Rattle.mime_http.proofs.Common.{IsFirstAccepted, Item, List, MediaType, None
 use Rattle.mime.{specs.declared.name.Name.Name, proofs.HandedOut.text_of-essence}
 use Rattle.mime_http.proofs.{Numbers.read_is, Written.lengths}
 
--- a count of parameters, and a weight
-abbrev pub Found : Type 0
-Found = ℕ × ℕ
-
--- the count and the weight that were found
-abbrev pub found_of : ℕ → Option (List ℕ) → Option Found
+-- the count of parameters and the weight that were found
+abbrev pub found_of : ℕ → Option (List ℕ) → Option (ℕ × ℕ)
 found_of count weight = Some (count, unwrap_or (option_map thousandths_of weight) 1000)
 
 -- what a range demands of an offer, if that has it, and the range's weight
-abbrev pub found_in : MediaType → List (List ℕ × List ℕ) → Option Found
+abbrev pub found_in : MediaType → List (List ℕ × List ℕ) → Option (ℕ × ℕ)
 found_in offer pairs =
     if list_all (has offer) (demanded pairs) then found_of (length (demanded pairs)) (first_value (codes "q") pairs) else None
 
 -- the same, of which some was counted and a weight may be known, and these items are left
-abbrev pub found_from : MediaType → ℕ → Option (List ℕ) → List Item → Option Found
+abbrev pub found_from : MediaType → ℕ → Option (List ℕ) → List Item → Option (ℕ × ℕ)
 found_from offer count weight [] = found_of count weight
 found_from offer count weight (item ∷ items) =
     if bytes_eq item.name (codes "q") then found_from offer count (option_or weight (Some item.value)) items else
     if has offer (item.name, item.value) then found_from offer (count + 1) weight items else None
 
 -- the items of a range's pairs decide what is found
-found_after : (offer : MediaType) (count : ℕ) (weight : Option (List ℕ)) (pairs : List (List ℕ × List ℕ))
+pub found_after : (offer : MediaType) (count : ℕ) (weight : Option (List ℕ)) (pairs : List (List ℕ × List ℕ))
     → found_from offer count weight (items_of pairs) ≡ (if list_all (has offer) (demanded pairs)
     then found_of (count + length (demanded pairs)) (option_or weight (first_value (codes "q") pairs)) else None)
 found_after offer count weight [] = grind (arith)
-found_after offer count weight (pair ∷ pairs) =
-    let weighs = found_after offer count (option_or weight (Some pair.1)) pairs in
-    grind (arith, weighs, found_after offer (count + 1) weight pairs)
-
--- from the first on
-pub found_of_all : (offer : MediaType) (pairs : List (List ℕ × List ℕ)) → found_from offer 0 None (items_of pairs) ≡ found_in offer pairs
-found_of_all offer pairs = grind (arith, found_after offer 0 None pairs)
+found_after offer count weight (pair ∷ pairs) = grind (
+  arith,
+  found_after offer count (option_or weight (Some pair.1)) pairs,
+  found_after offer (count + 1) weight pairs,
+)
 
 -- ---- what a look-up finds
 
@@ -91,19 +85,12 @@ weight_of_one_decimal n d weight offer media rest spaces reads after long bytes 
     let read : weight ≡ read_number (48 ∷ 46 ∷ d ∷ []) = rw digit (omega (arith, tenths)) in
     rw (weight_alone media rest n d reads after whole spaces digit) (ap (λ weight. Some (0, weight)) (read ∙ read_is (48 ∷ 46 ∷ d ∷ [])))
 
--- a list of parameters
-abbrev Pairs : Type 0
-Pairs = List (List ℕ × List ℕ)
-
 -- ---- a media type covers itself
 
--- bytes are equal to themselves
-same_bytes : (bytes : List ℕ) → bytes_eq bytes bytes ≡ true
-same_bytes bytes = (bytes_eq-Decides bytes bytes).1 refl
-
--- so a media type has each of its own parameters, and covers itself, but for a weight
+-- it has each of its own parameters, and covers itself, but for a weight
 pub covers_itself : CoversItself
 covers_itself media =
+    let same_bytes = λ (bytes : List ℕ). (bytes_eq-Decides bytes bytes).1 refl in
     let has_own = list_all-from_AllPass (has media) (demanded media.pairs)
     (All-filter (λ pair. not (bytes_eq pair.0 (codes "q"))) (λ pair. has media pair ≡ true) media.pairs (λ k d within.
     let pair = get_or media.pairs k d in
@@ -114,16 +101,16 @@ covers_itself media =
 -- ---- what covers an offer is told by what both mean
 
 -- the same of parameters as they are meant
-abbrev has_meant : Pairs → List ℕ × List ℕ → Bool
+abbrev has_meant : List (List ℕ × List ℕ) → List ℕ × List ℕ → Bool
 has_meant meant pair = list_any (λ own. bytes_eq own.0 pair.0 && bytes_eq own.1 pair.1) meant
 
 -- what is demanded means what is demanded of parameters as they are meant,
-demanded-map : (pairs : Pairs) → demanded (map meaning_of pairs) ≡ map meaning_of (demanded pairs)
+demanded-map : (pairs : List (List ℕ × List ℕ)) → demanded (map meaning_of pairs) ≡ map meaning_of (demanded pairs)
 demanded-map [] = refl
 demanded-map (pair ∷ pairs) = grind (arith, demanded-map pairs)
 
 -- and all of it is there if an offer has what it means
-all_by_meaning : (offer : MediaType) (pairs : Pairs)
+all_by_meaning : (offer : MediaType) (pairs : List (List ℕ × List ℕ))
     → list_all (has offer) (demanded pairs) ≡ list_all (has_meant (map meaning_of offer.pairs)) (demanded (map meaning_of pairs))
 all_by_meaning offer pairs =
     let has_meaning = has_meant (map meaning_of offer.pairs) in

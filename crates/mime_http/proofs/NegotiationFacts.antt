@@ -5,15 +5,11 @@ use Rattle.mime_http.{specs.HttpList.blank, proofs.Around.AreAscii, proofs.Aroun
 -- ---- weights (RFC 9110, 12.4.2)
 
 -- texts and how many thousandths they are
-weights : (thousandths_of (codes "0.5") ≡ 500) × (thousandths_of (codes "1.000") ≡ 1000) × (thousandths_of (codes "0.001") ≡ 1)
-    × (thousandths_of (codes "0") ≡ 0)
-    -- of strings that are no weights, three digits after the dot count, and those before another byte,
-    × (thousandths_of (codes "0.1239") ≡ 123) × (thousandths_of (codes "0x.5") ≡ 0)
-    -- none need be before the dot,
-    × (thousandths_of (codes ".2") ≡ 200)
-    -- `2` is worth no more than 1, and a word nothing
-    × (thousandths_of (codes "2") ≡ 1000) × (thousandths_of (codes "high") ≡ 0)
-weights = (refl, refl, refl, refl, refl, refl, refl, refl, refl)
+weights : (map thousandths_of (codes "0.5" ∷ codes "1.000" ∷ codes "0.001" ∷ codes "0" ∷ []) ≡ 500 ∷ 1000 ∷ 1 ∷ 0 ∷ [])
+    -- of strings that are no weights, three digits after the dot count, and those before another byte, none need be before the dot, `2` is
+    -- worth no more than 1, and a word nothing
+    × (map thousandths_of (codes "0.1239" ∷ codes "0x.5" ∷ codes ".2" ∷ codes "2" ∷ codes "high" ∷ []) ≡ 123 ∷ 0 ∷ 200 ∷ 1000 ∷ 0 ∷ [])
+weights = (refl, refl)
 
 -- by the law, too
 quarter : thousandths_of (codes "0.25") ≡ 250
@@ -47,15 +43,11 @@ trims = refl
 
 -- ---- lists, of which this one has two elements among empty ones
 
--- the parts of a type and a subtype
-abbrev bare : List ℕ → List ℕ → Parts
-bare top sub = record { top = top; sub = sub; pairs = [] }
-
 abbrev a_b : Parts
-a_b = bare (codes "a") (codes "b")
+a_b = record { top = codes "a"; sub = codes "b"; pairs = [] }
 
 abbrev c_d : Parts
-c_d = bare (codes "c") (codes "d")
+c_d = record { top = codes "c"; sub = codes "d"; pairs = [] }
 
 -- what is written as it is printed, but for the white space around it, is a range before others
 as_range : (text : List ℕ) (parts : Parts) {texts bad : List (List ℕ)} {ranges : List MediaType} → AreAscii text

@@ -77,24 +77,17 @@ module _ (offer : MediaType) (k : ℕ) where
       ∙ moved_first other at at _ (grind (arith, nat_tests, long))
 
 module _ (before after : List MediaType) (range : MediaType) where
-  -- the ranges with it,
-  abbrev with_it : List MediaType
-  with_it = before ++ (range ∷ after)
-
-  -- how many there are without it,
-  abbrev count : ℕ
-  count = length (before ++ after)
-
-  -- and how early a range stands with it
+  -- how early a range stands that stood so early without this one
   abbrev raised : ℕ → ℕ
-  raised early = if nat_lt (count - early) (length before) then early + 1 else early
+  raised early = if nat_lt (length (before ++ after) - early) (length before) then early + 1 else early
 
   -- an offer that no range covers ranks as before
   none_stays : moved raised lowest ≡ lowest
   none_stays = grind (arith, nat_tests, length-append before after)
 
   -- each offer ranks so,
-  merit_so : (offer : MediaType) → closeness offer (0, range) ≡ None → merit with_it offer ≡ moved raised (merit (before ++ after) offer)
+  merit_so : (offer : MediaType) → closeness offer (0, range) ≡ None
+      → merit (before ++ (range ∷ after)) offer ≡ moved raised (merit (before ++ after) offer)
   merit_so offer none =
       let g = shifted (length before) in
       let old = ranks_from offer 0 (before ++ after) in
@@ -104,7 +97,7 @@ module _ (before after : List MediaType) (range : MediaType) where
 
   -- and so do all
   merits_so : (offers : List MediaType) → ((offer : MediaType) → Contains offers offer → closeness offer (0, range) ≡ None)
-      → map (merit with_it) offers ≡ map (moved raised) (map (merit (before ++ after)) offers)
+      → map (merit (before ++ (range ∷ after))) offers ≡ map (moved raised) (map (merit (before ++ after)) offers)
   merits_so [] none = refl
   merits_so (offer ∷ offers) none = λ i. merit_so offer (none offer (zero, omega arith, refl)) i
       ∷ merits_so offers (λ other there. none other (Contains-append_right (offer ∷ []) offers other there)) i
