@@ -57,17 +57,13 @@ begins {text} is = ([], rw (append-nil text) is)
 -- ---- forth
 
 -- an element has no comma outside strings, so it is a piece
-elements_are_pieces : {lines texts : List (List ℕ)} {media : List MediaType} → AreBetweenCommas (λ text. ⊤) (λ text. ⊤) lines texts
+are_pieces : {lines texts : List (List ℕ)} {media : List MediaType} → AreBetweenCommas (λ text. ⊤) (λ text. ⊤) lines texts
     → AreElements texts media → AreBetweenCommas IsPiece BeginsPiece lines texts
-elements_are_pieces no_line are = no_line
-elements_are_pieces (line_end text lines texts any rest) (nothing _ _ _ white others) =
-    line_end text lines texts (begins (spaces_are_piece text white)) (elements_are_pieces rest others)
-elements_are_pieces (line_end text lines texts any rest) (element _ _ _ _ utf8 reads others) =
-    line_end text lines texts (begins (http_is_piece reads)) (elements_are_pieces rest others)
-elements_are_pieces (comma text line lines texts any rest) (nothing _ _ _ white others) =
-    comma text line lines texts (spaces_are_piece text white) (elements_are_pieces rest others)
-elements_are_pieces (comma text line lines texts any rest) (element _ _ _ _ utf8 reads others) =
-    comma text line lines texts (http_is_piece reads) (elements_are_pieces rest others)
+are_pieces no_line are = no_line
+are_pieces (line_end _ _ _ _ rest) (nothing _ _ _ white more) = line_end _ _ _ (begins (spaces_are_piece _ white)) (are_pieces rest more)
+are_pieces (line_end _ _ _ _ rest) (element _ _ _ _ _ reads more) = line_end _ _ _ (begins (http_is_piece reads)) (are_pieces rest more)
+are_pieces (comma _ line _ _ _ rest) (nothing _ _ _ white more) = comma _ line _ _ (spaces_are_piece _ white) (are_pieces rest more)
+are_pieces (comma _ line _ _ _ rest) (element _ _ _ _ _ reads more) = comma _ line _ _ (http_is_piece reads) (are_pieces rest more)
 
 -- a text of one media type is printed in some way,
 printed : (text : List ℕ) (media : MediaType) → HttpReads text media
@@ -97,7 +93,7 @@ http_lists_are_read lines media lists =
     let read = sorted_elements lists.elements in (
       read.0,
       read.1,
-      record { pieces = lists.texts; cut = elements_are_pieces lists.between lists.elements; sorted = read.2 },
+      record { pieces = lists.texts; cut = are_pieces lists.between lists.elements; sorted = read.2 },
     )
 
 -- ---- and back

@@ -1,5 +1,5 @@
 -- Worked facts of the pages `HttpList` and `Weight`: what is true of a text, and what is false.
-use Rattle.mime_http.proofs.Common.{IsUtf8, IsUtf8-nil, append-nil, Reads, text_of_parts, AreHttpLists, AreSorted, Header, IsHeader, IsHttpMediaType, IsPiece, IsQvalue, List, MediaType, Parts, [], a_range, answer_of, ap, arith, as_it_stands, codes, cut, get_or, is_token_byte, length, map, media_of, no_text, read, refl, subst, sym, thousandths_of, trimmed, true≢false, two_digits, ℕ, ◌∷◌, ◌≡◌}
+use Rattle.mime_http.proofs.Common.{IsUtf8-nil, append-nil, text_of_parts, AreHttpLists, AreSorted, Header, IsHeader, IsHttpMediaType, IsPiece, IsQvalue, List, MediaType, Parts, [], a_range, answer_of, ap, arith, as_it_stands, codes, cut, get_or, is_token_byte, length, map, media_of, no_text, read, refl, sym, thousandths_of, trimmed, true≢false, two_digits, ℕ, ◌∷◌, ◌≡◌}
 use Rattle.mime_http.{specs.HttpList.blank, proofs.Around.AreAscii, proofs.Around.put_ascii, proofs.Numbers.weight_is_number, proofs.Cuts.cut_of_piece, proofs.Cuts.are_cut, proofs.Lists.one_header, proofs.Lists.http_lists_are_read, proofs.Lists.read_are_http_lists, proofs.Lists.bad_is_alone, proofs.HttpLaws.written_reads, proofs.ReadBack.answered_is_http, proofs.ReadFaults.rejected_is_none}
 
 -- ---- weights (RFC 9110, 12.4.2)
@@ -21,15 +21,11 @@ no_weight is = let same : 1000 ≡ 500 = weight_is_number (codes "1.5") 500 is i
 
 -- ---- pieces
 
--- lines and their pieces
-pieces :
-    -- a comma in a string ends no piece,
-    (cut (codes "a/b;p=\"x,y\",c/d") ≡ codes "a/b;p=\"x,y\"" ∷ codes "c/d" ∷ [])
-    -- nor does one after a quote that a backslash stands before,
+-- lines and their pieces: a comma in a string ends no piece, nor does one after a quote that a backslash stands before,
+pieces : (cut (codes "a/b;p=\"x,y\",c/d") ≡ codes "a/b;p=\"x,y\"" ∷ codes "c/d" ∷ [])
     × (cut (codes "a/b;p=\"\\\",\",c/d") ≡ codes "a/b;p=\"\\\",\"" ∷ codes "c/d" ∷ [])
-    -- or in a string that isn't closed
+    -- or in a string that isn't closed; and a quote opens a string only right after an equals sign
     × (cut (codes "a/b;p=\"x,c/d") ≡ codes "a/b;p=\"x,c/d" ∷ [])
-    -- a quote opens a string only right after an equals sign
     × (cut (codes "a\"b,c\"d") ≡ codes "a\"b" ∷ codes "c\"d" ∷ [])
 pieces = (refl, refl, refl, refl)
 
@@ -54,9 +50,8 @@ as_range : (text : List ℕ) (parts : Parts) {texts bad : List (List ℕ)} {rang
     → answer_of text ≡ read parts → text_of_parts parts ≡ trimmed text → AreSorted texts ranges bad
     → AreSorted (text ∷ texts) (media_of parts ∷ ranges) bad
 as_range text parts ascii answered same =
-    a_range text (media_of parts) _ _ _ (subst IsUtf8 (append-nil text) (put_ascii text [] ascii IsUtf8-nil))
-    (answered_is_http text parts answered)
-    (as_it_stands text (media_of parts) (subst (λ t. Reads t (media_of parts)) same (written_reads text parts answered)))
+    a_range text (media_of parts) _ _ _ (rw (append-nil text) at (put_ascii text [] ascii IsUtf8-nil))
+    (answered_is_http text parts answered) (as_it_stands text (media_of parts) (rw same at (written_reads text parts answered)))
 
 -- empty elements are no elements
 two_elements : AreHttpLists (codes ",a/b , ,c/d" ∷ []) (media_of a_b ∷ media_of c_d ∷ [])

@@ -1,9 +1,9 @@
 -- Worked facts of the pages `Ranges`, `Ranking` and `Unescaped`: what covers an offer, which is the best, and why; with the examples of
 -- RFC 9110 (12.5.1) and of RFC 7231 (5.3.2). Ranges and offers are given by their texts.
-use Rattle.mime_http.proofs.Common.{AreInOrder, Bool, Contains, List, MeanTheSame, MediaType, None, Option, Some, [], ap, arith, best_offer, closeness, codes, drop, false, get_or, given_weight, is_some, map, not, prefix_len, refl, same_Some, slice_get, subst, suc, sym, true, unwrap_or, zero, ℕ, ◌<◌, ◌==◌, ◌∷◌, ◌≡◌, length, length-map, list_all, list_any}
+use Rattle.mime_http.proofs.Common.{All-contains, AreInOrder, Bool, Contains, List, MeanTheSame, MediaType, None, Option, Some, [], ap, arith, best_offer, closeness, codes, drop, false, get_or, given_weight, is_some, map, not, prefix_len, refl, same_Some, slice_get, subst, suc, sym, true, unwrap_or, zero, ℕ, ◌<◌, ◌==◌, ◌∷◌, ◌≡◌, length, length-map, list_all, list_any}
 use Rattle.std.specs.List.{slice_split}
 use Prim.Native.String.{String}
-use Rattle.mime_http.{specs.Ranges.merit_at, specs.Ranking.IsRanking, specs.Ranking.is_lacking, specs.Ranking.is_qvalue, specs.Ranking.ranked_as, proofs.Order.best_is_acceptable, proofs.Order.best_is_first, proofs.Demanded.covers_itself, proofs.Demanded.meaning_counts, proofs.Strangers.stranger_changes_nothing}
+use Rattle.mime_http.{specs.Ranking.IsRanking, specs.Ranking.is_lacking, specs.Ranking.is_qvalue, specs.Ranking.ranked_as, proofs.Order.best_is_acceptable, proofs.Order.best_is_first, proofs.Demanded.covers_itself, proofs.Demanded.meaning_counts, proofs.Strangers.stranger_changes_nothing}
 
 -- the parts of a text between marks
 abbrev parts_at : ℕ → List ℕ → List (List ℕ)
@@ -37,14 +37,12 @@ best ranges offers = best_offer (all ranges) (all offers)
 
 -- what covers an offer, and what doesn't
 what_covers :
-    -- a range demands each of its parameters, with the same value in the same case,
+    -- a range demands each of its parameters, with the same value in the same case, and `text/*` covers no image,
     (covers "text/html;level=1" "text/html;level=1;level=2" ≡ true) × (covers "text/html;level=1" "text/html" ≡ false)
     × (covers "text/html;level=2" "text/html;level=1" ≡ false) × (covers "text/html;level=A" "text/html;level=a" ≡ false)
-    × (covers "text/html;level=1;level=2" "text/html;level=1" ≡ false)
+    × (covers "text/html;level=1;level=2" "text/html;level=1" ≡ false) × (covers "text/*" "image/jpeg" ≡ false)
     -- also one after `q`; a name may stand twice: one of the offer's values is enough for each of the range's
     × (covers "text/html;q=0.5;level=1" "text/html" ≡ false) × (covers "text/html;level=2;level=1" "text/html;level=1;level=2" ≡ true)
-    -- `text/*` covers no image
-    × (covers "text/*" "image/jpeg" ≡ false)
     -- a quoted-pair means its byte, in a range and in an offer, and one that pairs a backslash means a backslash
     × (covers "text/plain;format=\\flowed" "text/plain;format=flowed" ≡ true)
     × (covers "text/plain;format=flowed" "text/plain;format=f\\lowe\\d" ≡ true)
@@ -53,9 +51,8 @@ what_covers = (refl, refl, refl, refl, refl, refl, refl, refl, refl, refl, refl)
 
 -- values that mean the same are covered as closely
 same_meaning : closeness (media "a/b;p=flowed") (0, media "a/b;p=\\flowed") ≡ closeness (media "a/b;p=\\f\\lowed") (0, media "a/b;p=flowed")
-same_meaning = meaning_counts (media "a/b;p=\\flowed") (media "a/b;p=flowed") (media "a/b;p=flowed")
-    (media "a/b;p=\\f\\lowed") 0 (record { essence = refl; top = refl; pairs = refl })
-    (record { essence = refl; top = refl; pairs = refl }) refl
+same_meaning = meaning_counts (media "a/b;p=\\flowed") (media "a/b;p=flowed") (media "a/b;p=flowed") (media "a/b;p=\\f\\lowed") 0
+    (record { essence = refl; top = refl; pairs = refl }) (record { essence = refl; top = refl; pairs = refl }) refl
 
 -- a paired backslash means another byte than a paired letter
 other_meaning : ¬ (MeanTheSame (media "a/b;p=\\\\") (media "a/b;p=\\x"))
@@ -81,10 +78,8 @@ weights_counted :
     -- of two weights of a range the first counts, and of ranges as close the higher,
     × (weighed "text/html;q=0.2;q=0.9" "text/html" ≡ 200 ∷ [])
     × (weighed "text/html;q=0.2,text/html;q=0.9,text/html;q=0.5" "text/html" ≡ 900 ∷ [])
-    -- and one of 0 rejects what a wider range accepts
-    × (weighed "*/*,text/html;q=0" "text/html" ≡ 0 ∷ [])
-    -- `q` is taken with its backslashes, so that `\1` begins with no number
-    × (weighed "text/html;q=\\1" "text/html" ≡ 0 ∷ [])
+    -- and one of 0 rejects what a wider range accepts; `q` is taken with its backslashes, so that `\1` begins with no number
+    × (weighed "*/*,text/html;q=0" "text/html" ≡ 0 ∷ []) × (weighed "text/html;q=\\1" "text/html" ≡ 0 ∷ [])
 weights_counted = (refl, refl, refl, refl, refl, refl, refl)
 
 -- which offer is the best
@@ -101,10 +96,9 @@ choices :
     -- of ranges as close the earlier decides, and of the same range twice the later counts
     × (best "text/plain,*/*;q=0.1,text/html" "text/html,text/plain" ≡ Some 1)
     × (best "text/plain,application/xml;q=1,text/plain" "application/xml,text/plain" ≡ Some 0)
-    -- alike in all, the first offered is the best
-    × (best "*/*" "text/html,application/json" ≡ Some 0)
-    -- if each offer weighs 0, none is the best, and neither is one of none
-    × (best "application/json,text/html;q=0" "text/html,image/jpeg" ≡ None) × (best_offer (all "*/*") [] ≡ None)
+    -- alike in all, the first offered is the best; if each offer weighs 0, none is the best, and neither is one of none
+    × (best "*/*" "text/html,application/json" ≡ Some 0) × (best "application/json,text/html;q=0" "text/html,image/jpeg" ≡ None)
+    × (best_offer (all "*/*") [] ≡ None)
 choices = (refl, refl, refl, refl, refl, refl, refl, refl, refl, refl, refl)
 
 -- the best of two is the second, which weighs more than 0,
@@ -129,7 +123,7 @@ stranger : best "text/html,image/jpeg;q=0,*/*;q=0.1" "text/html" ≡ Some 0
 stranger = (stranger_changes_nothing (all "text/html") (all "*/*;q=0.1") (all "text/html") (media "image/jpeg;q=0") no_jpeg).1
   where
     no_jpeg : (offer : MediaType) → Contains (all "text/html") offer → closeness offer (0, media "image/jpeg;q=0") ≡ None
-    no_jpeg offer (zero, within, is) = subst (λ o. closeness o (0, media "image/jpeg;q=0") ≡ None) is refl
+    no_jpeg offer (zero, within, is) = rw (sym is) refl
     no_jpeg offer (suc k, within, is) = absurd (omega (arith, within))
 
 -- ---- why an offer is chosen
@@ -157,18 +151,15 @@ one_offer : IsRanking (all "a/b,c/d;q=0.5") (all "c/d") (record { offer = 0; wei
 one_offer = record {
   order = 0 ∷ [];
   best_first = λ i j d before within. absurd (omega (arith, before, within));
-  all = λ at. (there at, λ within. (0, omega arith, omega (arith, within)));
+  all = λ at. (
+    All-contains (λ n. n < 1) (0 ∷ []) at (λ k d within. grind (arith, within)),
+    λ within. (0, omega arith, omega (arith, within)),
+  );
   given = refl;
 }
-  where
-    there : (at : ℕ) → Contains (0 ∷ []) at → at < 1
-    there at (zero, inside, is) = omega (arith, is)
-    there at (suc k, inside, is) = absurd (omega (arith, inside))
 
 -- and one that leaves it out is none
 no_offer : ¬ (IsRanking (all "a/b,c/d;q=0.5") (all "c/d") [])
 no_offer is =
     let inside = (is.all 0).1 (omega arith) in
-    let given = ranked_as 2 in
-    let rank = merit_at (all "a/b,c/d;q=0.5") (all "c/d") in
-    absurd (omega (arith, inside.1, ap length is.given, length-map is.order (λ at. given (rank at) at)))
+    absurd (omega (arith, inside.1, simp length-map at (ap length is.given)))

@@ -7,8 +7,7 @@ pub sorted_both : {texts more : List (List ℕ)} {ranges others : List MediaType
     → AreSorted more others poor → AreSorted (texts ++ more) (ranges ++ others) (bad ++ poor)
 sorted_both no_text second = second
 sorted_both (blank text texts ranges bad white rest) second = blank text _ _ _ white (sorted_both rest second)
-sorted_both (a_range text range texts ranges bad utf8 reads kept rest) second =
-    a_range text range _ _ _ utf8 reads kept (sorted_both rest second)
+sorted_both (a_range text range _ _ _ utf8 reads kept rest) second = a_range text range _ _ _ utf8 reads kept (sorted_both rest second)
 sorted_both (a_bad text texts ranges bad some isnt rest) second = a_bad text _ _ _ some isnt (sorted_both rest second)
 
 -- ---- a piece
@@ -34,8 +33,7 @@ module _ (keeps_bad : Bool) (piece : List ℕ) (old : Header) where
       → OnOk result (new ≡ record old { bad = if keeps_bad then old.bad ++ (entry ∷ []) else old.bad })
       → OnOk result (Takes keeps_bad (piece ∷ []) old new)
   takes_bad {entry} new result trim some isnt = on_ok_weaker result (λ is before held.
-      let not_blank = λ (white : AreSpaces piece). some (trimmed_from_blank piece white) in
-      let sorted = sorted_both held.1 (a_bad piece [] [] [] not_blank isnt no_text) in
+      let sorted = sorted_both held.1 (a_bad piece [] [] [] (λ white. some (trimmed_from_blank piece white)) isnt no_text) in
       rw is (held.0 ++ (entry ∷ []), rw (append-nil old.ranges, sym trim) at sorted, grind (arith, held.2)))
 
 -- ---- texts of which nothing is read
