@@ -1,6 +1,6 @@
 -- What a range demands of an offer, and its weight: item by item, and by a kept text that ends in a weight of one decimal. What covers an
 -- offer is told by what both mean.
-use Rattle.mime_http.proofs.Common.{IsFirstAccepted, Item, List, MediaType, None, Option, Some, [], arith, bytes_eq, bytes_eq-Decides, list_any, name_seen, name_text, refl, sym, true, unescaped, ◌&&◌, ◌++◌, ◌∙◌, codes, demanded, first_value, has, if◌then◌else◌, items_of, length, list_all, option_map, option_or, thousandths_of, unwrap_or, ℕ, ◌+◌, ◌∷◌, ◌≡◌, AreSpaces, HasBytesAt, Reads, SyntaxTree, ap, ap₂, drop, drop-append_seam, essence_of, final, is_ascii_digit, is_token_byte, length-append, listed, lowered_tree, one_reading, plain, read_number, text_from_reads, text_of_tail, value_of, ◌*◌, ◌-◌, Bool, CoversItself, MeaningCounts, and_from, map, meaning_of, not, list_all-from_AllPass, get_or, All-filter, list_any_at, item_of, list_all-map, length-map}
+use Rattle.mime_http.proofs.Common.{IsFirstAccepted, Item, List, MediaType, None, Option, Some, [], arith, bytes_eq, bytes_eq-Decides, list_any, name_seen, name_text, refl, sym, true, unescaped, ◌&&◌, ◌++◌, ◌∙◌, codes, demanded, first_value, has, if◌then◌else◌, items_of, length, list_all, option_map, option_or, thousandths_of, unwrap_or, ℕ, ◌+◌, ◌∷◌, ◌≡◌, AreSpaces, HasBytesAt, Reads, SyntaxTree, ap, ap₂, drop, drop-append_seam, essence_of, final, is_ascii_digit, is_token_byte, length-append, listed, one_reading, plain, read_number, text_from_reads, text_of_tail, value_of, ◌*◌, ◌-◌, Bool, CoversItself, MeaningCounts, and_from, map, meaning_of, not, list_all-from_AllPass, get_or, All-filter, list_any_at, item_of, list_all-map, length-map}
 use Rattle.mime.{specs.declared.name.Name.Name, proofs.HandedOut.text_of-essence}
 use Rattle.mime_http.proofs.{Numbers.read_is, Written.lengths}
 
@@ -64,8 +64,7 @@ weight_alone media rest n d reads after is spaces digit =
     let tree = reads.tree in
     let other : SyntaxTree = record tree { tail = listed (final n (plain (113 ∷ []) (48 ∷ 46 ∷ d ∷ []))) } in
     let kept : media.kept ≡ essence_of tree ++ text_of_tail tree.tail = sym reads.spelled ∙ text_of-essence tree in
-    let same : length media.essence ≡ length (essence_of (lowered_tree tree)) = ap (λ value. length value.essence) (sym reads.valued) in
-    let long : length media.essence ≡ length (essence_of tree) = same ∙ simp lengths in
+    let long : length media.essence ≡ length (essence_of tree) = ap (λ value. length value.essence) (sym reads.valued) ∙ simp lengths in
     let tail = sym (ap₂ drop long kept ∙ drop-append_seam (essence_of tree) (text_of_tail tree.tail)) ∙ (sym after ∙ is) in
     let again : Reads media.kept (value_of other) = record {
       tree = other;

@@ -139,13 +139,9 @@ is_best all one = nat_lt 0 one.0 && is_top all one
 abbrev pub beats : Rank → Rank → Bool
 beats one other = is_gt (rank_cmp one other)
 
--- what is above one rank is above what isn't,
+-- what is above one rank is above what isn't
 above_both : (x y z : Rank) → beats x y ≡ true → beats z y ≡ false → beats x z ≡ true
 above_both x y z above low = grind (arith, nat_tests)
-
--- which isn't above it
-not_back : (x y : Rank) → beats x y ≡ true → beats y x ≡ false
-not_back x y above = grind (arith, nat_tests)
 
 -- of the ranks before a position that weigh something, none is above the highest, which has a first place if it weighs something
 pub record IsHighest (ranks : List Rank) (at : ℕ) (most : Rank) (best : Option ℕ) : Type 0 where
@@ -158,10 +154,10 @@ module _ {ranks : List Rank} {at : ℕ} {most : Rank} {best : Option ℕ} (x : R
   -- a rank above the highest is the highest, and last,
   pub highest_raised : beats x most ≡ true → IsHighest ranks (at + 1) x (Some at)
   highest_raised higher =
-      let beaten = λ (j : ℕ) (less : j < at) (some : 0 < (rank_at ranks j).0). above_both x most (rank_at ranks j) higher (was.above j less some) in
+      let beaten = λ (j : ℕ) (less : j < at) (some : 0 < (rank_at ranks j).0). above_both x most _ higher (was.above j less some) in
       record {
         above = below_more (λ j. 0 < (rank_at ranks j).0 → beats (rank_at ranks j) x ≡ false) at
-            (λ j less some. not_back x (rank_at ranks j) (beaten j less some)) (λ _. rw (sym next) (grind (arith, nat_tests)));
+            (λ j less some. grind (arith, nat_tests, beaten j less some)) (λ _. rw (sym next) (grind (arith, nat_tests)));
         first = λ _. (at, refl, sym next, beaten);
       }
 
@@ -176,7 +172,8 @@ module _ {ranks : List Rank} {at : ℕ} {most : Rank} {best : Option ℕ} (x : R
 pub best_is_found : {all : List Rank} {at : ℕ} {most : Rank} {best : Option ℕ} → IsHighest all at most best → length all ≤ at
     → position (is_best all) all ≡ (if nat_lt 0 most.0 then best else None)
 best_is_found {all} {at} {most} {best} is past =
-    let light = λ (j : ℕ) (none : (rank_at all j).0 ≤ 0). and_left (nat_lt 0 (rank_at all j).0) (is_top all (rank_at all j)) (grind (arith, nat_tests)) in
+    let light = λ (j : ℕ) (none : (rank_at all j).0 ≤ 0). and_left (nat_lt 0 (rank_at all j).0) (is_top all (rank_at all j))
+    (grind (arith, nat_tests)) in
     ⊎_elim (λ some.
     let (place, same, there, before) = is.first some in
     let within : place < length all = grind (arith, some, there, get_or_past all place lowest) in

@@ -90,11 +90,8 @@ sorted_elements (element text range texts media utf8 reads rest) =
 -- a list as HTTP writes it is read as its elements
 pub http_lists_are_read : HttpListsAreRead
 http_lists_are_read lines media lists =
-    let read = sorted_elements lists.elements in (
-      read.0,
-      read.1,
-      record { pieces = lists.texts; cut = are_pieces lists.between lists.elements; sorted = read.2 },
-    )
+    let read = sorted_elements lists.elements in
+    (read.0, read.1, record { pieces = lists.texts; cut = are_pieces lists.between lists.elements; sorted = read.2 })
 
 -- ---- and back
 

@@ -77,15 +77,14 @@ module _ {least : ℕ} {ranks : List Rank} {at : ℕ} (found sorted : List (Reve
   in_turn up i j e before below =
       let d : Reverse Rank × ℕ = (record { 0 = lowest }, e) in
       let within : j < length sorted = omega (arith, below, length-map sorted place) in
-      let first = (stand i d (omega (arith, before, within))).0 in
-      let second = (stand j d within).0 in
       let same_place = λ (x y : Reverse Rank × ℕ). x.1 == y.1 in
       let distinct : IsDistinct same_place sorted =
       IsDistinct-IsPermutation same_place (λ x y. grind (arith, nat_tests)) found sorted moved (IsDistinct-from_apart same_place found
       (λ i j d before within. ne_eqb _ _ (λ same. absurd (omega (arith, same, was.apart i j d before within))))) in
       let far = sorted_far (λ a b. is_lt (offer_cmp a b)) (ranks_by offers_total (λ offer. offer)) sorted up i j d
       (omega (arith, before)) within in
-      rw (get_or-map_at place sorted i d, get_or-map_at place sorted j d) (first_by _ _ _ _ (rw (first, second) at far)
+      rw (get_or-map_at place sorted i d, get_or-map_at place sorted j d) (first_by _ _ _ _
+      (rw ((stand i d (omega (arith, before, within))).0, (stand j d within).0) at far)
       (apart_from_distinct same_place sorted i j d distinct before within))
 
 -- so they are in order
@@ -121,7 +120,8 @@ in_order {ranges} {offers} order are is = rw is (record {
 
 -- and what all say of the ranges that decide
 pub is_ranking : {ranges offers : List MediaType} {ranked : List (Reverse Rank × ℕ)} (count : ℕ) (ranking : List RankedOffer)
-    → AreRanked 0 ranges offers ranked → count ≡ length ranges → ranking ≡ map (λ one. ranked_as count one.0.0 one.1) ranked → IsRanking ranges offers ranking
+    → AreRanked 0 ranges offers ranked → count ≡ length ranges → ranking ≡ map (λ one. ranked_as count one.0.0 one.1) ranked
+    → IsRanking ranges offers ranking
 is_ranking {ranges} {offers} {ranked} count ranking are counted is = record {
   order = map place ranked;
   best_first = are.best_first;

@@ -16,16 +16,14 @@ module _ (keeps_bad : Bool) (piece : List ℕ) (old : Header) where
   -- white space alone is nothing,
   pub takes_blank : AreSpaces piece → Takes keeps_bad (piece ∷ []) old old
   takes_blank white = λ before held.
-      let sorted = sorted_both held.1 (blank piece [] [] [] white no_text) in
-      (held.0, rw (append-nil old.ranges, append-nil held.0) at sorted, held.2)
+      (held.0, rw (append-nil old.ranges, append-nil held.0) at (sorted_both held.1 (blank piece [] [] [] white no_text)), held.2)
 
   -- a media type is a range if it was taken,
   pub takes_range : {range : MediaType} (new : Header) {X E : Type 0} (result : Result X E) → IsUtf8 piece → HttpReads piece range
       → IsPrinted piece range → OnOk result (new ≡ record old { ranges = old.ranges ++ (range ∷ []) })
       → OnOk result (Takes keeps_bad (piece ∷ []) old new)
   takes_range {range} new result utf8 reads printed = on_ok_weaker result (λ is before held.
-      let sorted = sorted_both held.1 (a_range piece range [] [] [] utf8 reads printed no_text) in
-      rw is (held.0, rw (append-nil held.0) at sorted, held.2))
+      rw is (held.0, rw (append-nil held.0) at (sorted_both held.1 (a_range piece range [] [] [] utf8 reads printed no_text)), held.2))
 
   -- and any other is bad
   pub takes_bad : {entry : List ℕ} (new : Header) {X E : Type 0} (result : Result X E) → entry ≡ trimmed piece → ¬ (trimmed piece ≡ [])

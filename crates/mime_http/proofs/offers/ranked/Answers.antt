@@ -12,7 +12,8 @@ loop-at-preserved c =
       | then-merit-least+in_ok-push w ↦
           rw (w.ranked-is, w.in_ok-push.ensures.items) (one_ranked c.loop-at.invariant _ refl rank w.if-merit-least.true)
       | else-merit-least w ↦
-          let light = rw rank at w.if-merit-least.false in rw w.ranked-is (none_more c.loop-at.invariant (λ some. absurd (omega (arith, light, some))))
+          let light = rw rank at w.if-merit-least.false in
+          rw w.ranked-is (none_more c.loop-at.invariant (λ some. absurd (omega (arith, light, some))))
     ]
 
 pub returns : goal.returns

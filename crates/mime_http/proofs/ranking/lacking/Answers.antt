@@ -7,7 +7,6 @@ use Rattle.mime_http.proofs.ranking.lacking.Goals as goal
 
 pub returns : goal.returns
 returns c =
-    let lacks = is_lacking c.args.offer.now.media in
-    position_from_yields_List (λ range. lacks range.media) _ _ c.position.result c.position.ensures.ran
+    position_from_yields_List (λ range. is_lacking c.args.offer.now.media range.media) _ _ c.position.result c.position.ensures.ran
     (YieldsList-from_slice c.args.ranges.now cc) (λ x b q k. search (rules, tests))
-    ∙ sym (position-map lacks (λ range. range.media) c.args.ranges.now)
+    ∙ sym (position-map (is_lacking c.args.offer.now.media) (λ range. range.media) c.args.ranges.now)

@@ -5,6 +5,5 @@ use Rattle.mime_http.proofs.ranking.rank_offers.Goals as goal
 
 pub returns : goal.returns
 returns c =
-    let ranges = c.args.ranges.now in
-    IfOk-weaker _ _ _ (λ ranking. is_ranking (length ranges) (vec_items ranking) c.in_ok-ranked.ensures
-    (sym (length-map ranges (λ range. range.media)))) (rw c.deref.ensures.value at c.ranked_offers.ensures)
+    IfOk-weaker _ _ _ (λ ranking. is_ranking (length c.args.ranges.now) (vec_items ranking) c.in_ok-ranked.ensures
+    (sym (length-map c.args.ranges.now (λ range. range.media)))) (rw c.deref.ensures.value at c.ranked_offers.ensures)
