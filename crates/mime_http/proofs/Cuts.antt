@@ -1,5 +1,5 @@
 -- Lines are cut in one way, and each line is; and how far a line's first piece goes.
-use Rattle.mime_http.proofs.Common.{drop_of_length-le, AreBetweenCommas, At, BeginsPiece, IsInString, IsPiece, List, OneCut, Outside, [], after, after_outside, ap, append-nil, append_assoc, arith, nat_tests, comma, cond_both, cut, cut_from, ends, eqb-true, false, flat_map, line_end, no_line, opens_string, piece_byte, piece_end, piece_string, refl, string_byte, string_end, string_pair, subst, sym, true, ℕ, ⊤, ◌++◌, ◌==◌, ◌∙◌, ◌∷◌, ◌≡◌, Equals, Paired, before_mark, Bool, ap₂, cond, cut_after, drop, drop-drop, drop_more, get_or, get_or-drop, is_mark, length, length-drop, min, not, prefix_len, prefix_len-le-length, suc, take, zero, ◌&&◌, ◌+◌, ◌-◌, ◌<◌, ◌≤◌, IsNextOutside, piece_len, passes_at_first}
+use Rattle.mime_http.proofs.Common.{drop_of_length-le, AreBetweenCommas, At, BeginsPiece, IsInString, IsPiece, List, OneCut, Outside, [], after, after_outside, ap, append-nil, append_assoc, arith, nat_tests, comma, cond_both, cut, cut_from, ends, eqb-true, false, flat_map, line_end, no_line, opens_string, piece_byte, piece_end, piece_string, refl, string_byte, string_end, string_pair, subst, sym, true, ℕ, ⊤, ◌++◌, ◌==◌, ◌∙◌, ◌∷◌, ◌≡◌, Equals, Paired, before_mark, Bool, cond, cut_after, drop, drop-drop, drop_more, get_or, get_or-drop, is_mark, length, length-drop, min, not, prefix_len, prefix_len-le-length, suc, take, zero, ◌&&◌, ◌+◌, ◌-◌, ◌<◌, ◌≤◌, IsNextOutside, piece_len, passes_at_first, true≢false, cases_Bool, ⊎_elim, take-append-drop, take_all, cases_lt}
 use Rattle.mime_http.specs.LineCut.{Quoted}
 use Rattle.mime_search.{specs.Classes.is_stop, specs.Classes.end_of_run, specs.Quoted.awaits_next, specs.Quoted.len_from, specs.declared.class.Class.Class}
 
@@ -38,45 +38,40 @@ piece_passes (piece_string content piece inside rest) = (refl, (refl, string_pas
 
 -- ---- what passes is a piece
 
--- what follows an opening quote: content, a quote, and a piece
-pub data Opened : List ℕ → Type 0 where
-  opened : (content piece : List ℕ) → IsInString content → IsPiece piece → Opened (content ++ (34 ∷ piece))
+-- a string may have a byte or a pair more at its start
+more_text : {bytes : List ℕ} (b : ℕ) → (b == 34) ≡ false → (b == 92) ≡ false → IsPiece (61 ∷ 34 ∷ bytes) → IsPiece (61 ∷ 34 ∷ b ∷ bytes)
+more_text b quote single (piece_byte _ _ _ opens _) = absurd (true≢false opens)
+more_text b quote single (piece_string content piece inside rest) =
+    piece_string (b ∷ content) piece (string_byte b content quote single inside) rest
 
--- the content may have more before it
-content_before : (front : List ℕ) → ((content : List ℕ) → IsInString content → IsInString (front ++ content)) →
-    {bytes : List ℕ} → Opened bytes
-    → Opened (front ++ bytes)
-content_before front onto (opened content piece inside rest) =
-    subst Opened (append_assoc front content (34 ∷ piece)) (opened (front ++ content) piece (onto content inside) rest)
+more_pair : {bytes : List ℕ} (b : ℕ) → IsPiece (61 ∷ 34 ∷ bytes) → IsPiece (61 ∷ 34 ∷ 92 ∷ b ∷ bytes)
+more_pair b (piece_byte _ _ _ opens _) = absurd (true≢false opens)
+more_pair b (piece_string content piece inside rest) = piece_string (92 ∷ b ∷ content) piece (string_pair b content inside) rest
 
--- what bytes are from a place on, with those that lead there from outside strings or from an opening quote
+-- what bytes are from a place on, with those that lead there from outside strings
 abbrev pub Continues : At → List ℕ → Type 0
 Continues Outside bytes = IsPiece bytes
 Continues Equals bytes = IsPiece (61 ∷ bytes)
-Continues Quoted bytes = Opened bytes
-Continues Paired bytes = Opened (92 ∷ bytes)
+Continues Quoted bytes = IsPiece (61 ∷ 34 ∷ bytes)
+Continues Paired bytes = IsPiece (61 ∷ 34 ∷ 92 ∷ bytes)
 
 -- a byte outside strings may stand before a piece,
 byte_before : (b : ℕ) (bytes : List ℕ) → (b == 44) ≡ false → Continues (after_outside b) bytes → IsPiece (b ∷ bytes)
 byte_before b bytes on = cond_both (b == 61) _ _ (λ place. Continues place bytes → IsPiece (b ∷ bytes))
-    (λ equals. subst (λ c. IsPiece (c ∷ bytes)) (sym (eqb-true b 61 equals)))
-    (λ other. piece_byte b bytes on (opens_none b bytes other))
+    (λ equals. subst (λ c. IsPiece (c ∷ bytes)) (sym (eqb-true b 61 equals))) (λ other. piece_byte b bytes on (opens_none b bytes other))
 
 -- and so may the byte at each place
 further : (place : At) (b : ℕ) (bytes : List ℕ) → ends place b ≡ false → Continues (after place b) bytes → Continues place (b ∷ bytes)
 further Outside b bytes on = byte_before b bytes on
 further Equals b bytes on = cond_both (b == 34) _ _ (λ place. Continues place bytes → IsPiece (61 ∷ b ∷ bytes))
-    (λ quote inside. subst (λ c. IsPiece (61 ∷ c ∷ bytes)) (sym (eqb-true b 34 quote)) (string inside))
+    (λ quote. subst (λ c. IsPiece (61 ∷ c ∷ bytes)) (sym (eqb-true b 34 quote)))
     (λ other is. piece_byte 61 (b ∷ bytes) refl other (byte_before b bytes on is))
-  where
-    string : {bytes : List ℕ} → Opened bytes → IsPiece (61 ∷ 34 ∷ bytes)
-    string (opened content piece inside rest) = piece_string content piece inside rest
-further Quoted b bytes on = cond_both (b == 92) _ _ (λ place. Continues place bytes → Opened (b ∷ bytes))
-    (λ backslash. subst (λ c. Opened (c ∷ bytes)) (sym (eqb-true b 92 backslash)))
-    (λ single. cond_both (b == 34) _ _ (λ place. Continues place bytes → Opened (b ∷ bytes))
-    (λ quote is. subst (λ c. Opened (c ∷ bytes)) (sym (eqb-true b 34 quote)) (opened [] bytes string_end is))
-    (λ other. content_before (b ∷ []) (λ content. string_byte b content other single)))
-further Paired b bytes on = content_before (92 ∷ b ∷ []) (string_pair b)
+further Quoted b bytes on = cond_both (b == 92) _ _ (λ place. Continues place bytes → IsPiece (61 ∷ 34 ∷ b ∷ bytes))
+    (λ backslash. subst (λ c. IsPiece (61 ∷ 34 ∷ c ∷ bytes)) (sym (eqb-true b 92 backslash)))
+    (λ single. cond_both (b == 34) _ _ (λ place. Continues place bytes → IsPiece (61 ∷ 34 ∷ b ∷ bytes))
+    (λ quote is. subst (λ c. IsPiece (61 ∷ 34 ∷ c ∷ bytes)) (sym (eqb-true b 34 quote)) (piece_string [] bytes string_end is))
+    (λ other. more_text b other single))
+further Paired b bytes on = more_pair b
 
 -- so what passes is a piece
 pub is_piece : (place : At) (bytes : List ℕ) → IsWhole place bytes → Continues place bytes
@@ -91,62 +86,25 @@ is_piece place (b ∷ bytes) whole = further place b bytes whole.0 (is_piece (af
 first_piece : (bytes more rest : List ℕ) (place : At) (piece : List ℕ) {pieces : List (List ℕ)} → IsWhole place (bytes ++ more)
     → ((place : At) (piece : List ℕ) → IsWhole place more → cut_from place piece rest ≡ piece ∷ pieces)
     → cut_from place piece (bytes ++ rest) ≡ (piece ++ bytes) ∷ pieces
-first_piece [] more rest place piece {pieces} whole ends = ends place piece whole ∙ ap (λ p. p ∷ pieces) (sym (append-nil piece))
+first_piece [] more rest place piece {pieces} whole ends = rw (append-nil piece) (ends place piece whole)
 first_piece (b ∷ bytes) more rest place piece {pieces} whole ends =
-    rw whole.0 (first_piece bytes more rest (after place b) (piece ++ (b ∷ [])) whole.1 ends
-    ∙ ap (λ p. p ∷ pieces) (append_assoc piece (b ∷ []) bytes))
+    rw (whole.0, sym (append_assoc piece (b ∷ []) bytes)) (first_piece bytes more rest (after place b) (piece ++ (b ∷ [])) whole.1 ends)
 
 -- a text that begins a piece is cut into itself
 pub cut_of_piece : {text : List ℕ} → BeginsPiece text → cut text ≡ text ∷ []
 cut_of_piece {text} begins =
-    ap cut (sym (append-nil text)) ∙ first_piece text begins.0 [] Outside [] (piece_passes begins.1) (λ place piece whole. refl)
+    rw (append-nil text) at (first_piece text begins.0 [] Outside [] {pieces = []} (piece_passes begins.1) (λ place piece whole. refl))
 
 -- the pieces between commas are those of the cut
 pub only_cut : {lines pieces : List (List ℕ)} → AreBetweenCommas IsPiece BeginsPiece lines pieces → pieces ≡ flat_map cut lines
 only_cut no_line = refl
-only_cut (line_end text lines texts begins rest) =
-    ap (λ ps. text ∷ ps) (only_cut rest) ∙ ap (λ c. c ++ flat_map cut lines) (sym (cut_of_piece begins))
-only_cut (comma text line lines texts is rest) =
-    ap (λ ps. text ∷ ps) (only_cut rest) ∙ ap (λ c. c ++ flat_map cut lines) (sym (first_piece text [] (44 ∷ line) Outside []
-    (subst (IsWhole Outside) (sym (append-nil text)) (piece_passes is)) (λ place piece whole. grind (arith, nat_tests, whole))))
-
--- ---- each line has a cut
-
--- from each place on some bytes are left of a piece
-ended : (place : At) → (more : List ℕ) × IsWhole place more
-ended Outside = ([], tt)
-ended Equals = ([], tt)
-ended Quoted = (34 ∷ [], (refl, tt))
-ended Paired = (0 ∷ 34 ∷ [], (refl, (refl, tt)))
-
--- the pieces from a place on, before those of the next lines, are between commas
-is_cut : (bytes : List ℕ) (place : At) (piece : List ℕ) → ((more : List ℕ) → IsWhole place more → IsPiece (piece ++ more))
-    → {lines pieces : List (List ℕ)} → AreBetweenCommas IsPiece BeginsPiece lines pieces
-    → AreBetweenCommas IsPiece BeginsPiece ((piece ++ bytes) ∷ lines) (cut_from place piece bytes ++ pieces)
-is_cut [] place piece so_far {lines = lines} {pieces = pieces} rest =
-    let end = ended place in
-    subst (λ text. AreBetweenCommas IsPiece BeginsPiece (text ∷ lines) (piece ∷ pieces)) (sym (append-nil piece))
-    (line_end piece lines pieces (end.0, so_far end.0 end.1) rest)
-is_cut (b ∷ bytes) place piece so_far {lines = lines} {pieces = pieces} rest =
-    cond_both (ends place b) _ _ (λ found. AreBetweenCommas IsPiece BeginsPiece ((piece ++ (b ∷ bytes)) ∷ lines) (found ++ pieces))
-    (λ (end : ends place b ≡ true).
-    let there : (b ≡ 44) × IsOutside place = grind (arith, nat_tests, end) in
-    subst (λ c. AreBetweenCommas IsPiece BeginsPiece ((piece ++ (c ∷ bytes)) ∷ lines) (piece ∷ (cut bytes ++ pieces))) (sym there.0)
-    (comma piece bytes lines (cut bytes ++ pieces) (subst IsPiece (append-nil piece) (so_far [] there.1))
-    (is_cut bytes Outside [] (is_piece Outside) rest)))
-    (λ on.
-    rw (sym (append_assoc piece (b ∷ []) bytes))
-    (is_cut bytes (after place b) (piece ++ (b ∷ []))
-    (λ more whole. subst IsPiece (sym (append_assoc piece (b ∷ []) more)) (so_far (b ∷ more) (on, whole))) rest))
-
--- so the pieces of the cut are those between commas
-pub are_cut : (lines : List (List ℕ)) → AreBetweenCommas IsPiece BeginsPiece lines (flat_map cut lines)
-are_cut [] = no_line
-are_cut (line ∷ lines) = is_cut line Outside [] (is_piece Outside) (are_cut lines)
-
--- lines are cut in one way
-pub one_cut : OneCut
-one_cut lines = (flat_map cut lines, are_cut lines, λ other is. only_cut is)
+only_cut (line_end text lines texts begins rest) = grind (arith, only_cut rest, cut_of_piece begins)
+only_cut (comma text line lines texts is rest) = grind (
+  arith,
+  only_cut rest,
+  first_piece text [] (44 ∷ line) Outside [] {pieces = cut line}
+      (rw (append-nil text) (piece_passes is)) (λ place piece whole. grind (arith, nat_tests, whole)),
+)
 
 -- where the piece ends that a position of a line is in, at this place
 abbrev pub end_on : At → List ℕ → ℕ → ℕ
@@ -163,8 +121,7 @@ no_quote_next (c ∷ bytes) other = rw other refl
 pub outside_byte : (line : List ℕ) (at : ℕ) → at < length line → (get_or line at 0 == 44) ≡ false
     → (get_or line at 0 == 61 && get_or line (at + 1) 0 == 34) ≡ false → end_on Outside line (at + 1) ≡ end_on Outside line at
 outside_byte line at within on opens =
-    let next = get_or-drop (at + 1) line 0 0 ∙ ap (λ i. get_or line i 0) {y = at + 1} (omega arith) in
-    grind (arith, nat_tests, drop_more line at 0 within, on, opens, next, no_quote_next (drop (at + 1) line))
+    grind (arith, nat_tests, drop_more line at 0 within, on, opens, get_or-drop (at + 1) line 0 0, no_quote_next (drop (at + 1) line))
 
 -- a comma outside strings ends the piece, and so does the line's end
 pub ends_outside : (line : List ℕ) (at : ℕ) → (at < length line → get_or line at 0 ≡ 44) → end_on Outside line at ≡ at
@@ -214,9 +171,8 @@ pub string_closed : (line : List ℕ) (from to : ℕ) → from ≤ length line �
     → to + piece_len Outside (drop to line) ≡ from + piece_len Quoted (drop from line)
 string_closed line from to within is =
     let n = min (len_from false (drop from line) + 1) (length (drop from line)) in
-    ap (end_on Outside line) {y = from + n} (omega (arith, length-drop from line))
-    ∙ (ap (λ rest. from + n + piece_len Outside rest) (sym (drop-drop n from line)) ∙ (omega arith
-    ∙ ap (λ n. from + n) (string_left false (drop from line))))
+    let to_is : to ≡ from + n = omega (arith, is, length-drop from line) in
+    rw (to_is, sym (drop-drop n from line)) (omega (arith, string_left false (drop from line)))
 
 -- ---- the next mark
 
@@ -245,14 +201,72 @@ outside_next line from to within is =
 cut_goes_on : (place : At) (piece bytes : List ℕ) → cut_from place piece bytes
     ≡ (piece ++ take (piece_len place bytes) bytes) ∷ cut_after (drop (piece_len place bytes) bytes)
 cut_goes_on place piece [] = ap (λ p. p ∷ []) (sym (append-nil piece))
-cut_goes_on place piece (b ∷ bytes) =
-    let rest = cut_goes_on (after place b) (piece ++ (b ∷ [])) bytes in
-    grind (arith, append-nil piece, append_assoc piece (b ∷ []) (take (piece_len (after place b) bytes) bytes), rest)
+cut_goes_on place piece (b ∷ bytes) = grind (
+  arith,
+  append-nil piece,
+  append_assoc piece (b ∷ []) (take (piece_len (after place b) bytes) bytes),
+  cut_goes_on (after place b) (piece ++ (b ∷ [])) bytes,
+)
 
 -- so from a position on it has the bytes up to the piece's end first
 pub cut_at_end : (line : List ℕ) (from end : ℕ) → end ≡ end_on Outside line from
     → cut (drop from line) ≡ take (end - from) (drop from line) ∷ cut_after (drop end line)
 cut_at_end line from end is =
-    let n = piece_len Outside (drop from line) in
-    cut_goes_on Outside [] (drop from line)
-    ∙ ap₂ (λ m left. take m (drop from line) ∷ cut_after left) (omega (arith, is)) (drop-drop n from line ∙ ap (λ i. drop i line) (sym is))
+    grind (arith, is, cut_goes_on Outside [] (drop from line), drop-drop (piece_len Outside (drop from line)) from line)
+
+-- ---- the first piece
+
+-- a comma outside strings ends a piece,
+piece_before : (place : At) (bytes : List ℕ) → piece_len place bytes < length bytes
+    → (get_or bytes (piece_len place bytes) 0 ≡ 44) × IsWhole place (take (piece_len place bytes) bytes)
+piece_before place [] less = absurd (omega (arith, less))
+piece_before place (b ∷ bytes) less = grind (arith, nat_tests, less, piece_before (after place b) bytes)
+
+-- and from each place on some bytes are left of a piece,
+ended : (place : At) → (more : List ℕ) × IsWhole place more
+ended Outside = ([], tt)
+ended Equals = ([], tt)
+ended Quoted = (34 ∷ [], (refl, tt))
+ended Paired = (0 ∷ 34 ∷ [], (refl, (refl, tt)))
+
+-- also after bytes that have no such comma
+goes_on : (place : At) (bytes : List ℕ) → length bytes ≤ piece_len place bytes → (more : List ℕ) × IsWhole place (bytes ++ more)
+goes_on place [] past = ended place
+goes_on place (b ∷ bytes) past = ⊎_elim (λ (end : ends place b ≡ true). absurd (grind (arith, past, end))) (λ (on : ends place b ≡ false).
+    let rest = goes_on (after place b) bytes (grind (arith, past, on)) in (rest.0, (on, rest.1))) (cases_Bool (ends place b))
+
+module _ (line : List ℕ) {end : ℕ} (is : end ≡ piece_len Outside line) where
+  pub first_entry : end < length line → (line ≡ take end line ++ (44 ∷ drop (end + 1) line)) × IsPiece (take end line)
+  first_entry within =
+      let whole = piece_before Outside line (omega (arith, is, within)) in (
+        grind (arith, is, whole.0, take-append-drop end line, drop_more line end 0 within),
+        subst (λ n. IsPiece (take n line)) (sym is) (is_piece Outside _ whole.1),
+      )
+
+  pub last_entry : length line ≤ end → BeginsPiece line
+  last_entry past = let more = goes_on Outside line (omega (arith, is, past)) in (more.0, is_piece Outside _ more.1)
+
+-- ---- each line has a cut
+
+-- the pieces of a line, before those of the next lines, are between commas
+is_cut : (most : ℕ) (line : List ℕ) → length line < most → {lines pieces : List (List ℕ)}
+    → AreBetweenCommas IsPiece BeginsPiece lines pieces → AreBetweenCommas IsPiece BeginsPiece (line ∷ lines) (cut line ++ pieces)
+is_cut zero line short rest = absurd (omega (arith, short))
+is_cut (suc most) line short {lines} {pieces} rest =
+    let n = piece_len Outside line in
+    rw (cut_goes_on Outside [] line) (⊎_elim (λ less.
+    let first = first_entry line refl less in
+    let others = is_cut most (drop (n + 1) line) (omega (arith, short, less, length-drop (n + 1) line)) rest in
+    subst (λ text. AreBetweenCommas IsPiece BeginsPiece (text ∷ lines) (take n line ∷ (cut_after (drop n line) ++ pieces))) (sym first.0)
+    (rw (drop_more line n 0 less) (comma (take n line) (drop (n + 1) line) lines _ first.1 others)))
+    (λ past. rw (take_all n line past, drop_of_length-le line past) (line_end line lines pieces (last_entry line refl past) rest))
+    (cases_lt n (length line)))
+
+-- so the pieces of the cut are those between commas
+pub are_cut : (lines : List (List ℕ)) → AreBetweenCommas IsPiece BeginsPiece lines (flat_map cut lines)
+are_cut [] = no_line
+are_cut (line ∷ lines) = is_cut (suc (length line)) line (omega arith) (are_cut lines)
+
+-- lines are cut in one way
+pub one_cut : OneCut
+one_cut lines = (flat_map cut lines, are_cut lines, λ other is. only_cut is)

@@ -1,64 +1,56 @@
 -- What a range demands of an offer, and its weight: item by item, and by a kept text that ends in a weight of one decimal. What covers an
 -- offer is told by what both mean.
-use Rattle.mime_http.proofs.Common.{IsFirstAccepted, Item, List, MediaType, None, Option, Some, [], arith, bytes_eq, bytes_eq-Decides, list_any, name_seen, name_text, refl, sym, true, unescaped, ◌&&◌, ◌++◌, ◌∙◌, codes, demanded, first_value, has, if◌then◌else◌, items_of, length, list_all, option_map, option_or, thousandths_of, unwrap_or, ℕ, ◌+◌, ◌∷◌, ◌≡◌, AreSpaces, HasBytesAt, Reads, SyntaxTree, ap, ap₂, drop, drop-append_seam, essence_of, final, is_ascii_digit, is_token_byte, length-append, listed, lowered_tree, one_reading, plain, read_number, text_from_reads, text_of_tail, value_of, ◌*◌, ◌-◌, Bool, CoversItself, MeaningCounts, and_from, map, meaning_of, not, list_all-from_AllPass, get_or, All-filter, list_any_at}
+use Rattle.mime_http.proofs.Common.{IsFirstAccepted, Item, List, MediaType, None, Option, Some, [], arith, bytes_eq, bytes_eq-Decides, list_any, name_seen, name_text, refl, sym, true, unescaped, ◌&&◌, ◌++◌, ◌∙◌, codes, demanded, first_value, has, if◌then◌else◌, items_of, length, list_all, option_map, option_or, thousandths_of, unwrap_or, ℕ, ◌+◌, ◌∷◌, ◌≡◌, AreSpaces, HasBytesAt, Reads, SyntaxTree, ap, ap₂, drop, drop-append_seam, essence_of, final, is_ascii_digit, is_token_byte, length-append, listed, one_reading, plain, read_number, text_from_reads, text_of_tail, value_of, ◌*◌, ◌-◌, Bool, CoversItself, MeaningCounts, and_from, map, meaning_of, not, list_all-from_AllPass, get_or, All-filter, list_any_at, item_of, list_all-map, length-map}
 use Rattle.mime.{specs.declared.name.Name.Name, proofs.HandedOut.text_of-essence}
 use Rattle.mime_http.proofs.{Numbers.read_is, Written.lengths}
 
--- a count of parameters, and a weight
-abbrev pub Found : Type 0
-Found = ℕ × ℕ
-
--- the count and the weight that were found
-abbrev pub found_of : ℕ → Option (List ℕ) → Option Found
+-- the count of parameters and the weight that were found
+abbrev pub found_of : ℕ → Option (List ℕ) → Option (ℕ × ℕ)
 found_of count weight = Some (count, unwrap_or (option_map thousandths_of weight) 1000)
 
 -- what a range demands of an offer, if that has it, and the range's weight
-abbrev pub found_in : MediaType → List (List ℕ × List ℕ) → Option Found
+abbrev pub found_in : MediaType → List (List ℕ × List ℕ) → Option (ℕ × ℕ)
 found_in offer pairs =
     if list_all (has offer) (demanded pairs) then found_of (length (demanded pairs)) (first_value (codes "q") pairs) else None
 
 -- the same, of which some was counted and a weight may be known, and these items are left
-abbrev pub found_from : MediaType → ℕ → Option (List ℕ) → List Item → Option Found
+abbrev pub found_from : MediaType → ℕ → Option (List ℕ) → List Item → Option (ℕ × ℕ)
 found_from offer count weight [] = found_of count weight
 found_from offer count weight (item ∷ items) =
     if bytes_eq item.name (codes "q") then found_from offer count (option_or weight (Some item.value)) items else
     if has offer (item.name, item.value) then found_from offer (count + 1) weight items else None
 
 -- the items of a range's pairs decide what is found
-found_after : (offer : MediaType) (count : ℕ) (weight : Option (List ℕ)) (pairs : List (List ℕ × List ℕ))
-    → found_from offer count weight (items_of pairs)
-    ≡ (if list_all (has offer) (demanded pairs)
+pub found_after : (offer : MediaType) (count : ℕ) (weight : Option (List ℕ)) (pairs : List (List ℕ × List ℕ))
+    → found_from offer count weight (items_of pairs) ≡ (if list_all (has offer) (demanded pairs)
     then found_of (count + length (demanded pairs)) (option_or weight (first_value (codes "q") pairs)) else None)
 found_after offer count weight [] = grind (arith)
-found_after offer count weight (pair ∷ pairs) =
-    let weighs = found_after offer count (option_or weight (Some pair.1)) pairs in
-    grind (arith, weighs, found_after offer (count + 1) weight pairs)
-
--- from the first on
-pub found_of_all : (offer : MediaType) (pairs : List (List ℕ × List ℕ)) → found_from offer 0 None (items_of pairs) ≡ found_in offer pairs
-found_of_all offer pairs = grind (arith, found_after offer 0 None pairs)
+found_after offer count weight (pair ∷ pairs) = grind (
+  arith,
+  found_after offer count (option_or weight (Some pair.1)) pairs,
+  found_after offer (count + 1) weight pairs,
+)
 
 -- ---- what a look-up finds
 
--- a test of an offer's items is one of its pairs
+-- a test of what is mapped is one of the list
+list_any-map : {X Y : Type 0} (p : Y → Bool) (f : X → Y) (xs : List X) → list_any p (map f xs) ≡ list_any (λ x. p (f x)) xs
+list_any-map p f [] = refl
+list_any-map p f (x ∷ xs) = grind (arith, list_any-map p f xs)
+
+-- so a test of an offer's items is one of its pairs
 pub has_item : (offer : MediaType) (name value : List ℕ)
     → list_any (λ item. bytes_eq item.name name && bytes_eq (unescaped item.value) (unescaped value)) (items_of offer.pairs)
     ≡ has offer (name, value)
-has_item offer name value = go offer.pairs
-  where
-    go : (pairs : List (List ℕ × List ℕ))
-        → list_any (λ item. bytes_eq item.name name && bytes_eq (unescaped item.value) (unescaped value)) (items_of pairs)
-        ≡ list_any (λ own. bytes_eq own.0 name && bytes_eq (unescaped own.1) (unescaped value)) pairs
-    go [] = refl
-    go (pair ∷ pairs) = grind (arith, go pairs)
+has_item offer name value =
+    list_any-map (λ item. bytes_eq item.name name && bytes_eq (unescaped item.value) (unescaped value)) item_of offer.pairs
 
 -- the value of the first parameter that is accepted is the first of that name
 pub first_is : (name : List ℕ) (found : Option Name) (pairs : List (List ℕ × List ℕ))
     → IsFirstAccepted (λ text flag. text ≡ name) (items_of pairs) (option_map name_seen found)
     → option_map name_text found ≡ first_value name pairs
 first_is name found [] is = grind (arith, is)
-first_is name found (pair ∷ pairs) is =
-    grind (arith, bytes_eq-Decides pair.0 name, is.0, is.1, first_is name found pairs)
+first_is name found (pair ∷ pairs) is = grind (arith, bytes_eq-Decides pair.0 name, is.0, is.1, first_is name found pairs)
 
 -- ---- a weight of one decimal, right after the essence
 
@@ -72,8 +64,7 @@ weight_alone media rest n d reads after is spaces digit =
     let tree = reads.tree in
     let other : SyntaxTree = record tree { tail = listed (final n (plain (113 ∷ []) (48 ∷ 46 ∷ d ∷ []))) } in
     let kept : media.kept ≡ essence_of tree ++ text_of_tail tree.tail = sym reads.spelled ∙ text_of-essence tree in
-    let same : length media.essence ≡ length (essence_of (lowered_tree tree)) = ap (λ value. length value.essence) (sym reads.valued) in
-    let long : length media.essence ≡ length (essence_of tree) = same ∙ simp lengths in
+    let long : length media.essence ≡ length (essence_of tree) = ap (λ value. length value.essence) (sym reads.valued) ∙ simp lengths in
     let tail = sym (ap₂ drop long kept ∙ drop-append_seam (essence_of tree) (text_of_tail tree.tail)) ∙ (sym after ∙ is) in
     let again : Reads media.kept (value_of other) = record {
       tree = other;
@@ -93,19 +84,12 @@ weight_of_one_decimal n d weight offer media rest spaces reads after long bytes 
     let read : weight ≡ read_number (48 ∷ 46 ∷ d ∷ []) = rw digit (omega (arith, tenths)) in
     rw (weight_alone media rest n d reads after whole spaces digit) (ap (λ weight. Some (0, weight)) (read ∙ read_is (48 ∷ 46 ∷ d ∷ [])))
 
--- a list of parameters
-abbrev Pairs : Type 0
-Pairs = List (List ℕ × List ℕ)
-
 -- ---- a media type covers itself
 
--- bytes are equal to themselves
-same_bytes : (bytes : List ℕ) → bytes_eq bytes bytes ≡ true
-same_bytes bytes = (bytes_eq-Decides bytes bytes).1 refl
-
--- so a media type has each of its own parameters, and covers itself, but for a weight
+-- it has each of its own parameters, and covers itself, but for a weight
 pub covers_itself : CoversItself
 covers_itself media =
+    let same_bytes = λ (bytes : List ℕ). (bytes_eq-Decides bytes bytes).1 refl in
     let has_own = list_all-from_AllPass (has media) (demanded media.pairs)
     (All-filter (λ pair. not (bytes_eq pair.0 (codes "q"))) (λ pair. has media pair ≡ true) media.pairs (λ k d within.
     let pair = get_or media.pairs k d in
@@ -116,26 +100,21 @@ covers_itself media =
 -- ---- what covers an offer is told by what both mean
 
 -- the same of parameters as they are meant
-abbrev has_meant : Pairs → List ℕ × List ℕ → Bool
+abbrev has_meant : List (List ℕ × List ℕ) → List ℕ × List ℕ → Bool
 has_meant meant pair = list_any (λ own. bytes_eq own.0 pair.0 && bytes_eq own.1 pair.1) meant
 
--- an offer has a parameter if it has what that means,
-has_by_meaning : (pairs : Pairs) (pair : List ℕ × List ℕ)
-    → list_any (λ own. bytes_eq own.0 pair.0 && bytes_eq (meaning_of own).1 (meaning_of pair).1) pairs
-    ≡ has_meant (map meaning_of pairs) (meaning_of pair)
-has_by_meaning [] pair = refl
-has_by_meaning (own ∷ pairs) pair = grind (arith, has_by_meaning pairs pair)
+-- what is demanded means what is demanded of parameters as they are meant,
+demanded-map : (pairs : List (List ℕ × List ℕ)) → demanded (map meaning_of pairs) ≡ map meaning_of (demanded pairs)
+demanded-map [] = refl
+demanded-map (pair ∷ pairs) = grind (arith, demanded-map pairs)
 
--- and all that are demanded are there if it has what they mean
-all_by_meaning : (offer : MediaType) (pairs : Pairs)
+-- and all of it is there if an offer has what it means
+all_by_meaning : (offer : MediaType) (pairs : List (List ℕ × List ℕ))
     → list_all (has offer) (demanded pairs) ≡ list_all (has_meant (map meaning_of offer.pairs)) (demanded (map meaning_of pairs))
-all_by_meaning offer [] = refl
-all_by_meaning offer (pair ∷ pairs) = grind (arith, has_by_meaning offer.pairs pair, all_by_meaning offer pairs)
-
--- and as many are demanded
-count_by_meaning : (pairs : Pairs) → length (demanded pairs) ≡ length (demanded (map meaning_of pairs))
-count_by_meaning [] = refl
-count_by_meaning (pair ∷ pairs) = grind (arith, count_by_meaning pairs)
+all_by_meaning offer pairs =
+    let has_meaning = has_meant (map meaning_of offer.pairs) in
+    sym (ap (list_all has_meaning) (demanded-map pairs) ∙ (list_all-map has_meaning meaning_of (demanded pairs) ∙ (λ i. list_all (λ pair.
+    list_any-map (λ own. bytes_eq own.0 pair.0 && bytes_eq own.1 (unescaped pair.1)) meaning_of offer.pairs i) (demanded pairs))))
 
 -- so a header says the same of media types that mean the same
 pub meaning_counts : MeaningCounts
@@ -144,5 +123,6 @@ meaning_counts range other offer offered at same alike weighs =
     all_by_meaning offer range.pairs ∙ ((λ i. list_all (has_meant (alike.pairs i)) (demanded (same.pairs i)))
     ∙ sym (all_by_meaning offered other.pairs)) in
     let count : length (demanded range.pairs) ≡ length (demanded other.pairs) =
-    count_by_meaning range.pairs ∙ (ap (λ pairs. length (demanded pairs)) same.pairs ∙ sym (count_by_meaning other.pairs)) in
+    sym (length-map (demanded range.pairs) meaning_of) ∙ (ap length (sym (demanded-map range.pairs) ∙ (ap demanded same.pairs
+    ∙ demanded-map other.pairs)) ∙ length-map (demanded other.pairs) meaning_of) in
     grind (arith, all, count, weighs, same.essence, alike.essence, alike.top)

@@ -13,8 +13,6 @@ pub mod Numbers
 pub mod Order
 pub mod PlainIsHttp
 pub mod RangesFacts
-pub mod RankingFacts
-pub mod Rankings
 pub mod ReadAt
 pub mod ReadBack
 pub mod ReadFaults

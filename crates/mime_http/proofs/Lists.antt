@@ -1,5 +1,5 @@
 -- Lists as HTTP writes them are read as their elements, and what is read with nothing bad are such lists.
-use Rattle.mime_http.proofs.Common.{At, Outside, State, Parts, Option, MatchOption, MatchOption-at_some, MissingSlash, by_option, next, ends, after, answer_of, answer_from, answer_at_end, read, before_type, in_subtype, in_value, in_string, is_quoted_byte, ◌+◌, AreBetweenCommas, AreElements, AreSame, AreSorted, AreSpaces, BadIsAlone, BeginsPiece, HttpListsAreRead, HttpReads, IsAccepted, IsHttpMediaType, IsPiece, IsPrinted, List, MediaType, OneHeader, ReadAreHttpLists, [], a_bad, a_range, accepted_or_rejected, and_parts, anew, ap, append-nil, arith, as_it_stands, comma, element, false, is_space, is_token_byte, line_end, nat_tests, no_line, no_text, nothing, piece_byte, piece_end, refl, subst, sym, trimmed, with_pairs, without_kept, ℕ, ⊎_elim, ⊤, ◌++◌, ◌∙◌, ◌∷◌, ◌≡◌, Equals, Paired, awaits_after, awaits_after-append, cases_Bool, if◌then◌else◌}
+use Rattle.mime_http.proofs.Common.{At, Outside, State, Parts, MatchOption, MatchOption-at_some, MissingSlash, by_option, next, ends, after, answer_of, answer_from, answer_at_end, read, before_type, in_subtype, in_value, in_string, is_quoted_byte, ◌+◌, AreBetweenCommas, AreElements, AreSame, AreSorted, AreSpaces, BadIsAlone, BeginsPiece, HttpListsAreRead, HttpReads, IsAccepted, IsHttpMediaType, IsPiece, IsPrinted, List, MediaType, OneHeader, ReadAreHttpLists, [], a_bad, a_range, accepted_or_rejected, and_parts, anew, ap, append-nil, arith, as_it_stands, comma, element, false, is_space, is_token_byte, line_end, nat_tests, no_line, no_text, nothing, piece_byte, piece_end, refl, sym, trimmed, with_pairs, without_kept, ℕ, ⊎_elim, ⊤, ◌++◌, ◌∙◌, ◌∷◌, ◌≡◌, Equals, Paired, awaits_after, awaits_after-append, cases_Bool, if◌then◌else◌}
 use Rattle.mime_http.{specs.HttpList.blank, specs.LineCut.Quoted, proofs.Around.reads_around, proofs.Around.white_more, proofs.HttpLaws.one_printed_text, proofs.HttpLaws.same_anew, proofs.PlainIsHttp.plain_is_http, proofs.Takes.sorted_both, proofs.Cuts.IsOutside, proofs.Cuts.IsWhole, proofs.Cuts.is_piece, proofs.Cuts.only_cut, proofs.Cuts.opens_none, proofs.ReadFaults.rejected_is_none, proofs.ReadForth.http_is_answered, proofs.Runs.keeps_before, proofs.Runs.over_white}
 use Rattle.mime_http.specs.ListLaws.{no_text as no_element}
 
@@ -12,17 +12,14 @@ place_of (in_string parts name content) = if awaits_after false content then Pai
 place_of state = Outside
 
 -- a byte that reading goes on with ends no piece, and leads to the place of the next state
-abbrev Follows : At → ℕ → Option State → Type 0
-Follows place b next = MatchOption next ⊤ (λ state. (ends place b ≡ false) × (after place b ≡ place_of state))
-
-follows : (state : State) (b : ℕ) → Follows (place_of state) b (next state b)
+follows : (state : State) (b : ℕ)
+    → MatchOption (next state b) ⊤ (λ next. (ends (place_of state) b ≡ false) × (after (place_of state) b ≡ place_of next))
 unfolding is_token_byte is_quoted_byte
 follows (in_subtype top []) b = grind (arith, nat_tests)
 follows (in_subtype top (s ∷ sub)) b = grind (arith, nat_tests)
 follows (in_value parts name []) b = grind (arith, nat_tests)
 follows (in_value parts name (v ∷ value)) b = grind (arith, nat_tests)
-follows (in_string parts name content) b = ⊎_elim
-    (λ paired. grind (arith, nat_tests, paired, awaits_after-append false content (b ∷ [])))
+follows (in_string parts name content) b = ⊎_elim (λ paired. grind (arith, nat_tests, paired, awaits_after-append false content (b ∷ [])))
     (λ text. grind (arith, nat_tests, text, awaits_after-append false content (b ∷ []))) (cases_Bool (awaits_after false content))
 follows state b = grind (arith, nat_tests)
 
@@ -35,12 +32,10 @@ whole_from [] state at parts is = ended state is
     ended (in_value _ name []) is = absurd cc
     ended (in_string _ name content) is = absurd cc
     ended state is = tt
-whole_from (b ∷ bytes) state at parts is = by_option (next state b)
-    (λ stops. absurd (cc (rw stops at is)))
-    (λ next goes.
+whole_from (b ∷ bytes) state at parts is = by_option (next state b) (λ stops. absurd (cc (rw stops at is))) (λ next goes.
     let Leads = λ (next : State). (ends (place_of state) b ≡ false) × (after (place_of state) b ≡ place_of next) in
     let it = MatchOption-at_some ⊤ Leads next goes (follows state b) in
-    (it.0, subst (λ place. IsWhole place bytes) (sym it.1) (whole_from bytes next (at + 1) parts (rw goes at is))))
+    (it.0, rw it.1 (whole_from bytes next (at + 1) parts (rw goes at is))))
 
 -- and a media type as HTTP writes it is a piece,
 http_is_piece : {value : List ℕ} {media : MediaType} → HttpReads value media → IsPiece value
@@ -57,28 +52,23 @@ spaces_are_piece (b ∷ white) all =
 
 -- a piece begins one
 begins : {text : List ℕ} → IsPiece text → BeginsPiece text
-begins {text} is = ([], subst IsPiece (sym (append-nil text)) is)
+begins {text} is = ([], rw (append-nil text) is)
 
 -- ---- forth
 
 -- an element has no comma outside strings, so it is a piece
-elements_are_pieces : {lines texts : List (List ℕ)} {media : List MediaType} → AreBetweenCommas (λ text. ⊤) (λ text. ⊤) lines texts
+are_pieces : {lines texts : List (List ℕ)} {media : List MediaType} → AreBetweenCommas (λ text. ⊤) (λ text. ⊤) lines texts
     → AreElements texts media → AreBetweenCommas IsPiece BeginsPiece lines texts
-elements_are_pieces no_line are = no_line
-elements_are_pieces (line_end text lines texts any rest) (nothing _ _ _ white others) =
-    line_end text lines texts (begins (spaces_are_piece text white)) (elements_are_pieces rest others)
-elements_are_pieces (line_end text lines texts any rest) (element _ _ _ _ utf8 reads others) =
-    line_end text lines texts (begins (http_is_piece reads)) (elements_are_pieces rest others)
-elements_are_pieces (comma text line lines texts any rest) (nothing _ _ _ white others) =
-    comma text line lines texts (spaces_are_piece text white) (elements_are_pieces rest others)
-elements_are_pieces (comma text line lines texts any rest) (element _ _ _ _ utf8 reads others) =
-    comma text line lines texts (http_is_piece reads) (elements_are_pieces rest others)
+are_pieces no_line are = no_line
+are_pieces (line_end _ _ _ _ rest) (nothing _ _ _ white more) = line_end _ _ _ (begins (spaces_are_piece _ white)) (are_pieces rest more)
+are_pieces (line_end _ _ _ _ rest) (element _ _ _ _ _ reads more) = line_end _ _ _ (begins (http_is_piece reads)) (are_pieces rest more)
+are_pieces (comma _ line _ _ _ rest) (nothing _ _ _ white more) = comma _ line _ _ (spaces_are_piece _ white) (are_pieces rest more)
+are_pieces (comma _ line _ _ _ rest) (element _ _ _ _ _ reads more) = comma _ line _ _ (http_is_piece reads) (are_pieces rest more)
 
 -- a text of one media type is printed in some way,
 printed : (text : List ℕ) (media : MediaType) → HttpReads text media
     → (range : MediaType) × HttpReads text range × IsPrinted text range × (without_kept range ≡ without_kept media)
-printed text media reads =
-    ⊎_elim (λ (plain : IsAccepted (trimmed text)).
+printed text media reads = ⊎_elim (λ (plain : IsAccepted (trimmed text)).
     let http = reads_around text plain.0 (plain_is_http (trimmed text) plain.0 plain.1) in
     (plain.0, http, as_it_stands text plain.0 plain.1, ap without_kept (same_anew text plain.0 media http reads)))
     (λ (rejected : ¬ (IsAccepted (trimmed text))).
@@ -100,11 +90,8 @@ sorted_elements (element text range texts media utf8 reads rest) =
 -- a list as HTTP writes it is read as its elements
 pub http_lists_are_read : HttpListsAreRead
 http_lists_are_read lines media lists =
-    let read = sorted_elements lists.elements in (
-      read.0,
-      read.1,
-      record { pieces = lists.texts; cut = elements_are_pieces lists.between lists.elements; sorted = read.2 },
-    )
+    let read = sorted_elements lists.elements in
+    (read.0, read.1, record { pieces = lists.texts; cut = are_pieces lists.between lists.elements; sorted = read.2 })
 
 -- ---- and back
 
@@ -126,7 +113,7 @@ pub read_are_http_lists : ReadAreHttpLists
 read_are_http_lists lines header is none = record {
   texts = is.pieces;
   between = of_any is.cut;
-  elements = elements_of (subst (AreSorted is.pieces header.ranges) none is.sorted);
+  elements = elements_of (rw none at is.sorted);
 }
 
 -- ---- pieces are sorted in one way
@@ -156,8 +143,7 @@ one_sorting (a_bad text _ _ _ not_blank isnt rest) (a_bad _ _ _ _ _ _ more) =
 -- so lines are read as one header
 pub one_header : OneHeader
 one_header lines header other first second =
-    let same : first.pieces ≡ second.pieces = only_cut first.cut ∙ sym (only_cut second.cut) in
-    let is = one_sorting (subst (λ pieces. AreSorted pieces header.ranges header.bad) same first.sorted) second.sorted in
+    let is = one_sorting (rw (only_cut first.cut, sym (only_cut second.cut)) at first.sorted) second.sorted in
     λ i. record { ranges = is.0 i; bad = is.1 i }
 
 -- a bad piece changes nothing of those before it and after it

@@ -1,20 +1,15 @@
 -- Worked facts of the pages `HttpList` and `Weight`: what is true of a text, and what is false.
-use Rattle.mime_http.proofs.Common.{IsUtf8, IsUtf8-nil, append-nil, Reads, text_of_parts, AreHttpLists, AreSorted, Header, IsHeader, IsHttpMediaType, IsPiece, IsQvalue, List, MediaType, Parts, [], a_range, answer_of, ap, arith, as_it_stands, codes, cut, get_or, is_token_byte, length, map, media_of, no_text, read, refl, subst, sym, thousandths_of, trimmed, true≢false, two_digits, ℕ, ◌∷◌, ◌≡◌}
+use Rattle.mime_http.proofs.Common.{IsUtf8-nil, append-nil, text_of_parts, AreHttpLists, AreSorted, Header, IsHeader, IsHttpMediaType, IsPiece, IsQvalue, List, MediaType, Parts, [], a_range, answer_of, ap, arith, as_it_stands, codes, cut, get_or, is_token_byte, length, map, media_of, no_text, read, refl, sym, thousandths_of, trimmed, true≢false, two_digits, ℕ, ◌∷◌, ◌≡◌}
 use Rattle.mime_http.{specs.HttpList.blank, proofs.Around.AreAscii, proofs.Around.put_ascii, proofs.Numbers.weight_is_number, proofs.Cuts.cut_of_piece, proofs.Cuts.are_cut, proofs.Lists.one_header, proofs.Lists.http_lists_are_read, proofs.Lists.read_are_http_lists, proofs.Lists.bad_is_alone, proofs.HttpLaws.written_reads, proofs.ReadBack.answered_is_http, proofs.ReadFaults.rejected_is_none}
 
 -- ---- weights (RFC 9110, 12.4.2)
 
 -- texts and how many thousandths they are
-weights :
-    (thousandths_of (codes "0.5") ≡ 500) × (thousandths_of (codes "1.000") ≡ 1000) × (thousandths_of (codes "0.001") ≡ 1)
-    × (thousandths_of (codes "0") ≡ 0)
-    -- of strings that are no weights, three digits after the dot count, and those before another byte,
-    × (thousandths_of (codes "0.1239") ≡ 123) × (thousandths_of (codes "0x.5") ≡ 0)
-    -- none need be before the dot,
-    × (thousandths_of (codes ".2") ≡ 200)
-    -- `2` is worth no more than 1, and a word nothing
-    × (thousandths_of (codes "2") ≡ 1000) × (thousandths_of (codes "high") ≡ 0)
-weights = (refl, refl, refl, refl, refl, refl, refl, refl, refl)
+weights : (map thousandths_of (codes "0.5" ∷ codes "1.000" ∷ codes "0.001" ∷ codes "0" ∷ []) ≡ 500 ∷ 1000 ∷ 1 ∷ 0 ∷ [])
+    -- of strings that are no weights, three digits after the dot count, and those before another byte, none need be before the dot, `2` is
+    -- worth no more than 1, and a word nothing
+    × (map thousandths_of (codes "0.1239" ∷ codes "0x.5" ∷ codes ".2" ∷ codes "2" ∷ codes "high" ∷ []) ≡ 123 ∷ 0 ∷ 200 ∷ 1000 ∷ 0 ∷ [])
+weights = (refl, refl)
 
 -- by the law, too
 quarter : thousandths_of (codes "0.25") ≡ 250
@@ -26,15 +21,11 @@ no_weight is = let same : 1000 ≡ 500 = weight_is_number (codes "1.5") 500 is i
 
 -- ---- pieces
 
--- lines and their pieces
-pieces :
-    -- a comma in a string ends no piece,
-    (cut (codes "a/b;p=\"x,y\",c/d") ≡ codes "a/b;p=\"x,y\"" ∷ codes "c/d" ∷ [])
-    -- nor does one after a quote that a backslash stands before,
+-- lines and their pieces: a comma in a string ends no piece, nor does one after a quote that a backslash stands before,
+pieces : (cut (codes "a/b;p=\"x,y\",c/d") ≡ codes "a/b;p=\"x,y\"" ∷ codes "c/d" ∷ [])
     × (cut (codes "a/b;p=\"\\\",\",c/d") ≡ codes "a/b;p=\"\\\",\"" ∷ codes "c/d" ∷ [])
-    -- or in a string that isn't closed
+    -- or in a string that isn't closed; and a quote opens a string only right after an equals sign
     × (cut (codes "a/b;p=\"x,c/d") ≡ codes "a/b;p=\"x,c/d" ∷ [])
-    -- a quote opens a string only right after an equals sign
     × (cut (codes "a\"b,c\"d") ≡ codes "a\"b" ∷ codes "c\"d" ∷ [])
 pieces = (refl, refl, refl, refl)
 
@@ -48,36 +39,29 @@ trims = refl
 
 -- ---- lists, of which this one has two elements among empty ones
 
--- the parts of a type and a subtype
-abbrev bare : List ℕ → List ℕ → Parts
-bare top sub = record { top = top; sub = sub; pairs = [] }
-
 abbrev a_b : Parts
-a_b = bare (codes "a") (codes "b")
+a_b = record { top = codes "a"; sub = codes "b"; pairs = [] }
 
 abbrev c_d : Parts
-c_d = bare (codes "c") (codes "d")
+c_d = record { top = codes "c"; sub = codes "d"; pairs = [] }
 
 -- what is written as it is printed, but for the white space around it, is a range before others
 as_range : (text : List ℕ) (parts : Parts) {texts bad : List (List ℕ)} {ranges : List MediaType} → AreAscii text
     → answer_of text ≡ read parts → text_of_parts parts ≡ trimmed text → AreSorted texts ranges bad
     → AreSorted (text ∷ texts) (media_of parts ∷ ranges) bad
 as_range text parts ascii answered same =
-    a_range text (media_of parts) _ _ _ (subst IsUtf8 (append-nil text) (put_ascii text [] ascii IsUtf8-nil))
-    (answered_is_http text parts answered)
-    (as_it_stands text (media_of parts) (subst (λ t. Reads t (media_of parts)) same (written_reads text parts answered)))
+    a_range text (media_of parts) _ _ _ (rw (append-nil text) at (put_ascii text [] ascii IsUtf8-nil))
+    (answered_is_http text parts answered) (as_it_stands text (media_of parts) (rw same at (written_reads text parts answered)))
 
 -- empty elements are no elements
 two_elements : AreHttpLists (codes ",a/b , ,c/d" ∷ []) (media_of a_b ∷ media_of c_d ∷ [])
 unfolding is_token_byte
-two_elements =
-    read_are_http_lists (codes ",a/b , ,c/d" ∷ []) (record { ranges = media_of a_b ∷ media_of c_d ∷ []; bad = [] })
-    (record {
-      pieces = _;
-      cut = are_cut _;
-      sorted = blank [] _ _ _ refl (as_range (codes "a/b ") a_b (omega arith) refl refl
-          (blank (codes " ") _ _ _ refl (as_range (codes "c/d") c_d (omega arith) refl refl no_text)));
-    }) refl
+two_elements = read_are_http_lists (codes ",a/b , ,c/d" ∷ []) (record { ranges = media_of a_b ∷ media_of c_d ∷ []; bad = [] }) (record {
+  pieces = _;
+  cut = are_cut _;
+  sorted = blank [] _ _ _ refl (as_range (codes "a/b ") a_b (omega arith) refl refl
+      (blank (codes " ") _ _ _ refl (as_range (codes "c/d") c_d (omega arith) refl refl no_text)));
+}) refl
 
 -- a text with a space within is no media type
 not_media_type : ¬ (IsHttpMediaType (codes " a b"))
@@ -85,13 +69,10 @@ unfolding is_token_byte
 not_media_type = rejected_is_none (codes " a b") _ refl
 
 -- so an entry that is one is bad as a whole, also between two others
-bad_between :
-    IsHeader (codes "c/d, a b" ∷ codes "a/b " ∷ []) (record { ranges = media_of c_d ∷ media_of a_b ∷ []; bad = codes "a b" ∷ [] })
+bad_between : IsHeader (codes "c/d, a b" ∷ codes "a/b " ∷ []) (record { ranges = media_of c_d ∷ media_of a_b ∷ []; bad = codes "a b" ∷ [] })
 unfolding is_token_byte
-bad_between =
-    (bad_is_alone (codes "c/d, a b" ∷ codes "a/b " ∷ []) (codes "c/d" ∷ codes "a/b " ∷ []) (codes "c/d" ∷ []) (codes "a/b " ∷ [])
-    (codes " a b") _ _ [] []
-    (as_range (codes "c/d") c_d (omega arith) refl refl no_text)
+bad_between = (bad_is_alone (codes "c/d, a b" ∷ codes "a/b " ∷ []) (codes "c/d" ∷ codes "a/b " ∷ []) (codes "c/d" ∷ []) (codes "a/b " ∷ [])
+    (codes " a b") _ _ [] [] (as_range (codes "c/d") c_d (omega arith) refl refl no_text)
     (as_range (codes "a/b ") a_b (omega arith) refl refl no_text)
     (λ blank. true≢false (sym blank)) (λ is. not_media_type is.1) (are_cut _) (are_cut _)).0
 
@@ -102,8 +83,7 @@ not_a_list media is =
     absurd (omega (arith, ap (λ (header : Header). length header.bad) (one_header _ _ _ bad_between read.2)))
 
 -- and a range prints no other text than its own
-other_text :
-    ¬ (IsHeader (codes "c/d, a b" ∷ codes "a/b " ∷ [])
+other_text : ¬ (IsHeader (codes "c/d, a b" ∷ codes "a/b " ∷ [])
     (record { ranges = record (media_of c_d) { kept = codes "C/d" } ∷ media_of a_b ∷ []; bad = codes "a b" ∷ [] }))
 other_text is =
     let kept = λ (header : Header). get_or (get_or (map (λ (range : MediaType). range.kept) header.ranges) 0 []) 0 0 in

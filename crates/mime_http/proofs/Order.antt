@@ -1,16 +1,8 @@
--- The offers that weigh more than 0, sorted, are in order, of which the first is the best.
-use Rattle.mime_http.proofs.Common.{All-contains, AllPairs, AreInOrder, Contains, IsDistinct, IsTotalOrder, List, MediaType, Ordering, Rank, Reverse, [], ap, arith, back_total, false, flip_args, get_or, get_or_past, cases_Bool, inl, inr, is_gt, is_lt, length, length-map, map, map-append, merit, nat_cmp, nat_cmp_total, nat_tests, ne_eqb, on, on_total, ordering_then, rank_cmp, subst, sym, then_cmp, then_total, true, ℕ, ⊎_elim, ◌++◌, ◌+◌, ◌<◌, ◌==◌, ◌∙◌, ◌∷◌, ◌≡◌, ◌≤◌, ◌⊎◌, All, cases_lt, All-map, All-push, Contains-append_left, Contains-append_right, BestIsAcceptable, BestIsFirst, None, Some, and_parts, get_or-map, nat_lt, refl, slice_get-get_or, suc, zero, ⊤}
+-- Offers that are sorted by their ranks are in order, of which the first is the best.
+use Rattle.mime_http.proofs.Common.{AllPairs, All-contains, Option, best_offer, if◌then◌else◌, position, slice_get, AreInOrder, Contains, IsDistinct, IsTotalOrder, List, MediaType, Ordering, Rank, Reverse, [], ap, arith, back_total, false, flip_args, get_or, get_or_past, cases_Bool, inl, inr, is_gt, is_lt, length, length-map, map, map-append, merit, nat_cmp, nat_cmp_total, nat_tests, ne_eqb, on, on_total, ordering_then, rank_cmp, subst, sym, then_cmp, true, then_total, ℕ, ⊎_elim, ◌++◌, ◌+◌, ◌<◌, ◌==◌, ◌∙◌, ◌∷◌, ◌≡◌, ◌≤◌, ◌⊎◌, All, cases_lt, All-map, All-push, Contains-append_left, Contains-append_right, BestIsAcceptable, BestIsFirst, None, Some, and_parts, get_or-map, nat_lt, refl, slice_get-get_or, suc, zero}
 use Rattle.std.{specs.List.Sorted.IsPermutation, specs.List.Sorted.IsSorted, proofs.lemmas.List.Quantifiers.all_pairs_push, proofs.lemmas.List.Sorted.ranks_by, proofs.lemmas.List.Sorted.sorted_far, proofs.lemmas.List.Sorted.All-permutation, proofs.lemmas.List.Sorted.IsPermutation-map, proofs.lemmas.List.Sorted.Contains-permutation, proofs.lemmas.Map.Keys.IsDistinct-IsPermutation, proofs.lemmas.Map.Keys.IsDistinct-from_apart, proofs.lemmas.Map.Keys.apart_from_distinct, proofs.Math.ListN.get_or-map as get_or-map_at, proofs.lemmas.List.Quantifiers.position-Some}
-use Rattle.mime_http.proofs.Highest.{best_is_found, is_best, lowest, none_is_best, one_rank}
-
--- the rank of an offer
-abbrev pub rank_at : List Rank → ℕ → Rank
-rank_at ranks at = get_or ranks at (0, 0, 0, 0)
-
--- an offer comes before another: it ranks higher, or as high and is offered first
-abbrev pub ComesBefore : List Rank → ℕ → ℕ → Type 0
-ComesBefore ranks at other =
-    (is_gt (rank_cmp (rank_at ranks at) (rank_at ranks other)) ≡ true) ⊎ ((rank_at ranks at ≡ rank_at ranks other) × (at < other))
+use Rattle.mime_http.specs.{Ranges.ComesBefore, Ranges.merit_at, Ranking.IsRanking, Ranking.ranked_as, Sorted.AreRanked, declared.ranking.RankedOffer.RankedOffer}
+use Rattle.mime_http.proofs.Highest.{best_is_found, is_best, lowest, one_rank, rank_at, ranks_total}
 
 -- what weighs something is an offer's
 pub weighs_within : (ranks : List Rank) (at : ℕ) → 0 < (rank_at ranks at).0 → at < length ranks
@@ -18,48 +10,43 @@ weighs_within ranks at weighs = grind (arith, weighs, get_or_past ranks at lowes
 
 -- ---- offers with their ranks
 
--- what an offer weighs that is sorted: something, or anything
-abbrev pub Weighs : ℕ → Type 0
-Weighs weight = 0 < weight
+-- where an offer stands
+abbrev place : Reverse Rank × ℕ → ℕ
+place offer = offer.1
 
-abbrev pub IsAny : ℕ → Type 0
-IsAny weight = ⊤
+-- an offer before a position has its rank, and weighs enough
+abbrev HasRank : ℕ → List Rank → ℕ → Reverse Rank × ℕ → Type 0
+HasRank least ranks at offer = (offer.0.0 ≡ rank_at ranks offer.1) × (offer.1 < at) × (least ≤ offer.0.0.0)
 
--- an offer before a position has its rank, and a weight that counts
-abbrev HasRank : (ℕ → Type 0) → List Rank → ℕ → Reverse Rank × ℕ → Type 0
-HasRank Counts ranks at offer = (offer.0.0 ≡ rank_at ranks offer.1) × Counts offer.0.0.0 × (offer.1 < at)
-
--- all offers before a position whose weight counts, each with its rank
-pub record Ranked (Counts : ℕ → Type 0) (ranks : List Rank) (at : ℕ) (found : List (Reverse Rank × ℕ)) : Type 0 where
-  pub are : All (HasRank Counts ranks at) found
-  pub all : (i : ℕ) → i < at → Counts (rank_at ranks i).0 → Contains (map (λ offer. offer.1) found) i
+-- all offers before a position that weigh enough, each with its rank
+pub record Ranked (least : ℕ) (ranks : List Rank) (at : ℕ) (found : List (Reverse Rank × ℕ)) : Type 0 where
+  pub are : All (HasRank least ranks at) found
+  pub all : (i : ℕ) → i < at → least ≤ (rank_at ranks i).0 → Contains (map place found) i
   pub apart : AllPairs (λ x y. x.1 < y.1) found
 
-module _ {Counts : ℕ → Type 0} {ranks : List Rank} {at : ℕ} {found : List (Reverse Rank × ℕ)} (was : Ranked Counts ranks at found) where
+module _ {least : ℕ} {ranks : List Rank} {at : ℕ} {found : List (Reverse Rank × ℕ)} (was : Ranked least ranks at found) where
   -- those before it are before the next position
-  still : All (HasRank Counts ranks (at + 1)) found
-  still = λ k d within. let is = was.are k d within in (is.0, is.1, omega (arith, is.2))
+  still : All (HasRank least ranks (at + 1)) found
+  still = λ k d within. let is = was.are k d within in (is.0, omega (arith, is.1), is.2)
 
-  -- an offer whose weight counts is one more,
-  pub one_ranked : (offer : Reverse Rank × ℕ) → offer.1 ≡ at → offer.0.0 ≡ rank_at ranks at → Counts offer.0.0.0
-      → Ranked Counts ranks (at + 1) (found ++ (offer ∷ []))
+  -- an offer that weighs enough is one more,
+  pub one_ranked : (offer : Reverse Rank × ℕ) → offer.1 ≡ at → offer.0.0 ≡ rank_at ranks at → least ≤ offer.0.0.0
+      → Ranked least ranks (at + 1) (found ++ (offer ∷ []))
   one_ranked offer there rank weighs = record {
-    are = All-push (HasRank Counts ranks (at + 1)) found offer still (rank ∙ ap (rank_at ranks) (sym there), weighs, omega (arith, there));
-    all = λ i below some.
-        let places = map (λ offer. offer.1) found in
-        rw (map-append (λ offer. offer.1) found (offer ∷ []))
-        (⊎_elim (λ less. Contains-append_left places (offer.1 ∷ []) i (was.all i less some))
-        (λ least. Contains-append_right places (offer.1 ∷ []) i (0, omega arith, omega (arith, there, below, least)))
+    are = All-push (HasRank least ranks (at + 1)) found offer still (rank ∙ ap (rank_at ranks) (sym there), omega (arith, there), weighs);
+    all = λ i below some. rw (map-append place found (offer ∷ []))
+        (⊎_elim (λ less. Contains-append_left (map place found) (offer.1 ∷ []) i (was.all i less some))
+        (λ least. Contains-append_right (map place found) (offer.1 ∷ []) i (0, omega arith, omega (arith, there, below, least)))
         (cases_lt i at));
-    apart = all_pairs_push (λ x y. x.1 < y.1) found offer was.apart (λ k d within. omega (arith, there, (was.are k d within).2));
+    apart = all_pairs_push (λ x y. x.1 < y.1) found offer was.apart (λ k d within. omega (arith, there, (was.are k d within).1));
   }
 
   -- and another isn't
-  pub none_more : ¬ (Counts (rank_at ranks at).0) → Ranked Counts ranks (at + 1) found
+  pub none_more : ¬ (least ≤ (rank_at ranks at).0) → Ranked least ranks (at + 1) found
   none_more light = record {
     are = still;
     all = λ i below some. ⊎_elim (λ less. was.all i less some)
-        (λ least. absurd (light (subst (λ k. Counts (rank_at ranks k).0) (omega (arith, below, least)) some))) (cases_lt i at);
+        (λ last. absurd (light (subst (λ k. least ≤ (rank_at ranks k).0) (omega (arith, below, last)) some))) (cases_lt i at);
     apart = was.apart;
   }
 
@@ -67,14 +54,10 @@ module _ {Counts : ℕ → Type 0} {ranks : List Rank} {at : ℕ} {found : List 
 
 -- offers are compared by their ranks, the higher first, and then by their positions
 abbrev pub offer_cmp : Reverse Rank × ℕ → Reverse Rank × ℕ → Ordering
-offer_cmp = then_cmp (flip_args (on (λ offer. offer.0.0) rank_cmp)) (on (λ offer. offer.1) nat_cmp)
+offer_cmp = then_cmp (flip_args (on (λ offer. offer.0.0) rank_cmp)) (on place nat_cmp)
 
--- that is a total order
 offers_total : IsTotalOrder offer_cmp
-offers_total =
-    then_total (back_total (on_total (λ offer. offer.0.0)
-    (then_total (then_total (then_total (on_total (λ rank. rank.0) nat_cmp_total) (on_total (λ rank. rank.1) nat_cmp_total))
-    (on_total (λ rank. rank.2) nat_cmp_total)) (on_total (λ rank. rank.3) nat_cmp_total)))) (on_total (λ offer. offer.1) nat_cmp_total)
+offers_total = then_total (back_total (on_total (λ offer. offer.0.0) ranks_total)) (on_total place nat_cmp_total)
 
 -- one that isn't after another is higher, or as high and offered earlier
 first_by : (x y : Rank) (i j : ℕ) → is_lt (ordering_then (rank_cmp x y) (nat_cmp j i)) ≡ false → (i == j) ≡ false
@@ -83,81 +66,116 @@ first_by x y i j low differ =
     ⊎_elim inl (λ no. inr (one_rank x y (grind (arith, nat_tests, low, no)), grind (arith, nat_tests, low, no, differ)))
     (cases_Bool (is_gt (rank_cmp x y)))
 
-module _ {Counts : ℕ → Type 0} {ranks : List Rank} {at : ℕ} {found : List (Reverse Rank × ℕ)} (was : Ranked Counts ranks at found)
-    (sorted : List (Reverse Rank × ℕ)) (moved : IsPermutation found sorted) where
+module _ {least : ℕ} {ranks : List Rank} {at : ℕ} (found sorted : List (Reverse Rank × ℕ)) (was : Ranked least ranks at found)
+    (moved : IsPermutation found sorted) where
   -- sorted offers have their ranks,
-  pub stand : All (HasRank Counts ranks at) sorted
-  stand = All-permutation (HasRank Counts ranks at) found sorted moved was.are
+  stand : All (HasRank least ranks at) sorted
+  stand = All-permutation (HasRank least ranks at) found sorted moved was.are
 
   -- and are at different positions, so each comes before those after it
-  in_turn : IsSorted offer_cmp sorted → (d : Reverse Rank × ℕ) (i j : ℕ) → i < j → j < length sorted
-      → ComesBefore ranks (get_or sorted i d).1 (get_or sorted j d).1
-  in_turn up d i j before within =
-      let x = get_or sorted i d in
-      let y = get_or sorted j d in
-      let first = (stand i d (omega (arith, before, within))).0 in
-      let second = (stand j d within).0 in
+  in_turn : IsSorted offer_cmp sorted → AllPairs (ComesBefore (rank_at ranks)) (map place sorted)
+  in_turn up i j e before below =
+      let d : Reverse Rank × ℕ = (record { 0 = lowest }, e) in
+      let within : j < length sorted = omega (arith, below, length-map sorted place) in
       let same_place = λ (x y : Reverse Rank × ℕ). x.1 == y.1 in
       let distinct : IsDistinct same_place sorted =
       IsDistinct-IsPermutation same_place (λ x y. grind (arith, nat_tests)) found sorted moved (IsDistinct-from_apart same_place found
       (λ i j d before within. ne_eqb _ _ (λ same. absurd (omega (arith, same, was.apart i j d before within))))) in
       let far = sorted_far (λ a b. is_lt (offer_cmp a b)) (ranks_by offers_total (λ offer. offer)) sorted up i j d
       (omega (arith, before)) within in
-      first_by (rank_at ranks x.1) (rank_at ranks y.1) x.1 y.1 (rw (first, second) at far)
-      (apart_from_distinct same_place sorted i j d distinct before within)
+      rw (get_or-map_at place sorted i d, get_or-map_at place sorted j d) (first_by _ _ _ _
+      (rw ((stand i d (omega (arith, before, within))).0, (stand j d within).0) at far)
+      (apart_from_distinct same_place sorted i j d distinct before within))
 
--- so the best is first of what is sorted,
-pub sorted_best_first : {Counts : ℕ → Type 0} (ranks : List Rank) (at : ℕ) (found sorted : List (Reverse Rank × ℕ)) → Ranked Counts ranks at found
-    → IsPermutation found sorted → IsSorted offer_cmp sorted → AllPairs (ComesBefore ranks) (map (λ offer. offer.1) sorted)
-sorted_best_first ranks at found sorted was moved up i j e before within =
-    let d : Reverse Rank × ℕ = (record { 0 = lowest }, e) in
-    let first = get_or-map_at (λ offer. offer.1) sorted i d in
-    let second = get_or-map_at (λ offer. offer.1) sorted j d in
-    rw (first, second) (in_turn was sorted moved up d i j before (omega (arith, within, length-map sorted (λ offer. offer.1))))
-
--- and it is in order
-pub are_in_order : (ranges offers : List MediaType) (at : ℕ) (found sorted : List (Reverse Rank × ℕ)) → length offers ≤ at
-    → Ranked Weighs (map (merit ranges) offers) at found → IsPermutation found sorted → IsSorted offer_cmp sorted
-    → AreInOrder ranges offers (map (λ offer. offer.1) sorted)
-are_in_order ranges offers at found sorted past was moved up = record {
-  best_first = sorted_best_first (map (merit ranges) offers) at found sorted was moved up;
-  all = λ i.
-      let ranks = map (merit ranges) offers in
-      let place = λ (offer : Reverse Rank × ℕ). offer.1 in (
-        All-contains (λ n. 0 < (rank_at ranks n).0) (map place sorted) i (All-map (λ n. 0 < (rank_at ranks n).0) place sorted (λ k d within.
-            let is = stand was sorted moved k d within in subst (λ (rank : Rank). 0 < rank.0) is.0 is.1)),
-        λ weighs. Contains-permutation (map place found) (map place sorted) i (IsPermutation-map place found sorted moved)
-            (was.all i (omega (arith, weighs_within ranks i weighs, past, length-map offers (merit ranges))) weighs),
+-- so they are in order
+pub are_ranked : (least : ℕ) (ranges offers : List MediaType) {at : ℕ} (found sorted : List (Reverse Rank × ℕ)) → at ≡ length offers
+    → Ranked least (map (merit ranges) offers) at found → IsPermutation found sorted → IsSorted offer_cmp sorted
+    → AreRanked least ranges offers sorted
+are_ranked least ranges offers found sorted past was moved up =
+    let ranks = map (merit ranges) offers in
+    let Counts = λ (i : ℕ). (i < length offers) × (least ≤ (rank_at ranks i).0) in
+    record {
+      best_first = in_turn found sorted was moved up;
+      all = λ i. (
+        All-contains Counts (map place sorted) i (All-map Counts place sorted (λ k d within.
+            let is = stand found sorted was moved k d within in
+            (omega (arith, past, is.1), rw is.0 at is.2))),
+        λ counts. Contains-permutation (map place found) (map place sorted) i (IsPermutation-map place found sorted moved)
+            (was.all i (omega (arith, past, counts.0)) counts.1),
       );
+      ranks = λ k d within. (stand found sorted was moved k d within).0;
+    }
+
+-- as are the positions of those that weigh something,
+pub in_order : {ranges offers : List MediaType} {ranked : List (Reverse Rank × ℕ)} (order : List ℕ) → AreRanked 1 ranges offers ranked
+    → order ≡ map (λ offer. offer.1) ranked → AreInOrder ranges offers order
+in_order {ranges} {offers} order are is = rw is (record {
+  best_first = are.best_first;
+  all = λ at. (
+    λ there. omega (arith, ((are.all at).0 there).1),
+    λ weighs. (are.all at).1
+        (omega (arith, weighs_within (map (merit ranges) offers) at weighs, length-map offers (merit ranges)), omega (arith, weighs)),
+  );
+})
+
+-- and what all say of the ranges that decide
+pub is_ranking : {ranges offers : List MediaType} {ranked : List (Reverse Rank × ℕ)} (count : ℕ) (ranking : List RankedOffer)
+    → AreRanked 0 ranges offers ranked → count ≡ length ranges → ranking ≡ map (λ one. ranked_as count one.0.0 one.1) ranked
+    → IsRanking ranges offers ranking
+is_ranking {ranges} {offers} {ranked} count ranking are counted is = record {
+  order = map place ranked;
+  best_first = are.best_first;
+  all = λ at. (λ there. ((are.all at).0 there).0, λ within. (are.all at).1 (within, omega arith));
+  given = is ∙ (ap (λ n. map (λ one. ranked_as n one.0.0 one.1) ranked) counted ∙ said ranked are.ranks);
 }
+  where
+    said : (offers_too : List (Reverse Rank × ℕ)) → All (λ offer. offer.0.0 ≡ merit_at ranges offers offer.1) offers_too
+        → map (λ one. ranked_as (length ranges) one.0.0 one.1) offers_too
+        ≡ map (λ at. ranked_as (length ranges) (merit_at ranges offers at) at) (map place offers_too)
+    said [] all = refl
+    said (one ∷ more) all = λ i. ranked_as (length ranges) (all 0 one (omega arith) i) one.1
+        ∷ said more (λ k d within. all (suc k) d (omega (arith, within))) i
 
--- ---- the best offer is the first, and weighs more than 0
+-- ---- the best offer is the first in order
 
--- the first in order is each that is in order, or comes before it
-first_or_before : (ranks : List Rank) (best : ℕ) (others : List ℕ) → AllPairs (ComesBefore ranks) (best ∷ others) → (at : ℕ)
-    → Contains (best ∷ others) at → (best ≡ at) ⊎ ComesBefore ranks best at
-first_or_before ranks best others pairs at (zero, within, is) = inl is
-first_or_before ranks best others pairs at (suc k, within, is) =
-    inr (subst (ComesBefore ranks best) is (pairs 0 (suc k) at (omega arith) within))
+-- the first of an order, if it weighs something
+abbrev first_weighs : List Rank → List ℕ → Option ℕ
+first_weighs ranks [] = None
+first_weighs ranks (at ∷ order) = if nat_lt 0 (rank_at ranks at).0 then Some at else None
 
--- so the best offer is the first in order
+-- so the first of an order of all that weigh something is the best
+best_by_order : (ranks : List Rank) (order : List ℕ) → AllPairs (ComesBefore (rank_at ranks)) order
+    → ((at : ℕ) → 0 < (rank_at ranks at).0 → Contains order at) → position (is_best ranks) ranks ≡ first_weighs ranks order
+best_by_order ranks [] first all = best_is_found {at = length ranks} {most = lowest} {best = None} (record {
+  above = λ at _ weighs. absurd (omega (arith, (all at weighs).1));
+  first = λ some. absurd (omega (arith, some));
+}) (omega arith)
+best_by_order ranks (best ∷ others) first all = best_is_found {at = length ranks} {most = rank_at ranks best} (record {
+  above = λ at _ weighs. grind (arith, nat_tests, stands at weighs);
+  first = λ _. (best, refl, refl, λ at less weighs. grind (arith, nat_tests, less, stands at weighs));
+}) (omega arith)
+  where
+    stands : (at : ℕ) → 0 < (rank_at ranks at).0 → (best ≡ at) ⊎ ComesBefore (rank_at ranks) best at
+    stands at weighs = by (all at weighs)
+      where
+        by : Contains (best ∷ others) at → (best ≡ at) ⊎ ComesBefore (rank_at ranks) best at
+        by (zero, within, is) = inl is
+        by (suc k, within, is) = inr (subst (ComesBefore (rank_at ranks) best) is (first 0 (suc k) at (omega arith) within))
+
 pub best_is_first : BestIsFirst
-best_is_first ranges offers [] are =
-    let ranks = map (merit ranges) offers in
-    sym (none_is_best ranks (λ at within. ⊎_elim (λ weighs. absurd (omega (arith, ((are.all at).1 weighs).1))) (λ none. omega (arith, none))
-    (cases_lt 0 (rank_at ranks at).0)))
-best_is_first ranges offers (best ∷ others) are =
-    let ranks = map (merit ranges) offers in
-    let top = rank_at ranks best in
-    let weighs : 0 < top.0 = (are.all best).0 (0, omega arith, refl) in
-    let within = weighs_within ranks best weighs in
-    let stands : (at : ℕ) → (best ≡ at) ⊎ ComesBefore ranks best at = λ at.
-    ⊎_elim (λ some. first_or_before ranks best others are.best_first at ((are.all at).1 some))
-    (λ none. inr (inl (grind (arith, nat_tests, none, weighs)))) (cases_lt 0 (rank_at ranks at).0) in
-    sym (best_is_found {all = ranks} {at = length ranks} {most = top} {best = Some best} (record {
-      above = λ at inside. grind (arith, nat_tests, stands at);
-      first = λ _. (best, refl, within, record { there = refl; before = λ at less. grind (arith, less, stands at) });
-    }) (omega arith) weighs)
+best_is_first ranges offers order are =
+    best_by_order (map (merit ranges) offers) order are.best_first (λ at. (are.all at).1) ∙ weighs order (λ at. (are.all at).0)
+  where
+    weighs : (order : List ℕ) → ((at : ℕ) → Contains order at → 0 < (merit_at ranges offers at).0)
+        → first_weighs (map (merit ranges) offers) order ≡ slice_get order 0
+    weighs [] all = refl
+    weighs (best ∷ others) all = grind (arith, nat_tests, all best (0, omega arith, refl))
+
+-- so is the first of a ranking, unless it weighs nothing
+begins_with_best : (ranges offers : List MediaType) (ranking : List RankedOffer) (is : IsRanking ranges offers ranking)
+    → best_offer ranges offers ≡ first_weighs (map (merit ranges) offers) is.order
+begins_with_best ranges offers ranking is = best_by_order (map (merit ranges) offers) is.order is.best_first (λ at weighs. (is.all at).1
+    (omega (arith, weighs_within (map (merit ranges) offers) at weighs, length-map offers (merit ranges))))
 
 -- the best offer passes the test of the best: it weighs more than 0
 pub best_is_acceptable : BestIsAcceptable

@@ -1,7 +1,7 @@
 -- A range that covers none of the offers only moves the ranges after it by one position, which changes no comparison.
-use Rattle.mime_http.proofs.Common.{cons_option, filter_map, find, AllPairs, Contains, List, MediaType, None, Rank, Some, StrangerChangesNothing, [], ap, arith, closeness, enumerate_from, get_or, if◌then◌else◌, is_le, length, length-append, list_all, list_all-map, map, merit, nat_cmp, nat_lt, nat_tests, option_map, ordering_then, position, position_from, position_from-zero, rank_cmp, refl, subst, sym, zero, ℕ, ◌++◌, ◌+◌, ◌-◌, ◌<◌, ◌↔◌, ◌∙◌, ◌∷◌, ◌≡◌, ◌≤◌, Contains-append_right}
+use Rattle.mime_http.proofs.Common.{cons_option, filter_map, find, Contains, List, MediaType, None, Rank, StrangerChangesNothing, [], ap, arith, closeness, enumerate_from, get_or, if◌then◌else◌, is_le, length, length-append, list_all, list_all-map, map, merit, nat_cmp, nat_lt, nat_tests, option_map, ordering_then, position, rank_cmp, refl, sym, zero, ℕ, ◌&&◌, ◌++◌, ◌+◌, ◌-◌, ◌∙◌, ◌∷◌, ◌≡◌, ◌≤◌, Contains-append_right}
 use Rattle.std.proofs.Math.ListN.{get_or-map}
-use Rattle.mime_http.proofs.{Highest.is_best, Highest.lowest, Order.ComesBefore, Order.rank_at, Highest.is_top}
+use Rattle.mime_http.{specs.Ranges.ComesBefore, proofs.Highest.is_best, proofs.Highest.lowest, proofs.Highest.position-map, proofs.Highest.rank_at, proofs.Highest.is_top}
 
 -- a rank with another last place
 abbrev moved : (ℕ → ℕ) → Rank → Rank
@@ -19,8 +19,7 @@ module _ (g : ℕ → ℕ) (same : (x y : ℕ) → nat_cmp (g x) (g y) ≡ nat_c
 
   -- so is which is above all,
   same_top : (all : List Rank) (one : Rank) → is_top (map (moved g) all) (moved g one) ≡ is_top all one
-  same_top all one =
-      list_all-map (λ other. is_le (rank_cmp other (moved g one))) (moved g) all
+  same_top all one = list_all-map (λ other. is_le (rank_cmp other (moved g one))) (moved g) all
       ∙ (λ i. list_all (λ other. is_le (same_order other one i)) all)
 
   -- the highest is found,
@@ -32,12 +31,7 @@ module _ (g : ℕ → ℕ) (same : (x y : ℕ) → nat_cmp (g x) (g y) ≡ nat_c
   -- and the place of the best is the same
   same_best : (all : List Rank) → position (is_best (map (moved g) all)) (map (moved g) all) ≡ position (is_best all) all
   same_best all =
-      position_from-zero (is_best (map (moved g) all)) (map (moved g) all) ∙ (place 0 all ∙ sym (position_from-zero (is_best all) all))
-    where
-      place : (at : ℕ) (ranks : List Rank) → position_from (is_best (map (moved g) all)) at (map (moved g) ranks)
-          ≡ position_from (is_best all) at ranks
-      place at [] = refl
-      place at (one ∷ ranks) = rw (same_top all one) (ap (λ rest. if is_best all one then Some at else rest) (place (at + 1) ranks))
+      position-map (is_best (map (moved g) all)) (moved g) all ∙ (λ i. position (λ one. nat_lt 0 one.0 && same_top all one i) all)
 
   module _ (all : List Rank) (none : moved g lowest ≡ lowest) where
     -- an offer ranks so,
@@ -45,7 +39,7 @@ module _ (g : ℕ → ℕ) (same : (x y : ℕ) → nat_cmp (g x) (g y) ≡ nat_c
     rank_so at = ap (get_or (map (moved g) all) at) (sym none) ∙ get_or-map (moved g) all at lowest
 
     -- and comes before the same others
-    same_turn : (at other : ℕ) → ComesBefore all at other → ComesBefore (map (moved g) all) at other
+    same_turn : (at other : ℕ) → ComesBefore (rank_at all) at other → ComesBefore (rank_at (map (moved g) all)) at other
     same_turn at other before = grind (arith, rank_so at, rank_so other, same_order (rank_at all at) (rank_at all other), before)
 
 -- ---- the closest range
@@ -69,40 +63,31 @@ module _ (offer : MediaType) (k : ℕ) where
   later : (at : ℕ) (ranges : List MediaType) → k ≤ at
       → ranks_from offer (at + 1) ranges ≡ map (moved (shifted k)) (ranks_from offer at ranges)
   later at [] after = refl
-  later at (range ∷ ranges) after =
-      ap (cons_option (closeness offer (at + 1, range))) (later (at + 1) ranges (omega (arith, after)))
+  later at (range ∷ ranges) after = ap (cons_option (closeness offer (at + 1, range))) (later (at + 1) ranges (omega (arith, after)))
       ∙ moved_first range at (at + 1) _ (grind (arith, nat_tests))
 
   -- and with one that covers nothing before them
   one_more : (range : MediaType) (after : List MediaType) → closeness offer (0, range) ≡ None
       → (at : ℕ) (before : List MediaType) → k ≡ at + length before
       → ranks_from offer at (before ++ (range ∷ after)) ≡ map (moved (shifted k)) (ranks_from offer at (before ++ after))
-  one_more range after none at [] long =
-      ap (λ first. cons_option first (ranks_from offer (at + 1) after))
+  one_more range after none at [] long = ap (λ first. cons_option first (ranks_from offer (at + 1) after))
       (covers_so offer range (λ _. at) 0 ∙ ap (option_map (moved (λ _. at))) none) ∙ later at after (omega (arith, long))
   one_more range after none at (other ∷ before) long =
       ap (cons_option (closeness offer (at, other))) (one_more range after none (at + 1) before (omega (arith, long)))
       ∙ moved_first other at at _ (grind (arith, nat_tests, long))
 
 module _ (before after : List MediaType) (range : MediaType) where
-  -- the ranges with it,
-  abbrev with_it : List MediaType
-  with_it = before ++ (range ∷ after)
-
-  -- how many there are without it,
-  abbrev count : ℕ
-  count = length (before ++ after)
-
-  -- and how early a range stands with it
+  -- how early a range stands that stood so early without this one
   abbrev raised : ℕ → ℕ
-  raised early = if nat_lt (count - early) (length before) then early + 1 else early
+  raised early = if nat_lt (length (before ++ after) - early) (length before) then early + 1 else early
 
   -- an offer that no range covers ranks as before
   none_stays : moved raised lowest ≡ lowest
   none_stays = grind (arith, nat_tests, length-append before after)
 
   -- each offer ranks so,
-  merit_so : (offer : MediaType) → closeness offer (0, range) ≡ None → merit with_it offer ≡ moved raised (merit (before ++ after) offer)
+  merit_so : (offer : MediaType) → closeness offer (0, range) ≡ None
+      → merit (before ++ (range ∷ after)) offer ≡ moved raised (merit (before ++ after) offer)
   merit_so offer none =
       let g = shifted (length before) in
       let old = ranks_from offer 0 (before ++ after) in
@@ -112,10 +97,9 @@ module _ (before after : List MediaType) (range : MediaType) where
 
   -- and so do all
   merits_so : (offers : List MediaType) → ((offer : MediaType) → Contains offers offer → closeness offer (0, range) ≡ None)
-      → map (merit with_it) offers ≡ map (moved raised) (map (merit (before ++ after)) offers)
+      → map (merit (before ++ (range ∷ after))) offers ≡ map (moved raised) (map (merit (before ++ after)) offers)
   merits_so [] none = refl
-  merits_so (offer ∷ offers) none = λ i.
-      merit_so offer (none offer (zero, omega arith, refl)) i
+  merits_so (offer ∷ offers) none = λ i. merit_so offer (none offer (zero, omega arith, refl)) i
       ∷ merits_so offers (λ other there. none other (Contains-append_right (offer ∷ []) offers other there)) i
 
 -- so a range that covers none of the offers changes nothing
@@ -129,9 +113,7 @@ stranger_changes_nothing before after offers range none =
       λ offer there. ap (λ (rank : Rank). rank.0) (merit_so before after range offer (none offer there)),
       ap (λ all. position (is_best all) all) ranks ∙ same_best g alike old,
       λ order are. record {
-        best_first = subst (λ ranks. AllPairs (ComesBefore ranks) order) (sym ranks)
-            (λ i j d below within. same_turn g alike old stays _ _ (are.best_first i j d below within));
-        all = subst (λ ranks. (at : ℕ) → Contains order at ↔ (0 < (rank_at ranks at).0)) (sym ranks)
-            (λ at. subst (λ (rank : Rank). Contains order at ↔ (0 < rank.0)) (sym (rank_so g alike old stays at)) (are.all at));
+        best_first = rw ranks (λ i j d below within. same_turn g alike old stays _ _ (are.best_first i j d below within));
+        all = λ at. rw (ranks, rank_so g alike old stays at) (are.all at);
       },
     )

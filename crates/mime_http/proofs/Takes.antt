@@ -1,53 +1,38 @@
 -- What is taken of lines, piece by piece.
-use Rattle.mime_http.proofs.Common.{AreKept, AreSorted, AreSpaces, Bool, Header, HttpReads, IsHeader, IsHttpMediaType, IsPrinted, IsAscii, IsUtf8, List, MediaType, OnOk, Outside, Result, Takes, [], a_bad, a_range, ap, append-nil, append_assoc, cut, cut_after, arith, drop, drop-append_seam, drop_more, drop_of_length-le, flat_map, get_or, if◌then◌else◌, length, lines_or_any, no_text, on_ok_weaker, refl, subst, sym, take, take-append_seam, trimmed, ℕ, ◌++◌, ◌+◌, ◌-◌, ◌<◌, ◌∙◌, ◌∷◌, ◌≡◌, ◌≤◌, IsAscii-drop, IsAscii-take}
-use Rattle.mime_http.{specs.HttpList.blank, proofs.Around.white_around, proofs.Cuts.are_cut, proofs.Cuts.only_cut, proofs.Cuts.cut_at_end, proofs.Cuts.end_on, proofs.Around.trimmed_from_blank}
+use Rattle.mime_http.proofs.Common.{AreSorted, AreSpaces, Bool, Header, HttpReads, IsHeader, IsHttpMediaType, IsPrinted, IsUtf8, List, MediaType, OnOk, Outside, Result, Takes, [], a_bad, a_range, append-nil, append_assoc, cut, cut_after, arith, drop, drop_more, drop_of_length-le, flat_map, get_or, if◌then◌else◌, length, lines_or_any, no_text, on_ok_weaker, refl, sym, take, trimmed, ℕ, ◌++◌, ◌+◌, ◌-◌, ◌<◌, ◌∷◌, ◌≡◌, ◌≤◌}
+use Rattle.mime_http.{specs.HttpList.blank, proofs.Cuts.are_cut, proofs.Cuts.only_cut, proofs.Cuts.cut_at_end, proofs.Cuts.end_on, proofs.Around.trimmed_from_blank}
 
 -- two runs of texts are sorted one after the other
 pub sorted_both : {texts more : List (List ℕ)} {ranges others : List MediaType} {bad poor : List (List ℕ)} → AreSorted texts ranges bad
     → AreSorted more others poor → AreSorted (texts ++ more) (ranges ++ others) (bad ++ poor)
 sorted_both no_text second = second
 sorted_both (blank text texts ranges bad white rest) second = blank text _ _ _ white (sorted_both rest second)
-sorted_both (a_range text range texts ranges bad utf8 reads kept rest) second =
-    a_range text range _ _ _ utf8 reads kept (sorted_both rest second)
+sorted_both (a_range text range _ _ _ utf8 reads kept rest) second = a_range text range _ _ _ utf8 reads kept (sorted_both rest second)
 sorted_both (a_bad text texts ranges bad some isnt rest) second = a_bad text _ _ _ some isnt (sorted_both rest second)
 
 -- ---- a piece
-
--- what is left of ASCII is ASCII
-pub ascii_trimmed : (piece : List ℕ) → IsAscii piece → IsAscii (trimmed piece)
-ascii_trimmed piece ascii =
-    let (before, after, first, last, same) = white_around piece in
-    let left = trimmed piece in
-    subst IsAscii (ap (λ bytes. take (length left) (drop (length before) bytes)) same
-    ∙ (ap (take (length left)) (drop-append_seam before (left ++ after)) ∙ take-append_seam left after))
-    (IsAscii-take (drop (length before) piece) (length left) (IsAscii-drop piece (length before) ascii))
 
 module _ (keeps_bad : Bool) (piece : List ℕ) (old : Header) where
   -- white space alone is nothing,
   pub takes_blank : AreSpaces piece → Takes keeps_bad (piece ∷ []) old old
   takes_blank white = λ before held.
-      let sorted = sorted_both held.1 (blank piece [] [] [] white no_text) in
-      (held.0, rw (append-nil old.ranges, append-nil held.0) at sorted, held.2)
+      (held.0, rw (append-nil old.ranges, append-nil held.0) at (sorted_both held.1 (blank piece [] [] [] white no_text)), held.2)
 
   -- a media type is a range if it was taken,
-  pub takes_range : (range : MediaType) (new : Header) {X E : Type 0} (result : Result X E) → IsUtf8 piece → HttpReads piece range
+  pub takes_range : {range : MediaType} (new : Header) {X E : Type 0} (result : Result X E) → IsUtf8 piece → HttpReads piece range
       → IsPrinted piece range → OnOk result (new ≡ record old { ranges = old.ranges ++ (range ∷ []) })
       → OnOk result (Takes keeps_bad (piece ∷ []) old new)
-  takes_range range new result utf8 reads printed = on_ok_weaker result (λ is before held.
-      let sorted = sorted_both held.1 (a_range piece range [] [] [] utf8 reads printed no_text) in
-      subst (AreKept keeps_bad (before ++ (piece ∷ []))) (sym is) (held.0, rw (append-nil held.0) at sorted, held.2))
+  takes_range {range} new result utf8 reads printed = on_ok_weaker result (λ is before held.
+      rw is (held.0, rw (append-nil held.0) at (sorted_both held.1 (a_range piece range [] [] [] utf8 reads printed no_text)), held.2))
 
   -- and any other is bad
-  pub takes_bad : (entry : List ℕ) (new : Header) {X E : Type 0} (result : Result X E) → entry ≡ trimmed piece → ¬ (trimmed piece ≡ [])
+  pub takes_bad : {entry : List ℕ} (new : Header) {X E : Type 0} (result : Result X E) → entry ≡ trimmed piece → ¬ (trimmed piece ≡ [])
       → ¬ (IsUtf8 piece × IsHttpMediaType piece)
       → OnOk result (new ≡ record old { bad = if keeps_bad then old.bad ++ (entry ∷ []) else old.bad })
       → OnOk result (Takes keeps_bad (piece ∷ []) old new)
-  takes_bad entry new result trim some isnt = on_ok_weaker result (λ is before held.
-      let not_blank = λ (white : AreSpaces piece). some (trimmed_from_blank piece white) in
-      let sorted = sorted_both held.1 (a_bad piece [] [] [] not_blank isnt no_text) in
-      let listed = subst (λ e. AreSorted (before ++ (piece ∷ [])) (old.ranges ++ []) (held.0 ++ (e ∷ []))) (sym trim) sorted in
-      subst (AreKept keeps_bad (before ++ (piece ∷ []))) (sym is)
-      (held.0 ++ (entry ∷ []), rw (append-nil old.ranges) at listed, grind (arith, held.2)))
+  takes_bad {entry} new result trim some isnt = on_ok_weaker result (λ is before held.
+      let sorted = sorted_both held.1 (a_bad piece [] [] [] (λ white. some (trimmed_from_blank piece white)) isnt no_text) in
+      rw is (held.0 ++ (entry ∷ []), rw (append-nil old.ranges, sym trim) at sorted, grind (arith, held.2)))
 
 -- ---- texts of which nothing is read
 
@@ -55,9 +40,18 @@ module _ (keeps_bad : Bool) (piece : List ℕ) (old : Header) where
 abbrev pub nothing : Header
 nothing = record { ranges = []; bad = [] }
 
+-- the pieces of lines
+abbrev pub pieces_of : List (List ℕ) → List (List ℕ)
+pieces_of lines = flat_map cut lines
+
+-- lines that are there are the lines of a header
+pub or_any : (lines : List (List ℕ)) → 0 < length lines → lines_or_any lines ≡ lines
+or_any [] some = absurd (omega (arith, some))
+or_any (line ∷ lines) some = refl
+
 -- nothing is read of the pieces of lines that hold nothing,
 pub pieces_of_nothing : {lines : List (List ℕ)} → IsHeader lines nothing → AreSorted (flat_map cut (lines_or_any lines)) [] []
-pieces_of_nothing holds = subst (λ pieces. AreSorted pieces [] []) (only_cut holds.cut) holds.sorted
+pieces_of_nothing holds = rw (only_cut holds.cut) at holds.sorted
 
 -- of texts of which nothing is read, nothing is read of the first and of the rest,
 pub both_are_nothing : (first : List (List ℕ)) {rest : List (List ℕ)} → AreSorted (first ++ rest) [] []
@@ -108,8 +102,7 @@ module _ {keeps_bad : Bool} where
   module _ (line : List ℕ) (from : ℕ) {old now : Header} (left : AreLeft keeps_bad old now (cut line) (cut (drop from line))) where
     -- after an empty piece of a line those behind it are left,
     pub past_empty : from < length line → get_or line from 0 ≡ 44 → AreLeft keeps_bad old now (cut line) (cut (drop (from + 1) line))
-    past_empty within comma =
-        rest_left ([] ∷ []) (rw (drop_more line from 0 within, comma) at left) (takes_blank keeps_bad [] now refl)
+    past_empty within comma = rest_left ([] ∷ []) (rw (drop_more line from 0 within, comma) at left) (takes_blank keeps_bad [] now refl)
 
     module _ (end : ℕ) (is : end ≡ end_on Outside line from) {new : Header}
         (taken : Takes keeps_bad (take (end - from) (drop from line) ∷ []) now new) where
@@ -119,13 +112,13 @@ module _ {keeps_bad : Bool} where
 
       -- after its comma,
       pub past_piece : end < length line → AreLeft keeps_bad old new (cut line) (cut (drop (end + 1) line))
-      past_piece more = subst (AreLeft keeps_bad old new (cut line)) (ap cut_after (drop_more line end 0 more)) passed
+      past_piece more = rw (drop_more line end 0 more) at passed
 
       -- and at the line's end all are taken
       pub past_last : length line ≤ end → Takes keeps_bad (cut line) old new
-      past_last past = all_taken (subst (AreLeft keeps_bad old new (cut line)) (ap cut_after (drop_of_length-le line past)) passed)
+      past_last past = all_taken (rw (drop_of_length-le line past) at passed)
 
     -- the first piece is white space if nothing is read of the line
     pub blank_there : (end : ℕ) → end ≡ end_on Outside line from → AreSorted (cut line) [] []
         → trimmed (take (end - from) (drop from line)) ≡ []
-    blank_there end is sorted = is_blank (subst (λ pieces. AreSorted pieces [] []) (cut_at_end line from end is) (left.nothing sorted))
+    blank_there end is sorted = is_blank (rw (cut_at_end line from end is) at (left.nothing sorted))

@@ -1,11 +1,8 @@
 -- The boundary between the parts of a multipart body (RFC 2046, 5.1.1).
 use Rattle.std.specs.Prelude.{◌≡◌, ◌≢◌, ◌≤◌, ◌-◌, ℕ, Bool, List, Some, ◌||◌, ◌==◌, IsTrue, IsSomeAnd, codes, length, option_map, slice_get}
-use Rattle.std.specs.List.{list_all, list_any}
-use Rattle.std.specs.Char.{is_ascii_alphanumeric}
-use Rattle.mime.specs.Bytes.{space_byte}
-use Rattle.mime.specs.Values.{MediaType, type_of}
-use Rattle.mime_http.specs.Ranges.{first_value}
-use Rattle.mime_http.specs.Unescaped.{unescaped}
+use Rattle.std.specs.{List.list_all, List.list_any, Char.is_ascii_alphanumeric}
+use Rattle.mime.specs.{Bytes.space_byte, Values.MediaType, Values.type_of}
+use Rattle.mime_http.specs.{Ranges.first_value, Unescaped.unescaped}
 
 -- bchars = DIGIT / ALPHA / "'" / "(" / ")" / "+" / "_" / "," / "-" / "." / "/" / ":" / "=" / "?" / SP
 abbrev pub is_bchar : ℕ → Bool

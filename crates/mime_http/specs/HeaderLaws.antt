@@ -1,11 +1,7 @@
 -- The laws of a header's value: what it is, what is printed of it, and its fault.
 use Rattle.std.specs.Prelude.{◌≡◌, ℕ, List}
-use Rattle.mime.specs.Values.{MediaType, Reads}
-use Rattle.mime.specs.Comparison.{Same}
-use Rattle.mime.specs.declared.scan.fault.ParseError.{ParseError}
-use Rattle.mime_http.specs.HttpMediaType.{HttpReads, IsHttpMediaType}
-use Rattle.mime_http.specs.HttpList.{IsPrinted}
-use Rattle.mime_http.specs.HttpFaults.{IsHttpFault}
+use Rattle.mime.specs.{Values.MediaType, Values.Reads, Comparison.Same, declared.scan.fault.ParseError.ParseError}
+use Rattle.mime_http.specs.{HttpMediaType.HttpReads, HttpMediaType.IsHttpMediaType, HttpList.IsPrinted, HttpFaults.IsHttpFault}
 
 -- HTTP allows whatever `mime` reads, as the same media type.
 abbrev pub PlainIsHttp : Type 0
@@ -17,18 +13,15 @@ OneHttpReading = (value : List ℕ) (first second : MediaType) → HttpReads val
 
 -- Each value has one printed text.
 abbrev pub OnePrintedText : Type 0
-OnePrintedText =
-    (value : List ℕ) (first second : MediaType) → HttpReads value first → IsPrinted value first → HttpReads value second
+OnePrintedText = (value : List ℕ) (first second : MediaType) → HttpReads value first → IsPrinted value first → HttpReads value second
     → IsPrinted value second → first ≡ second
 
 -- The printed text of a value is read by `mime`, and so by HTTP's grammar, as the same media type, with the same text.
 abbrev pub PrintedIsRead : Type 0
-PrintedIsRead =
-    (value : List ℕ) (media : MediaType) → HttpReads value media → IsPrinted value media
+PrintedIsRead = (value : List ℕ) (media : MediaType) → HttpReads value media → IsPrinted value media
     → Reads media.kept media × HttpReads media.kept media
 
 -- A value that HTTP doesn't allow has exactly one fault.
 abbrev pub OneHttpFault : Type 0
-OneHttpFault =
-    (value : List ℕ) → ¬ (IsHttpMediaType value)
+OneHttpFault = (value : List ℕ) → ¬ (IsHttpMediaType value)
     → (fault : ParseError) × IsHttpFault value fault × ((other : ParseError) → IsHttpFault value other → other ≡ fault)

@@ -15,5 +15,6 @@ pub mod RangesLaws
 -- private
 pub mod Reader
 pub mod LineCut
+pub mod Sorted
 pub mod Forms
 pub mod Digits

@@ -65,8 +65,7 @@ pub record IsNextOutside (bytes : List ℕ) (from to : ℕ) : Type 0 where
 
 -- what is kept of pieces: the ranges, and the bad entries if they are asked for
 abbrev pub AreKept : Bool → List (List ℕ) → Header → Type 0
-AreKept keeps_bad pieces kept =
-    (bad : List (List ℕ)) × AreSorted pieces kept.ranges bad × (kept.bad ≡ (if keeps_bad then bad else []))
+AreKept keeps_bad pieces kept = (bad : List (List ℕ)) × AreSorted pieces kept.ranges bad × (kept.bad ≡ (if keeps_bad then bad else []))
 
 -- from one header that is kept to another these pieces were taken, whatever was before
 abbrev pub Takes : Bool → List (List ℕ) → Header → Header → Type 0

@@ -1,15 +1,12 @@
 -- The laws of a header whose lines are lists.
 use Rattle.std.specs.Prelude.{◌≡◌, ℕ, List, [], ◌∷◌, ◌++◌, map, ⊤}
 use Rattle.std.specs.Str.{IsUtf8}
-use Rattle.mime.specs.Grammar.{AreSpaces}
-use Rattle.mime.specs.Values.{MediaType}
-use Rattle.mime_http.specs.HttpMediaType.{HttpReads, IsHttpMediaType}
-use Rattle.mime_http.specs.HttpList.{lines_or_any, AreBetweenCommas, trimmed, AreSorted, IsPiece, BeginsPiece, Header, IsHeader}
+use Rattle.mime.specs.{Grammar.AreSpaces, Values.MediaType}
+use Rattle.mime_http.specs.{HttpMediaType.HttpReads, HttpMediaType.IsHttpMediaType, HttpList.lines_or_any, HttpList.AreBetweenCommas, HttpList.trimmed, HttpList.AreSorted, HttpList.IsPiece, HttpList.BeginsPiece, HttpList.Header, HttpList.IsHeader}
 
 -- Lines have exactly one cut into pieces.
 abbrev pub OneCut : Type 0
-OneCut =
-    (lines : List (List ℕ)) → (pieces : List (List ℕ)) × AreBetweenCommas IsPiece BeginsPiece lines pieces
+OneCut = (lines : List (List ℕ)) → (pieces : List (List ℕ)) × AreBetweenCommas IsPiece BeginsPiece lines pieces
     × ((other : List (List ℕ)) → AreBetweenCommas IsPiece BeginsPiece lines other → other ≡ pieces)
 
 -- texts that are elements, each a media range with its weight, or only white space
@@ -35,14 +32,12 @@ AreSame all others = map without_kept all ≡ map without_kept others
 
 -- Lists that HTTP allows are read as their elements, and no entry is bad.
 abbrev pub HttpListsAreRead : Type 0
-HttpListsAreRead =
-    (lines : List (List ℕ)) (media : List MediaType) → AreHttpLists (lines_or_any lines) media
+HttpListsAreRead = (lines : List (List ℕ)) (media : List MediaType) → AreHttpLists (lines_or_any lines) media
     → (ranges : List MediaType) × AreSame ranges media × IsHeader lines (record { ranges = ranges; bad = [] })
 
 -- Lines without a bad entry are lists that HTTP allows.
 abbrev pub ReadAreHttpLists : Type 0
-ReadAreHttpLists =
-    (lines : List (List ℕ)) (header : Header) → IsHeader lines header → header.bad ≡ []
+ReadAreHttpLists = (lines : List (List ℕ)) (header : Header) → IsHeader lines header → header.bad ≡ []
     → AreHttpLists (lines_or_any lines) header.ranges
 
 -- Lines have one list of ranges, and one of bad entries.
@@ -52,8 +47,7 @@ OneHeader = (lines : List (List ℕ)) (header other : Header) → IsHeader lines
 -- A bad entry changes no other entry, wherever it is: lines with it, and lines without it, have the same ranges, so that each offer weighs the
 -- same, and the same bad entries before it and after it.
 abbrev pub BadIsAlone : Type 0
-BadIsAlone =
-    (lines others before after : List (List ℕ)) (entry : List ℕ) (ranges more : List MediaType) (bad worse : List (List ℕ))
+BadIsAlone = (lines others before after : List (List ℕ)) (entry : List ℕ) (ranges more : List MediaType) (bad worse : List (List ℕ))
     → AreSorted before ranges bad → AreSorted after more worse → ¬ (AreSpaces entry) → ¬ (IsUtf8 entry × IsHttpMediaType entry)
     → AreBetweenCommas IsPiece BeginsPiece (lines_or_any lines) (before ++ (entry ∷ after))
     → AreBetweenCommas IsPiece BeginsPiece (lines_or_any others) (before ++ after)

@@ -1,12 +1,8 @@
 -- The weight of an offer by the ranges of an `Accept` header, and the best offer (RFC 9110, 12.4.2 and 12.5.1).
 use Rattle.std.specs.Prelude.{◌≡◌, ◌⊎◌, ◌↔◌, ◌<◌, ℕ, ◌-◌, Bool, List, ◌++◌, length, Option, Some, None, IsTrue, Contains, option_map, unwrap_or, map, filter, filter_map, find, position, slice_index_or, nat_lt, not, ◌&&◌, if◌then◌else◌, codes}
-use Rattle.std.specs.List.{list_all, list_any, enumerate_from, AllPairs}
-use Rattle.std.specs.Ordering.{is_gt, is_le, nat_cmp, on, then_cmp}
-use Rattle.std.specs.Str.{bytes_eq}
-use Rattle.std.specs.declared.cmp.Ordering.{Ordering}
+use Rattle.std.specs.{List.list_all, List.list_any, List.enumerate_from, List.AllPairs, Ordering.is_gt, Ordering.is_le, Ordering.nat_cmp, Ordering.on, Ordering.then_cmp, Str.bytes_eq, declared.cmp.Ordering.Ordering}
 use Rattle.mime.specs.Values.{MediaType, type_of}
-use Rattle.mime_http.specs.Unescaped.{unescaped}
-use Rattle.mime_http.specs.Weight.{thousandths_of}
+use Rattle.mime_http.specs.{Unescaped.unescaped, Weight.thousandths_of}
 
 -- the first value under a name, if there is one
 abbrev pub first_value : List ℕ → List (List ℕ × List ℕ) → Option (List ℕ)
@@ -69,8 +65,11 @@ best_offer ranges offers =
 abbrev pub merit_at : List MediaType → List MediaType → ℕ → Rank
 merit_at ranges offers at = slice_index_or (map (merit ranges) offers) at (0, 0, 0, 0)
 
--- the positions of all offers that weigh more than 0: of two the first ranks higher, or as high and is offered first
+-- of two offers, at positions of these ranks, the first comes before the second: it ranks higher, or as high and is offered first
+abbrev pub ComesBefore : (ℕ → Rank) → ℕ → ℕ → Type 0
+ComesBefore rank at other = IsTrue (is_gt (rank_cmp (rank at) (rank other))) ⊎ ((rank at ≡ rank other) × (at < other))
+
+-- the positions of all offers that weigh more than 0, in order
 pub record AreInOrder (ranges offers : List MediaType) (order : List ℕ) : Type 0 where
-  pub best_first : AllPairs (λ at other. IsTrue (is_gt (rank_cmp (merit_at ranges offers at) (merit_at ranges offers other)))
-      ⊎ ((merit_at ranges offers at ≡ merit_at ranges offers other) × (at < other))) order
+  pub best_first : AllPairs (ComesBefore (merit_at ranges offers)) order
   pub all : (at : ℕ) → Contains order at ↔ (0 < (merit_at ranges offers at).0)

@@ -2,9 +2,7 @@
 use Rattle.std.specs.Prelude.{◌≡◌, ◌⊎◌, ◌<◌, ◌≤◌, ℕ, ◌+◌, ◌*◌, List, [], ◌∷◌, ◌++◌, codes, replicate, Some, None, IsTrue, Contains, MatchOption, is_some, map, slice_get}
 use Rattle.std.specs.List.{enumerate_from}
 use Rattle.mime.specs.Values.{MediaType, type_of}
-use Rattle.mime_http.specs.Ranges.{Rank, weight_of, closeness, closest, given_weight, best_offer, AreInOrder}
-use Rattle.mime_http.specs.Unescaped.{unescaped}
-use Rattle.mime_http.specs.Weight.{thousandths_of}
+use Rattle.mime_http.specs.{Ranges.Rank, Ranges.weight_of, Ranges.closeness, Ranges.closest, Ranges.given_weight, Ranges.best_offer, Ranges.AreInOrder, Unescaped.unescaped, Weight.thousandths_of}
 
 -- qvalue = ( "0" [ "." 0*3DIGIT ] ) / ( "1" [ "." 0*3("0") ] ), and how many thousandths it is (12.4.2)
 pub data IsQvalue : List ℕ → ℕ → Type 0 where
@@ -12,8 +10,7 @@ pub data IsQvalue : List ℕ → ℕ → Type 0 where
   zero_dot : IsQvalue (codes "0.") 0
   one_digit : (a : ℕ) → a ≤ 9 → IsQvalue (codes "0." ++ ((48 + a) ∷ [])) (100 * a)
   two_digits : (a b : ℕ) → a ≤ 9 → b ≤ 9 → IsQvalue (codes "0." ++ ((48 + a) ∷ (48 + b) ∷ [])) (100 * a + 10 * b)
-  three_digits : (a b c : ℕ) → a ≤ 9 → b ≤ 9 → c ≤ 9
-      → IsQvalue (codes "0." ++ ((48 + a) ∷ (48 + b) ∷ (48 + c) ∷ [])) (100 * a + 10 * b + c)
+  three_digits : (a b c : ℕ) → a ≤ 9 → b ≤ 9 → c ≤ 9 → IsQvalue (codes "0." ++ ((48 + a) ∷ (48 + b) ∷ (48 + c) ∷ [])) (100 * a + 10 * b + c)
   one : IsQvalue (codes "1") 1000
   one_dot : (zeros : ℕ) → zeros ≤ 3 → IsQvalue (codes "1." ++ replicate zeros 48) 1000
 
@@ -23,15 +20,12 @@ WeightIsNumber = (text : List ℕ) (thousandths : ℕ) → IsQvalue text thousan
 
 -- a rank is at most another: of the first places that differ its is the lower
 abbrev pub IsAtMost : Rank → Rank → Type 0
-IsAtMost rank other =
-    (rank.0 < other.0) ⊎ ((rank.0 ≡ other.0) × ((rank.1 < other.1) ⊎ ((rank.1 ≡ other.1)
+IsAtMost rank other = (rank.0 < other.0) ⊎ ((rank.0 ≡ other.0) × ((rank.1 < other.1) ⊎ ((rank.1 ≡ other.1)
     × ((rank.2 < other.2) ⊎ ((rank.2 ≡ other.2) × (rank.3 ≤ other.3))))))
 
 -- The most specific range is one of the ranges, and each that covers the offer is at most as specific. If there is none, none covers it.
 abbrev pub ClosestIsClosest : Type 0
-ClosestIsClosest =
-    (ranges : List MediaType) (offer : MediaType)
-    → MatchOption (closest ranges offer)
+ClosestIsClosest = (ranges : List MediaType) (offer : MediaType) → MatchOption (closest ranges offer)
     ((item : ℕ × MediaType) → Contains (enumerate_from 0 ranges) item → closeness offer item ≡ None)
     (λ close. ((item : ℕ × MediaType) × Contains (enumerate_from 0 ranges) item × (closeness offer item ≡ Some close))
     × ((item : ℕ × MediaType) (other : Rank) → Contains (enumerate_from 0 ranges) item → closeness offer item ≡ Some other
@@ -43,8 +37,7 @@ BestIsFirst = (ranges offers : List MediaType) (order : List ℕ) → AreInOrder
 
 -- The best offer weighs more than 0.
 abbrev pub BestIsAcceptable : Type 0
-BestIsAcceptable =
-    (ranges offers : List MediaType) (at : ℕ) → best_offer ranges offers ≡ Some at
+BestIsAcceptable = (ranges offers : List MediaType) (at : ℕ) → best_offer ranges offers ≡ Some at
     → (offer : MediaType) × (slice_get offers at ≡ Some offer) × (0 < given_weight ranges offer)
 
 -- Each media type covers itself.

@@ -1,23 +1,18 @@
 -- Why an offer is chosen: its weight, the range that decides, and a range of which it lacks a parameter (RFC 9110, 12.4.2 and 12.5.1).
-use Rattle.std.specs.Prelude.{◌≡◌, ◌⊎◌, ◌↔◌, ◌<◌, ℕ, ◌-◌, Bool, true, false, List, [], ◌∷◌, length, Some, None, IsTrue, Contains, is_some, map, nat_lt, not, ◌&&◌, ◌||◌, ◌==◌, if◌then◌else◌}
-use Rattle.std.specs.Char.{is_ascii_digit}
-use Rattle.std.specs.List.{list_all, AllPairs}
-use Rattle.std.specs.Ordering.{is_gt}
-use Rattle.std.specs.Str.{bytes_eq}
+use Rattle.std.specs.Prelude.{◌≡◌, ◌↔◌, ◌<◌, ℕ, ◌-◌, Bool, true, false, List, [], ◌∷◌, length, Some, None, Contains, is_some, map, nat_lt, not, ◌&&◌, ◌||◌, ◌==◌, if◌then◌else◌}
+use Rattle.std.specs.{Char.is_ascii_digit, List.list_all, List.AllPairs, Str.bytes_eq}
 use Rattle.mime.specs.Values.{MediaType}
-use Rattle.mime_http.specs.Ranges.{Rank, rank_cmp, closeness, merit_at}
-use Rattle.mime_http.specs.declared.ranking.RankedOffer.{RankedOffer}
+use Rattle.mime_http.specs.{Ranges.Rank, Ranges.ComesBefore, Ranges.closeness, Ranges.merit_at, declared.ranking.RankedOffer.RankedOffer}
 
 -- what the rank of an offer at a position says: its weight, and the position of the range that decides, which the rank counts from the end
 abbrev pub ranked_as : ℕ → Rank → ℕ → RankedOffer
 ranked_as count rank at =
     record { offer = at; weight = rank.0; range = if rank.3 == 0 then None else Some (count - rank.3) }
 
--- all offers with their weights and the ranges that decide: of two the first ranks higher, or as high and is offered first
+-- all offers with their weights and the ranges that decide, in order
 pub record IsRanking (ranges offers : List MediaType) (ranking : List RankedOffer) : Type 0 where
   pub order : List ℕ
-  pub best_first : AllPairs (λ at other. IsTrue (is_gt (rank_cmp (merit_at ranges offers at) (merit_at ranges offers other)))
-      ⊎ ((merit_at ranges offers at ≡ merit_at ranges offers other) × (at < other))) order
+  pub best_first : AllPairs (ComesBefore (merit_at ranges offers)) order
   pub all : (at : ℕ) → Contains order at ↔ (at < length offers)
   pub given : ranking ≡ map (λ at. ranked_as (length ranges) (merit_at ranges offers at) at) order
 

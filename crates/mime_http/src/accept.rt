@@ -1,14 +1,11 @@
 //! Reads an `Accept` header once, and chooses among a server's offers.
 
-ghost use Rattle.std.specs.Prelude.{◌≡◌, ◌≢◌, ◌<◌, true, [], ◌∷◌, ◌++◌, map, length, if◌then◌else◌, IfSome, IsOk, IfOk, OnOk};
-ghost use Rattle.std.specs.Str.{IsAscii, IsUtf8};
-ghost use Rattle.std.specs.Vec.{vec_items};
+ghost use Rattle.std.specs.Prelude.{◌≡◌, ◌≢◌, ◌<◌, [], ◌∷◌, ◌++◌, map, length, if◌then◌else◌, IfSome, IsOk, IfOk, OnOk};
+ghost use Rattle.std.specs.{Str.IsUtf8, Vec.vec_items};
 ghost use Rattle.mime.specs.Faults.{Explains};
-ghost use Rattle.mime_http.specs.HttpList.{trimmed, AreSorted, Header, IsHeader};
-ghost use Rattle.mime_http.specs.Ranges.{given_weight, best_offer, AreInOrder};
-ghost use Rattle.mime_http.specs.LineCut.{cut, Takes};
+ghost use Rattle.mime_http.specs.{HttpList.trimmed, HttpList.AreSorted, HttpList.Header, HttpList.IsHeader, Ranges.given_weight, Ranges.best_offer, Ranges.AreInOrder, LineCut.cut, LineCut.Takes};
 
-use crate::list::{is_empty_piece, is_short_ascii, piece_end, trim_end, trim_start};
+use crate::list::{piece_end, trim_end, trim_start};
 use crate::offers::{best_of, merit, order_of};
 use crate::value::{FieldError, read_rejected, text_of_piece};
 use mime::{Mime, ParseError};
@@ -87,17 +84,9 @@ impl Accept {
         }
     }
 
-    /// Adds a piece of a line, unless it is only white space. If `is_ascii`, the piece is known to be ASCII.
+    /// Adds a piece of a line, unless it is only white space.
     #[inline(always)]
-    #[tactic(auto, using(crate::proofs::Takes::ascii_trimmed))]
-    fn take_piece(
-        &mut self,
-        alloc: Global,
-        keeps_bad: bool,
-        piece: &[u8],
-        is_ascii: bool,
-    ) -> Result<(), AllocError>
-        requires { is_ascii ≡ true → IsAscii piece.now }
+    fn take_piece(&mut self, alloc: Global, keeps_bad: bool, piece: &[u8]) -> Result<(), AllocError>
         ensures taken { OnOk result (Takes keeps_bad (piece.now ∷ []) self.old self.new) }
         ensures blank { trimmed piece.now ≡ [] → IsOk result }
     {
@@ -105,7 +94,7 @@ impl Accept {
         if entry.is_empty() {
             return Ok(());
         }
-        let Ok(text) = text_of_piece(entry, is_ascii) else {
+        let Ok(text) = text_of_piece(entry, false) else {
             return self.take_bad(alloc, keeps_bad, entry);
         };
         match Mime::from_str(alloc, text) {
@@ -120,16 +109,15 @@ impl Accept {
         ensures taken { OnOk result (Takes keeps_bad (cut line.now) self.old self.new) }
         ensures nothing { AreSorted (cut line.now) [] [] → IsOk result }
     {
-        let is_ascii = is_short_ascii(line);
         let mut from = 0;
         loop {
             // An empty piece is skipped without being read.
-            if is_empty_piece(line, from) {
+            if line.get(from) == Some(&b',') {
                 from += 1;
                 continue;
             }
             let end = piece_end(line, from);
-            self.take_piece(alloc, keeps_bad, &line[from..end], is_ascii)?;
+            self.take_piece(alloc, keeps_bad, &line[from..end])?;
             if end == line.len() {
                 return Ok(());
             }

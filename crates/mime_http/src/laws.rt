@@ -1,10 +1,7 @@
 //! The laws of the definitions and of `FieldError`, as functions. A caller of such a function can use the law in its own proof.
 
 ghost use Rattle.std.specs.Prelude.{◌≡◌};
-ghost use Rattle.mime_http.specs.HeaderLaws.{PlainIsHttp, OneHttpReading, OnePrintedText, PrintedIsRead, OneHttpFault};
-ghost use Rattle.mime_http.specs.ListLaws.{OneCut, HttpListsAreRead, ReadAreHttpLists, OneHeader, BadIsAlone};
-ghost use Rattle.mime_http.specs.Written.{WrittenIsMeant};
-ghost use Rattle.mime_http.specs.RangesLaws.{ClosestIsClosest, BestIsAcceptable, BestIsFirst, CoversItself, MeaningCounts, StrangerChangesNothing, WeightIsNumber};
+ghost use Rattle.mime_http.specs.{HeaderLaws.PlainIsHttp, HeaderLaws.OneHttpReading, HeaderLaws.OnePrintedText, HeaderLaws.PrintedIsRead, HeaderLaws.OneHttpFault, ListLaws.OneCut, ListLaws.HttpListsAreRead, ListLaws.ReadAreHttpLists, ListLaws.OneHeader, ListLaws.BadIsAlone, Written.WrittenIsMeant, RangesLaws.ClosestIsClosest, RangesLaws.BestIsAcceptable, RangesLaws.BestIsFirst, RangesLaws.CoversItself, RangesLaws.MeaningCounts, RangesLaws.StrangerChangesNothing, RangesLaws.WeightIsNumber};
 
 use crate::value::FieldError;
 

@@ -1,14 +1,10 @@
 //! Cuts a header's line at its commas outside quoted strings, and trims white space from the pieces.
 
-ghost use Rattle.std.specs.Prelude.{◌≡◌, ◌<◌, ◌≤◌, ◌+◌, ℕ, true, length, drop, slice_index};
-ghost use Rattle.std.specs.Str.{IsAscii};
-ghost use Rattle.mime.specs.Bytes.{comma_byte, quote_byte};
-ghost use Rattle.mime.specs.Grammar.{is_space};
-ghost use Rattle.mime_http.specs.HttpList.{trim_start, trim_end};
-ghost use Rattle.mime_http.specs.LineCut.{Outside, Quoted, IsNextOutside, before_mark, piece_len};
+ghost use Rattle.std.specs.Prelude.{◌≡◌, ◌<◌, ◌≤◌, ◌+◌, length, drop};
+ghost use Rattle.mime.specs.{Bytes.comma_byte, Bytes.quote_byte, Grammar.is_space};
+ghost use Rattle.mime_http.specs.{HttpList.trim_start, HttpList.trim_end, LineCut.Outside, LineCut.Quoted, LineCut.IsNextOutside, LineCut.before_mark, LineCut.piece_len};
 
 use mime_search::{Class, content_end, first_stop};
-use std::simd::prelude::*;
 
 /// Returns the position of the first comma or equals sign at or after `from`, or the length of the line if there is neither.
 #[inline(always)]
@@ -66,14 +62,6 @@ fn quoted_piece_len(line: &[u8], quote: usize) -> usize
     at
 }
 
-/// Returns `true` if a comma is at `from`, so that a line's piece that begins there is empty.
-#[inline(always)]
-pub(crate) fn is_empty_piece(line: &[u8], from: usize) -> bool
-    ensures { result ≡ true → (from < length line.now) × (slice_index line.now from ≡ comma_byte) }
-{
-    from < line.len() && line[from] == b','
-}
-
 /// Returns the end of a line's piece that begins at `from`: the position of the first comma outside quoted strings, or the length of the
 /// line.
 #[inline(always)]
@@ -123,38 +111,6 @@ pub(crate) fn trim_start(piece: &[u8]) -> &[u8]
         return &piece[1..];
     }
     trim_spaces(piece)
-}
-
-/// The number of bytes that are tested for ASCII at once.
-const ASCII_BLOCK: usize = 32;
-
-/// Returns `true` if the block that begins at `at` is ASCII.
-#[inline(always)]
-fn is_ascii_block(text: &[u8], at: usize) -> bool
-    requires { at + ASCII_BLOCK ≤ length text.now }
-    ensures { result ≡ true → (k : ℕ) → at ≤ k → k < at + ASCII_BLOCK → slice_index text.now k < 128 }
-{
-    let bytes = u8x32::from_slice(&text[at..]);
-    bytes.simd_gt(u8x32::splat(127)).to_bitmask() == 0
-}
-
-/// Returns `true` if a line has 32 to 256 bytes and is ASCII. The pieces of other lines are tested one by one.
-#[inline(never)]
-pub(crate) fn is_short_ascii(line: &[u8]) -> bool
-    ensures { result ≡ true → IsAscii line.now }
-{
-    if line.len() < ASCII_BLOCK || line.len() > 256 {
-        return false;
-    }
-    let last = line.len() - ASCII_BLOCK;
-    let mut at = 0;
-    while at < last {
-        if !is_ascii_block(line, at) {
-            return false;
-        }
-        at += ASCII_BLOCK;
-    }
-    is_ascii_block(line, last)
 }
 
 /// Returns a piece without the white space at its end. This function isn't inlined, since most pieces don't end in white space.

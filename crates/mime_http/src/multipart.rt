@@ -1,12 +1,9 @@
 //! The boundary between the parts of a multipart body.
 
 ghost use Rattle.std.specs.Prelude.{◌≡◌, ◌≢◌, ◌↔◌, ℕ, List, Some, None, IsTrue, IfOk, IsOk, MatchOption, codes, option_map};
-ghost use Rattle.std.specs.List.{list_all};
-ghost use Rattle.std.specs.Vec.{vec_items};
+ghost use Rattle.std.specs.{List.list_all, Vec.vec_items};
 ghost use Rattle.mime.specs.Values.{type_of};
-ghost use Rattle.mime_http.specs.Boundary.{is_bchar, IsBoundary, IsBoundaryOf};
-ghost use Rattle.mime_http.specs.Ranges.{first_value};
-ghost use Rattle.mime_http.specs.Unescaped.{unescaped};
+ghost use Rattle.mime_http.specs.{Boundary.is_bchar, Boundary.IsBoundary, Boundary.IsBoundaryOf, Ranges.first_value, Unescaped.unescaped};
 
 use crate::quoted::unescape;
 use crate::range::first_value;

@@ -1,11 +1,9 @@
 //! The weights and the order of a server's offers, according to the ranges of an `Accept` header.
 
 ghost use Rattle.std.specs.Prelude.{◌≡◌, ◌<◌, [], None, map, length, IfSome, IfOk, IsOk};
-ghost use Rattle.std.specs.Option.{option_cmp};
-ghost use Rattle.std.specs.Ordering.{ord_max};
-ghost use Rattle.std.specs.Vec.{vec_items};
+ghost use Rattle.std.specs.{Option.option_cmp, Ordering.ord_max, Vec.vec_items};
 ghost use Rattle.mime.specs.Values.{type_of};
-ghost use Rattle.mime_http.specs.Ranges.{rank_cmp, closeness, closest, merit, best_offer, AreInOrder};
+ghost use Rattle.mime_http.specs.{Sorted.AreRanked, Ranges.rank_cmp, Ranges.closeness, Ranges.closest, Ranges.merit, Ranges.best_offer, Ranges.AreInOrder};
 
 use crate::range::{demanded, named_parts};
 use mime::Mime;
@@ -72,11 +70,12 @@ impl Closest {
     }
 }
 
-/// Returns what `Closest` holds of the most specific of these ranges that covers an offer, or `None` if no range covers the offer.
+/// Returns the rank of an offer: its weight, then how specific its range is, then how early its range is in the header. Returns zeros if no
+/// range covers the offer.
 #[inline(always)]
 #[tactic(auto, using(crate::proofs::Highest::closest_is_kept))]
-fn closest_of(ranges: &[Mime], offer: &Mime) -> Option<(u8, usize, u16, usize)>
-    ensures { result ≡ closest (map (λ range. range.media) ranges.now) offer.now.media }
+pub(crate) fn merit(ranges: &[Mime], offer: &Mime) -> (u16, u8, usize, usize)
+    ensures { result ≡ merit (map (λ range. range.media) ranges.now) offer.now.media }
 {
     let parts = Offer {
         mime: offer,
@@ -92,22 +91,12 @@ fn closest_of(ranges: &[Mime], offer: &Mime) -> Option<(u8, usize, u16, usize)>
     for (at, range) in ranges.iter().enumerate() {
         closest.look_at(range, parts, at);
     }
-    let named = closest.named?;
-    Some((named, closest.demanded, closest.weight, closest.at))
-}
-
-/// Returns the rank of an offer: its weight, then how specific its range is, then how early its range is in the header. Returns zeros if no
-/// range covers the offer.
-#[inline(always)]
-pub(crate) fn merit(ranges: &[Mime], offer: &Mime) -> (u16, u8, usize, usize)
-    ensures { result ≡ merit (map (λ range. range.media) ranges.now) offer.now.media }
-{
-    match closest_of(ranges, offer) {
-        Some((named, demanded, weight, at)) => (
-            weight,
+    match closest.named {
+        Some(named) => (
+            closest.weight,
             named,
-            demanded,
-            ranges.len().saturating_sub(at),
+            closest.demanded,
+            ranges.len().saturating_sub(closest.at),
         ),
         None => (0, 0, 0, 0),
     }
@@ -130,11 +119,32 @@ pub(crate) fn best_of(ranges: &[Mime], offers: &[Mime]) -> Option<usize>
     if most.0 > 0 { best } else { None }
 }
 
-/// Returns the positions of ranked offers.
-fn positions(
+/// An offer's rank and its position. Of two offers, the lower of these comes first.
+pub(crate) type Ranked = (Reverse<(u16, u8, usize, usize)>, usize);
+
+/// Returns the offers that weigh at least `least`, the best first.
+#[inline(always)]
+pub(crate) fn ranked(
     alloc: Global,
-    offers: &[(Reverse<(u16, u8, usize, usize)>, usize)],
-) -> Result<Vec<usize>, AllocError>
+    ranges: &[Mime],
+    offers: &[Mime],
+    least: u16,
+) -> Result<Vec<Ranked>, AllocError>
+    ensures { IfOk result (λ ranked. AreRanked least (map (λ range. range.media) ranges.now) (map (λ offer. offer.media) offers.now) (vec_items ranked)) }
+{
+    let mut ranked = Vec::new(alloc);
+    for (at, offer) in offers.iter().enumerate() {
+        let merit = merit(ranges, offer);
+        if merit.0 >= least {
+            ranked.push((Reverse(merit), at))?;
+        }
+    }
+    ranked.sort()?;
+    Ok(ranked)
+}
+
+/// Returns the positions of ranked offers.
+fn positions(alloc: Global, offers: &[Ranked]) -> Result<Vec<usize>, AllocError>
     ensures { IfOk result (λ order. vec_items order ≡ map (λ offer. offer.1) offers.now) }
 {
     offers.iter().map(|offer| offer.1).collect(alloc)
@@ -152,13 +162,5 @@ pub(crate) fn order_of(
     if offers.is_empty() {
         return Ok(Vec::new(alloc));
     }
-    let mut ranked = Vec::new(alloc);
-    for (at, offer) in offers.iter().enumerate() {
-        let merit = merit(ranges, offer);
-        if merit.0 > 0 {
-            ranked.push((Reverse(merit), at))?;
-        }
-    }
-    ranked.sort()?;
-    positions(alloc, &ranked)
+    positions(alloc, &ranked(alloc, ranges, offers, 1)?)
 }

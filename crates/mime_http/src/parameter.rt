@@ -1,13 +1,8 @@
 //! Media types with a new parameter, as they are written in a header.
 
 ghost use Rattle.std.specs.Prelude.{◌≡◌, ◌++◌, ◌∷◌, [], ◌↔◌, IsTrue, IfOk, IsOk, IfSome, OnOk, is_some, if◌then◌else◌, codes, string_bytes, length};
-ghost use Rattle.mime.specs.Grammar.{IsToken};
-ghost use Rattle.mime.specs.HeaderLaws.{AreHeaderBytes};
-ghost use Rattle.mime.specs.Values.{lowered, lowered_value};
-ghost use Rattle.mime_http.specs.Boundary.{IsBoundary};
-ghost use Rattle.mime_http.specs.Forms.{form_of, text_in};
-ghost use Rattle.mime_http.specs.Written.{escaped, is_token_value, text_of_pairs, others, with_pair};
-ghost use Rattle.mime_http.specs.declared.quoted.Form.TheVariants.{Token, Quoted};
+ghost use Rattle.mime.specs.{Grammar.IsToken, HeaderLaws.AreHeaderBytes, Values.lowered, Values.lowered_value};
+ghost use Rattle.mime_http.specs.{Boundary.IsBoundary, Forms.form_of, Forms.text_in, Written.escaped, Written.is_token_value, Written.text_of_pairs, Written.others, Written.with_pair, declared.quoted.Form.TheVariants.Token, declared.quoted.Form.TheVariants.Quoted};
 
 use crate::multipart::is_boundary;
 use crate::quoted::{Form, form_of, push_escaped};

@@ -1,12 +1,9 @@
 //! The content of a quoted string: what it means, and how a value is written.
 
 ghost use Rattle.std.specs.Prelude.{◌≡◌, ◌∷◌, [], ◌++◌, ◌≤◌, ◌+◌, None, Some, OnOk, IsOk, is_ok, if◌then◌else◌, length, take, drop, string_bytes};
-ghost use Rattle.std.specs.List.{list_all, prefix_len};
-ghost use Rattle.std.specs.Vec.{vec_items, vec_len, vec_capacity};
+ghost use Rattle.std.specs.{List.list_all, List.prefix_len, Vec.vec_items, Vec.vec_len, Vec.vec_capacity};
 ghost use Rattle.mime.specs.Bytes.{is_quoted_byte, backslash_byte};
-ghost use Rattle.mime_http.specs.Forms.{kind_of, is_plain, form_of};
-ghost use Rattle.mime_http.specs.Unescaped.{unescaped};
-ghost use Rattle.mime_http.specs.Written.{escaped};
+ghost use Rattle.mime_http.specs.{Forms.kind_of, Forms.is_plain, Forms.form_of, Unescaped.unescaped, Written.escaped};
 
 use std::alloc::AllocError;
 

@@ -2,10 +2,8 @@
 
 ghost use Rattle.std.specs.Prelude.{◌≡◌, ◌++◌, Some, None, length, drop, option_map, unwrap_or, is_some, if◌then◌else◌, codes, bytes_eq};
 ghost use Rattle.std.specs.List.{list_all};
-ghost use Rattle.mime.specs.Items.{name_text};
-ghost use Rattle.mime.specs.Values.{Reads};
-ghost use Rattle.mime_http.specs.Weight.{thousandths_of};
-ghost use Rattle.mime_http.specs.Ranges.{first_value, weight_of, named_parts, demanded, has, closeness};
+ghost use Rattle.mime.specs.{Items.name_text, Values.Reads};
+ghost use Rattle.mime_http.specs.{Weight.thousandths_of, Ranges.first_value, Ranges.weight_of, Ranges.named_parts, Ranges.demanded, Ranges.has, Ranges.closeness};
 
 use crate::meaning::mean_the_same;
 use crate::weights::{tenths, thousandths};

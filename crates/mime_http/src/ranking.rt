@@ -1,16 +1,12 @@
 //! Explains why an offer is chosen: ranks all offers, names the range that decides each weight, and cuts off a header's entries one by one.
 
 ghost use Rattle.std.specs.Prelude.{◌≡◌, ◌++◌, ◌∷◌, ◌==◌, ◌||◌, ◌&&◌, not, map, option_map, unwrap_or, true, position, codes, IfOk, MatchOption};
-ghost use Rattle.std.specs.Char.{is_ascii_digit};
-ghost use Rattle.std.specs.List.{list_all};
-ghost use Rattle.std.specs.Vec.{vec_items};
+ghost use Rattle.std.specs.{Char.is_ascii_digit, List.list_all, Vec.vec_items};
 ghost use Rattle.mime.specs.Bytes.{comma_byte};
-ghost use Rattle.mime_http.specs.HttpList.{IsPiece, BeginsPiece};
-ghost use Rattle.mime_http.specs.Ranges.{first_value};
-ghost use Rattle.mime_http.specs.Ranking.{are_decimals, is_qvalue, is_lacking, ranked_as, IsRanking};
+ghost use Rattle.mime_http.specs.{HttpList.IsPiece, HttpList.BeginsPiece, Ranges.first_value, Ranking.are_decimals, Ranking.is_qvalue, Ranking.is_lacking, Ranking.ranked_as, Ranking.IsRanking};
 
 use crate::list::piece_end;
-use crate::offers::merit;
+use crate::offers::{Ranked, ranked};
 use crate::range::{covers, first_value};
 use mime::Mime;
 use std::alloc::{AllocError, Global};
@@ -27,35 +23,20 @@ pub struct RankedOffer {
     pub range: Option<usize>,
 }
 
-/// Returns an offer with its weight and range, from its rank and its position. `count` is the number of ranges.
-fn ranked_offer(count: usize, ranked: &(Reverse<(u16, u8, usize, usize)>, usize)) -> RankedOffer
-    ensures { result ≡ ranked_as count ranked.now.0.0 ranked.now.1 }
-{
-    let (Reverse(rank), offer) = *ranked;
-    RankedOffer {
-        offer,
-        weight: rank.0,
-        range: if rank.3 == 0 {
-            None
-        } else {
-            Some(count.saturating_sub(rank.3))
-        },
-    }
-}
-
-/// Returns offers with their weights and ranges, from their ranks and positions.
+/// Returns offers with their weights and ranges, from their ranks and positions. `count` is the number of ranges.
 fn ranked_offers(
     alloc: Global,
     count: usize,
-    ranked: &[(Reverse<(u16, u8, usize, usize)>, usize)],
+    ranked: &[Ranked],
 ) -> Result<Vec<RankedOffer>, AllocError>
     ensures { IfOk result (λ offers. vec_items offers ≡ map (λ one. ranked_as count one.0.0 one.1) ranked.now) }
 {
-    let mut offers = Vec::new(alloc);
-    for one in ranked {
-        offers.push(ranked_offer(count, one))?;
-    }
-    Ok(offers)
+    let offers = ranked.iter().map(|&(Reverse(rank), offer)| RankedOffer {
+        offer,
+        weight: rank.0,
+        range: (rank.3 > 0).then(|| count.saturating_sub(rank.3)),
+    });
+    offers.collect(alloc)
 }
 
 /// Returns all offers, the best first, each with its weight and the range that decides the weight. Offers are compared as in
@@ -70,12 +51,7 @@ pub fn rank_offers(
 ) -> Result<Vec<RankedOffer>, AllocError>
     ensures { IfOk result (λ ranking. IsRanking (map (λ range. range.media) ranges.now) (map (λ offer. offer.media) offers.now) (vec_items ranking)) }
 {
-    let mut ranked = Vec::new(alloc);
-    for (at, offer) in offers.iter().enumerate() {
-        ranked.push((Reverse(merit(ranges, offer)), at))?;
-    }
-    ranked.sort()?;
-    ranked_offers(alloc, ranges.len(), &ranked)
+    ranked_offers(alloc, ranges.len(), &ranked(alloc, ranges, offers, 0)?)
 }
 
 /// Returns `true` if a range has an offer's essence, but demands a parameter that the offer lacks.
@@ -90,12 +66,7 @@ fn is_lacking(range: &Mime, offer: &Mime) -> bool
 pub fn lacking(ranges: &[Mime], offer: &Mime) -> Option<usize>
     ensures { result ≡ position (is_lacking offer.now.media) (map (λ range. range.media) ranges.now) }
 {
-    for (at, range) in ranges.iter().enumerate() {
-        if is_lacking(range, offer) {
-            return Some(at);
-        }
-    }
-    None
+    ranges.iter().position(|range| is_lacking(range, offer))
 }
 
 /// Returns `true` if all bytes are digits. If `zeros_alone`, all must be zeros.

@@ -1,8 +1,7 @@
 //! Reads a weight in thousandths.
 
 ghost use Rattle.std.specs.Prelude.{◌≡◌, ◌≤◌, ◌*◌, ◌-◌};
-ghost use Rattle.mime_http.specs.Digits.{worth};
-ghost use Rattle.mime_http.specs.Weight.{thousandths_of};
+ghost use Rattle.mime_http.specs.{Digits.worth, Weight.thousandths_of};
 
 /// Returns the value of the digits after a dot, in thousandths: 500 for `5`.
 fn decimals_of(bytes: &[u8]) -> u16

@@ -4,8 +4,7 @@ use Rattle.mime_http.proofs.Cuts.{mark_found, piece_to}
 use Rattle.mime_http.proofs.list.piece_end.Goals as goal
 
 pub quoted_piece_len-requires-clause-unmarked : goal.quoted_piece_len-requires-clause-unmarked
-quoted_piece_len-requires-clause-unmarked c =
-    rw (take_rest c.args.line.now c.args.from)
+quoted_piece_len-requires-clause-unmarked c = rw (take_rest c.args.line.now c.args.from)
     (omega (arith, mark_found _ 44 34 c.of.ensures c.args.line.now c.args.from c.first_stop-mark.result c.first_stop-mark.ensures.end))
 
 pub returns-clause-piece : goal.returns-clause-piece

@@ -5,12 +5,10 @@ use Rattle.mime_http.proofs.list.quoted_piece_len.Goals as goal
 
 pub loop-at-init : goal.loop-at-init
 loop-at-init c =
-    let line = c.args.line.now in
-    let quote = c.args.quote in
     elim c.if-quote-gt0.branch [
       | then-quote-gt0 w ↦ rw w.at-is (record {
         within = omega (arith, c.requires.within);
-        left = run_to line (quote - 1) (omega (arith, c.requires.unmarked, w.if-quote-gt0.true));
+        left = run_to c.args.line.now (c.args.quote - 1) (omega (arith, c.requires.unmarked, w.if-quote-gt0.true));
       })
       | else-quote-gt0 w ↦
           let first : c.if-quote-gt0.at ≡ 0 = omega (arith, w.at-is, w.if-quote-gt0.false) in

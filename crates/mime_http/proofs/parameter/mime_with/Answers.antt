@@ -4,11 +4,12 @@ use Rattle.mime_http.proofs.{Contents.content_of_escaped, Written.pairs_within_t
 use Rattle.mime_http.proofs.parameter.mime_with.Goals as goal
 
 -- what is written is read as the media type with the parameter
-is_read : (media : MediaType) (name value text : List ℕ)
-    → text ≡ media.essence ++ text_of_pairs (others name media.pairs ++ ((name, escaped value) ∷ [])) → {kept : List ℕ} → Reads kept media
-    → IsSafe media → IsToken name → AreHeaderBytes value → Reads text (with_pair media (lowered name) (lowered_value name (escaped value)))
-is_read media name value text made reads header named safe =
-    rw made (with_pair_is_read _ media name (escaped value) reads header named (content_of_escaped value safe))
+is_read : {media : MediaType} {text kept : List ℕ} (name value : List ℕ)
+    → text ≡ media.essence ++ text_of_pairs (others name media.pairs ++ ((name, escaped value) ∷ [])) → Reads kept media
+    → ((kept : List ℕ) (media : MediaType) → Reads kept media → IsSafe media) → IsToken name → AreHeaderBytes value
+    → Reads text (with_pair media (lowered name) (lowered_value name (escaped value)))
+is_read {media} name value made reads safe named header =
+    rw made (with_pair_is_read _ media name (escaped value) reads (safe _ media reads) named (content_of_escaped value header))
 
 pub overflow_add-count : goal.overflow_add-count
 overflow_add-count c =
@@ -21,11 +22,9 @@ pub invariant_of-known : goal.invariant_of-known
 invariant_of-known c =
     let media = c.args.mime.now.media in
     let name = c.args.name.now in
-    let value = c.args.value.now in
-    let content = lowered_value name (escaped value) in
+    let content = lowered_value name (escaped c.args.value.now) in
     let made = with_pair media (lowered name) content in
-    let kept = c.as_str-kept.ensures.reads in
-    let read = is_read media name value _ c.in_ok-text.ensures.text kept (c.kept_is_safe.ensures _ _ kept)
+    let read = is_read c.args.name.now c.args.value.now c.in_ok-text.ensures.text c.as_str-kept.ensures.reads c.kept_is_safe.ensures
     c.requires.named c.requires.safe in
     let as_written = c.is_kept_as_written.ensures c.if-is_kept_as_written.true in
     record {
@@ -40,14 +39,12 @@ invariant_of-known c =
 
 pub returns-in-Ok : goal.returns-in-Ok
 returns-in-Ok c =
-    let kept = c.as_str-kept.ensures.reads in
-    let read = is_read c.args.mime.now.media c.args.name.now c.args.value.now _ c.in_ok-text.ensures.text kept
-    (c.kept_is_safe.ensures _ _ kept) c.requires.named c.requires.safe in
+    let read = is_read c.args.name.now c.args.value.now c.in_ok-text.ensures.text c.as_str-kept.ensures.reads c.kept_is_safe.ensures
+    c.requires.named c.requires.safe in
     c.one_reading.ensures _ _ _ c.in-Ok.ensures.read (rw c.deref.ensures read)
 
 pub returns-then-is_kept_as_written : goal.returns-then-is_kept_as_written
 returns-then-is_kept_as_written c =
-    let kept = c.as_str-kept.ensures.reads in
-    let read = is_read c.args.mime.now.media c.args.name.now c.args.value.now _ c.in_ok-text.ensures.text kept
-    (c.kept_is_safe.ensures _ _ kept) c.requires.named c.requires.safe in
+    let read = is_read c.args.name.now c.args.value.now c.in_ok-text.ensures.text c.as_str-kept.ensures.reads c.kept_is_safe.ensures
+    c.requires.named c.requires.safe in
     IfOk-weaker _ _ _ (λ made reads. c.one_reading.ensures _ _ _ reads read) c.into_mime.ensures.read

@@ -1,5 +1,5 @@
 -- Each parameter is of the name, or is written.
-use Rattle.mime_http.proofs.Common.{[], NameIs, ap, arith, item_seen, rules, string_bytes, text_in, ◌++◌, ◌∙◌, ◌∷◌, ◌≡◌}
+use Rattle.mime_http.proofs.Common.{[], NameIs, arith, item_seen, rules, string_bytes, text_in, ◌++◌, ◌∙◌, ◌∷◌, ◌≡◌}
 use Rattle.mime_http.proofs.{Contents.last_written, Written.none_left, Contents.kept_text, Written.all_left, Written.copied, Written.others_within}
 use Rattle.mime_http.proofs.parameter.text_with.Goals as goal
 
@@ -14,9 +14,7 @@ loop-other-preserved c =
     let differ : ¬ (NameIs name c.in-Some.other.ignores_case c.args.name.now) = search rules in
     let pushed : string_bytes c.push_parameter.new.text
     ≡ string_bytes c.loop-other.text ++ text_in c.form_of_content.result name kept = search rules in
-    let written = pushed ∙ ap (λ form. string_bytes c.loop-other.text ++ text_in form name kept) c.form_of_content.ensures
-    ∙ ap (λ last. string_bytes c.loop-other.text ++ last) (kept_text name kept) in
-    rw written (copied c.loop-other.invariant first differ)
+    rw (pushed, c.form_of_content.ensures, kept_text name kept) (copied c.loop-other.invariant first differ)
 
 pub overflow_add-count : goal.overflow_add-count
 overflow_add-count c =

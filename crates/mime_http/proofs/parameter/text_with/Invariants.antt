@@ -4,7 +4,6 @@ use Rattle.mime_http.proofs.Written.{Left}
 use Rattle.mime_http.proofs.parameter.text_with.Given as goal
 
 abbrev pub invariant-loop-other : goal.invariant-loop-other
-invariant-loop-other l =
-    Left l.name (l.mime.media.essence ++ text_of_pairs (others l.name l.mime.media.pairs)) (string_bytes l.text)
+invariant-loop-other l = Left l.name (l.mime.media.essence ++ text_of_pairs (others l.name l.mime.media.pairs)) (string_bytes l.text)
     (length (others l.name l.mime.media.pairs))
     l.count l.other-iterator

@@ -1,5 +1,5 @@
 -- Each backslash is added before the byte that needs it.
-use Rattle.mime_http.proofs.Common.{[], ap, arith, drop, escaped, false, get_or, get_or-drop, is_plain, length, prefix_len, prefix_len-le-length, prefix_len_stops, rules, string_bytes, take, ◌++◌, ◌+◌, ◌<◌, ◌∙◌, ◌∷◌, ◌≡◌}
+use Rattle.mime_http.proofs.Common.{[], ap, drop, false, get_or, drop_more, is_plain, length, prefix_len, prefix_len-le-length, prefix_len_stops, rules, string_bytes, take, ◌++◌, ◌+◌, ◌<◌, ◌∷◌, ◌≡◌}
 use Rattle.mime_http.proofs.Contents.{run_written, more_written, next_end}
 use Rattle.mime_http.proofs.quoted.push_escaped.Goals as goal
 
@@ -23,17 +23,15 @@ loop-run-preserved c =
     let end = c.special_from-run-in-loop-run.result in
     let are : bytes ≡ drop run left = c.range_from-left.ensures.value in
     let some : 0 < length bytes = search rules in
-    let first : get_or bytes 0 0 ≡ get_or left run 0 =
-    ap (λ bytes. get_or bytes 0 0) are ∙ get_or-drop run left 0 0 ∙ ap (λ n. get_or left n 0) (omega arith) in
-    let special : is_plain (get_or bytes 0 0) ≡ false = ap is_plain first ∙ c.loop-run.invariant.1.special c.loop-run-test.true in
+    let special : is_plain (get_or bytes 0 0) ≡ false =
+    rw (are, drop_more left run 0 c.loop-run-test.true) (c.loop-run.invariant.1.special c.loop-run-test.true) in
     let is_end : end ≡ 1 + prefix_len is_plain (drop 1 bytes) = search rules in
     let next = next_end bytes end some is_end in
     let pushed : string_bytes c.push_with_backslash.new.text ≡ (string_bytes c.loop-run.text ++ take run left) ++ (92 ∷ []) =
     search rules in (
       c.range_from-left.utf8,
       record {
-        added = ap (λ text. text ++ (take end bytes ++ escaped (drop end bytes))) pushed
-            ∙ more_written (string_bytes c.loop-run.text) left bytes _ run end are some special is_end c.loop-run.invariant.1.added;
+        added = rw pushed (more_written _ left bytes _ run end are some special is_end c.loop-run.invariant.1.added);
         within = next.0;
         special = next.1;
       },

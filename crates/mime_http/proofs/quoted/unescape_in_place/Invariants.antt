@@ -5,8 +5,7 @@ use Rattle.mime_http.proofs.quoted.unescape_in_place.Given as goal
 
 abbrev pub invariant-loop-at : goal.invariant-loop-at
 invariant-loop-at l = record {
-  moved :
-      take l.end l.bytes ++ unescaped_from l.is_paired (drop l.at l.bytes) ≡ take l.start l.fn.bytes ++ unescaped_from false
+  moved : take l.end l.bytes ++ unescaped_from l.is_paired (drop l.at l.bytes) ≡ take l.start l.fn.bytes ++ unescaped_from false
       (drop l.start l.fn.bytes);
   behind : l.end ≤ l.at;
 }

@@ -14,6 +14,5 @@ is_whole text end other b (Some rest) same (n, found, is, long) =
     grind (arith, same, is, found, test, bytes_eq-Decides rest.now b.now, append_cancel_right rest.now b.now end)
 
 pub returns : goal.returns
-returns c =
-    c.eq.ensures ∙ is_whole _ _ _ _ _ refl c.strip_suffix.ensures.cases
+returns c = c.eq.ensures ∙ is_whole _ _ _ _ _ refl c.strip_suffix.ensures.cases
     ∙ ap (λ text. bytes_eq text (c.args.type_.now ++ codes "/*")) c.essence_str.ensures

@@ -1,32 +1,7 @@
 -- The next line's pieces come before those of the lines that are left.
-use Rattle.mime_http.proofs.Common.{Bool, Bor, Header, List, Takes, [], ap, arith, codes, common_steps, cut, drop_more, drop_of_length-le, flat_map, length, lines_or_any, map, nil_from_length, refl, subst, sym, true≢false, ℕ, ◌++◌, ◌∷◌, ◌≡◌, ◌≤◌}
-use Rattle.mime_http.proofs.{Takes.AreLeft, Takes.all_left, Takes.both_are_nothing, Takes.header_taken, Takes.nothing, Takes.pieces_of_nothing, Takes.rest_left, accept.Accept.read.Goals.then-is_empty+in_ok-take_line, accept.Accept.read.Goals.else-is_empty}
+use Rattle.mime_http.proofs.Common.{[], arith, codes, common_steps, cut, drop_more, drop_of_length-le, map, nil_from_length, sym, true≢false, ◌≡◌}
+use Rattle.mime_http.proofs.{Takes.all_left, Takes.both_are_nothing, Takes.header_taken, Takes.or_any, Takes.pieces_of_nothing, Takes.rest_left, accept.Accept.read.Goals.then-is_empty+in_ok-take_line, accept.Accept.read.Goals.else-is_empty}
 use Rattle.mime_http.proofs.accept.Accept.read.Goals as goal
-
--- the pieces of lines
-abbrev pieces_of : List (Bor (List ℕ)) → List (List ℕ)
-pieces_of lines = flat_map cut (map (λ line. line.now) lines)
-
--- those of a header's lines, of which there may be none
-abbrev pieces_or_any : List (Bor (List ℕ)) → List (List ℕ)
-pieces_or_any lines = flat_map cut (lines_or_any (map (λ line. line.now) lines))
-
--- without a line `*/*` was taken, and nothing is left,
-left_of_none : (keeps_bad : Bool) (lines : List (Bor (List ℕ))) {now : Header} → lines ≡ [] → Takes keeps_bad (cut (codes "*/*")) nothing now
-    → AreLeft keeps_bad nothing now (pieces_or_any lines) (pieces_of lines)
-left_of_none keeps_bad lines none taken = rw none (rest_left (cut (codes "*/*")) all_left taken)
-
--- and else the pieces of all lines are left
-left_of_some : (keeps_bad : Bool) (lines : List (Bor (List ℕ))) → ¬ (lines ≡ [])
-    → AreLeft keeps_bad nothing nothing (pieces_or_any lines) (pieces_of lines)
-left_of_some keeps_bad [] some = absurd (some refl)
-left_of_some keeps_bad (line ∷ lines) some = all_left
-
--- those of the next line come first
-next_first : {keeps_bad : Bool} {now : Header} (all rest more : List (Bor (List ℕ))) (line : Bor (List ℕ)) → rest ≡ line ∷ more
-    → AreLeft keeps_bad nothing now (pieces_or_any all) (pieces_of rest)
-    → AreLeft keeps_bad nothing now (pieces_or_any all) (cut line.now ++ pieces_of more)
-next_first {keeps_bad} {now} all rest more line is = subst (λ lines. AreLeft keeps_bad nothing now (pieces_or_any all) (pieces_of lines)) is
 
 pub returns-in_err-take_line-clause-nothing : goal.returns-in_err-take_line-clause-nothing
 returns-in_err-take_line-clause-nothing c = λ holds.
@@ -35,31 +10,28 @@ returns-in_err-take_line-clause-nothing c = λ holds.
 
 pub loop-line-init : goal.loop-line-init
 loop-line-init c =
-    let lines = c.args.lines.now in
     elim c.if-is_empty.branch [
       | then-is_empty+in_ok-take_line w ↦
-          let none : lines ≡ [] = nil_from_length _ (grind (arith, common_steps, w.if-is_empty.true)) in
+          let none : c.args.lines.now ≡ [] = nil_from_length _ (grind (arith, common_steps, w.if-is_empty.true)) in
           let taken = rw (c.new.ensures.items, c.new-2.ensures.items) at w.in_ok-take_line.ensures.taken in
-          rw w.accept-is (left_of_none c.args.keeps_bad lines none taken)
+          rw (w.accept-is, none) (rest_left (cut (codes "*/*")) all_left taken)
       | else-is_empty w ↦
-          let some : ¬ (lines ≡ []) = λ none. absurd (grind (arith, common_steps, w.if-is_empty.false, ap length none)) in
-          rw (w.accept-is, c.new.ensures.items, c.new-2.ensures.items) (left_of_some c.args.keeps_bad lines some)
+          let same = or_any (map (λ line. line.now) c.args.lines.now) (grind (arith, common_steps, w.if-is_empty.false)) in
+          rw (w.accept-is, c.new.ensures.items, c.new-2.ensures.items, same) all_left
     ]
 
 pub loop-line-preserved : goal.loop-line-preserved
 loop-line-preserved c =
-    rest_left _ (next_first c.args.lines.now _ _ _ (drop_more _ c.loop-line.line-index _ c.loop-line-test.true) c.loop-line.invariant)
-    c.in_ok-take_line-2.ensures.taken
-
-pub returns-clause-header : goal.returns-clause-header
-returns-clause-header c =
-    let lines = c.args.lines.now in
-    let past : length lines ≤ c.loop-line.line-index = omega arith in
-    header_taken (map (λ line. line.now) lines)
-    (subst (λ rest. AreLeft c.args.keeps_bad nothing c.loop-line.accept (pieces_or_any lines) (pieces_of rest))
-    (drop_of_length-le lines past) c.loop-line.invariant)
+    let next = drop_more c.args.lines.now c.loop-line.line-index (record { ref_ptr = (0, 0); now = [] }) c.loop-line-test.true in
+    rest_left _ (rw next at c.loop-line.invariant) c.in_ok-take_line-2.ensures.taken
 
 pub returns-in_err-take_line-2-clause-nothing : goal.returns-in_err-take_line-2-clause-nothing
 returns-in_err-take_line-2-clause-nothing c = λ holds.
-    let left = next_first c.args.lines.now _ _ _ (drop_more _ c.loop-line.line-index _ c.loop-line-test.true) c.loop-line.invariant in
+    let next = drop_more c.args.lines.now c.loop-line.line-index (record { ref_ptr = (0, 0); now = [] }) c.loop-line-test.true in
+    let left = rw next at c.loop-line.invariant in
     absurd (true≢false (sym (c.in_err-take_line-2.ensures.nothing (both_are_nothing _ (left.nothing (pieces_of_nothing holds))).0)))
+
+pub returns-clause-header : goal.returns-clause-header
+returns-clause-header c =
+    let none = drop_of_length-le c.args.lines.now {i = c.loop-line.line-index} (omega arith) in
+    header_taken _ (rw none at c.loop-line.invariant)

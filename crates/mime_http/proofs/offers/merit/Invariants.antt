@@ -1,0 +1,7 @@
+-- The closest so far, and the ranges that are left, give the closest of all.
+use Rattle.mime_http.proofs.Common.{closeness, closest, drop, enumerate_from, fold, map, option_cmp, ord_max, rank_cmp, ◌≡◌}
+use Rattle.mime_http.proofs.offers.merit.Given as goal
+
+abbrev pub invariant-loop-at : goal.invariant-loop-at
+invariant-loop-at l = fold (ord_max (option_cmp rank_cmp)) l.closest (map (closeness l.offer.media)
+    (enumerate_from l.at (map (λ range. range.media) (drop l.at l.ranges)))) ≡ closest (map (λ range. range.media) l.ranges) l.offer.media
