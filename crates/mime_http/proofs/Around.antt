@@ -1,5 +1,5 @@
 -- White space around a text, and ASCII bytes in a text in UTF-8.
-use Rattle.mime_http.proofs.Common.{AreSpaces, AreTokenBytes, IsAscii, IsAscii-cons, IsAscii-nil, IsCharBoundary-after_ascii, IsCharBoundary-before_ascii, IsUtf8, IsUtf8-append, IsUtf8-drop, IsUtf8-from_ascii, IsUtf8-take, List, [], and_parts, append-nil, arith, drop-append-add, get_or, get_or_from_slice_get, is_space, is_token_byte, length, length-append, nat_tests, refl, slice_get-prefix, subst, take-append_seam, ℕ, ⊤, ◌++◌, ◌+◌, ◌<◌, ◌∷◌, and_from, ap, cond_both, false, if◌then◌else◌, list_all-append, suc, take, take_all, take_more, trim_end, trim_start, trimmed, ◌-◌, ◌≡◌, ◌≤◌, HttpReads, MediaType, append_assoc, list_all, sym, ◌∙◌, IsUtf8-nil}
+use Rattle.mime_http.proofs.Common.{AreSpaces, IsToken, AreTokenBytes-from_token, AreTokenBytes, IsAscii, IsAscii-cons, IsAscii-nil, IsCharBoundary-after_ascii, IsCharBoundary-before_ascii, IsUtf8, IsUtf8-append, IsUtf8-drop, IsUtf8-from_ascii, IsUtf8-take, List, [], and_parts, append-nil, arith, drop-append-add, get_or, get_or_from_slice_get, is_space, is_token_byte, length, length-append, nat_tests, refl, slice_get-prefix, subst, take-append_seam, ℕ, ⊤, ◌++◌, ◌+◌, ◌<◌, ◌∷◌, and_from, ap, cond_both, false, if◌then◌else◌, list_all-append, suc, take, take_all, take_more, trim_end, trim_start, trimmed, ◌-◌, ◌≡◌, ◌≤◌, HttpReads, MediaType, append_assoc, list_all, sym, ◌∙◌, IsUtf8-nil}
 use Rattle.mime_http.proofs.{Runs.spaces-append}
 
 -- ---- ASCII bytes
@@ -13,14 +13,12 @@ AreAscii (b ∷ bytes) = (b < 128) × AreAscii bytes
 pub token_bytes_ascii : (bytes : List ℕ) → AreTokenBytes bytes → AreAscii bytes
 unfolding is_token_byte
 token_bytes_ascii [] all = tt
-token_bytes_ascii (b ∷ bytes) all =
-    let parts = and_parts (is_token_byte b) _ all in (grind (arith, nat_tests, parts.0), token_bytes_ascii bytes parts.1)
+token_bytes_ascii (b ∷ bytes) all = grind (arith, token_bytes_ascii bytes, and_parts, nat_tests)
 
 -- and so is white space
 pub spaces_ascii : (bytes : List ℕ) → AreSpaces bytes → AreAscii bytes
 spaces_ascii [] all = tt
-spaces_ascii (b ∷ bytes) all =
-    let parts = and_parts (is_space b) _ all in (grind (arith, nat_tests, parts.0), spaces_ascii bytes parts.1)
+spaces_ascii (b ∷ bytes) all = grind (arith, spaces_ascii bytes, and_parts, nat_tests)
 
 -- such a text is in UTF-8
 pub ascii_is_utf8 : (bytes : List ℕ) → IsAscii bytes → IsUtf8 bytes
@@ -34,6 +32,9 @@ put_one b bytes ascii is = IsUtf8-append (b ∷ []) bytes (IsUtf8-from_ascii (b 
 pub put_ascii : (xs ys : List ℕ) → AreAscii xs → IsUtf8 ys → IsUtf8 (xs ++ ys)
 put_ascii [] ys all is = is
 put_ascii (b ∷ xs) ys all is = put_one b (xs ++ ys) all.0 (put_ascii xs ys all.1 is)
+
+pub put_token : (token bytes : List ℕ) → IsToken token → IsUtf8 bytes → IsUtf8 (token ++ bytes)
+put_token token bytes is = put_ascii token bytes (token_bytes_ascii token (AreTokenBytes-from_token token is))
 
 -- a text in UTF-8 is so before and after one,
 pub around : (run : List ℕ) (b : ℕ) (bytes : List ℕ) → b < 128 → IsUtf8 (run ++ (b ∷ bytes)) → IsUtf8 run × IsUtf8 bytes

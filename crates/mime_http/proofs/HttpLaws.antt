@@ -1,6 +1,6 @@
 -- What is printed of a header's value: one text, which is read as its one media type, and needs memory only if it is long.
 use Rattle.mime_http.proofs.Common.{AllByRecursion, AreTokenBytes-from_token, IsSafePair, IsToken, IsUtf8, IsUtf8-append, IsUtf8-nil, List, Parts, Reads, [], answer_of, arith, cond_both, is_token_value, length, media_of, quote_of, read, subst, text_of_pair, text_of_pairs, text_of_parts, ℕ, ◌∷◌, ◌≡◌, IsPrinted, MediaType, OneHttpReading, OnePrintedText, PrintedIsRead, anew, ap, as_it_stands, one_reading, sym, trimmed, with_pairs, ◌∙◌, kept_is_read, HttpReads, Err, HttpExplains, IfErr, IsAccepted, IsHttpMediaType, NeedsMemory, Parameters, Ok, Result, SyntaxTree, Tail, append-nil, blank, codes, essence_of, is_token_byte, final, inl, inr, kept_text, length-append, listed, lowered_list, lowered_tail, lowered_tree, more, no_list, pairs_of_tail, plain, quoted, refl, text_of, text_of_list, value_of, ⊎_elim, ◌++◌, ◌+◌, ◌<◌, ◌≤◌, ◌⊎◌, IsOk}
-use Rattle.mime_http.{proofs.Around.put_ascii, proofs.Around.put_one, proofs.Around.token_bytes_ascii, proofs.ReadBack.answered_is_http, proofs.ReadForth.AreFound, proofs.ReadForth.AreUtf8, proofs.ReadForth.http_is_answered, proofs.Written.length-pairs, proofs.Written.lengths, proofs.Written.parts_are_read, proofs.PlainIsHttp.plain_is_http, proofs.Around.reads_around, proofs.ReadFaults.no_fault, specs.declared.value.FieldError.FieldError, specs.declared.value.FieldError.TheVariants.NotUtf8, specs.declared.value.FieldError.TheVariants.Invalid}
+use Rattle.mime_http.{proofs.Around.put_ascii, proofs.Around.put_one, proofs.Around.put_token, proofs.ReadBack.answered_is_http, proofs.ReadForth.AreFound, proofs.ReadForth.AreUtf8, proofs.ReadForth.http_is_answered, proofs.Written.length-pairs, proofs.Written.lengths, proofs.Written.parts_are_read, proofs.PlainIsHttp.plain_is_http, proofs.Around.reads_around, proofs.ReadFaults.no_fault, specs.declared.value.FieldError.FieldError, specs.declared.value.FieldError.TheVariants.NotUtf8, specs.declared.value.FieldError.TheVariants.Invalid}
 use Rattle.mime_http.specs.declared.value.FieldError.TheVariants as field
 
 -- ---- what is written anew
@@ -13,16 +13,14 @@ are_found value parts is =
 
 -- What is written is read,
 pub written_reads : (value : List ℕ) (parts : Parts) → answer_of value ≡ read parts → Reads (text_of_parts parts) (media_of parts)
-written_reads value parts is =
-    let found = are_found value parts is in parts_are_read parts found.is_top found.is_sub found.safe
+written_reads value parts is = grind (arith, are_found, parts_are_read)
 
 -- is in UTF-8,
 utf8_pair : (pair : List ℕ × List ℕ) → IsSafePair pair → IsUtf8 pair.1 → IsUtf8 (text_of_pair pair)
 utf8_pair (name, value) (named, is) utf8 =
-    let quote : IsUtf8 (quote_of value) =
-    cond_both (is_token_value value) [] (34 ∷ []) IsUtf8 (λ token. IsUtf8-nil) (λ other. put_one 34 [] (omega arith) IsUtf8-nil) in
-    put_ascii (59 ∷ 32 ∷ []) _ (omega arith) (put_ascii name _ (token_bytes_ascii name (AreTokenBytes-from_token name named))
-    (put_one 61 _ (omega arith) (IsUtf8-append _ _ quote (IsUtf8-append value _ utf8 quote))))
+    let quote = cond_both (is_token_value value) [] (34 ∷ []) IsUtf8 (λ token. IsUtf8-nil) (λ other. put_one 34 [] (omega arith) IsUtf8-nil) in
+    put_ascii (59 ∷ 32 ∷ []) _ (omega arith)
+    (put_token name _ named (put_one 61 _ (omega arith) (IsUtf8-append _ _ quote (IsUtf8-append value _ utf8 quote))))
 
 utf8_pairs : (pairs : List (List ℕ × List ℕ)) → AllByRecursion IsSafePair pairs → AreUtf8 pairs → IsUtf8 (text_of_pairs pairs)
 utf8_pairs [] safe utf8 = IsUtf8-nil
@@ -32,8 +30,7 @@ utf8_pairs (pair ∷ pairs) safe utf8 =
 pub written_is_utf8 : (value : List ℕ) (parts : Parts) → IsUtf8 value → answer_of value ≡ read parts → IsUtf8 (text_of_parts parts)
 written_is_utf8 value parts utf8 is =
     let found = are_found value parts is in
-    let ascii = λ (token : List ℕ) (is : IsToken token). token_bytes_ascii token (AreTokenBytes-from_token token is) in
-    put_ascii parts.top _ (ascii parts.top found.is_top) (put_one 47 _ (omega arith) (put_ascii parts.sub _ (ascii parts.sub found.is_sub)
+    put_token parts.top _ found.is_top (put_one 47 _ (omega arith) (put_token parts.sub _ found.is_sub
     (utf8_pairs parts.pairs found.safe (found.utf8 utf8))))
 
 -- and takes as many bytes as are kept.
@@ -82,12 +79,7 @@ printed_is_read value media is printed =
 
 -- a text without parameters is kept as its essence,
 kept_without : (text : List ℕ) (media : MediaType) → Reads text media → media.pairs ≡ [] → media.kept ≡ media.essence
-kept_without text media reads =
-    subst (λ (v : MediaType). v.pairs ≡ [] → v.kept ≡ v.essence) reads.valued (go (pairs_of_tail (lowered_tail reads.tree.tail)))
-  where
-    go : (pairs : List (List ℕ × List ℕ)) → pairs ≡ [] → kept_text pairs (lowered_tree reads.tree) ≡ essence_of (lowered_tree reads.tree)
-    go [] none = refl
-    go (pair ∷ pairs) none = absurd cc
+kept_without text media reads = grind (arith)
 
 -- in lowercase a list takes as many bytes,
 length_list : (list : Parameters) → length (text_of_list (lowered_list list)) ≡ length (text_of_list list)
@@ -99,64 +91,41 @@ length_list (more n (quoted name content m) rest) = simp (lengths, length_list r
 
 -- so one with parameters is kept with all its bytes
 kept_with : (text : List ℕ) (media : MediaType) → Reads text media → (media.pairs ≡ []) ⊎ (length media.kept ≡ length text)
-kept_with text media reads =
-    subst (λ (v : MediaType). (v.pairs ≡ []) ⊎ (length v.kept ≡ length text)) reads.valued (go reads.tree.tail refl)
-  where
-    whole : (list : Parameters) → reads.tree.tail ≡ listed list → length (text_of (lowered_tree reads.tree)) ≡ length text
-    whole list is = (rw is (simp (lengths, length_list list))) ∙ ap length reads.spelled
-
-    go : (tail : Tail) → reads.tree.tail ≡ tail → ((value_of reads.tree).pairs ≡ []) ⊎ (length (value_of reads.tree).kept ≡ length text)
-    go no_list is = inl (rw is refl)
-    go (listed (blank n)) is = inl (rw is refl)
-    go (listed (final n parameter)) is =
-        let kept : (value_of reads.tree).kept ≡ text_of (lowered_tree reads.tree) = rw is refl in
-        inr (ap length kept ∙ whole (final n parameter) is)
-    go (listed (more n parameter rest)) is =
-        let kept : (value_of reads.tree).kept ≡ text_of (lowered_tree reads.tree) = rw is refl in
-        inr (ap length kept ∙ whole (more n parameter rest) is)
+kept_with text media reads = grind (arith, lengths, length_list)
 
 -- ---- what is written anew
 
--- a value that the library reads is written anew as the same, but for the kept text
-anew_is : (value : List ℕ) (media : MediaType) (parts : Parts) → Reads (trimmed value) media → answer_of value ≡ read parts
-    → media_of parts ≡ with_pairs media media.pairs
-anew_is value media parts reads answered =
-    let found = http_is_answered value media (reads_around value media (plain_is_http (trimmed value) media reads)) in
-    let same : found.0 ≡ parts = cc (found.1, answered) in
-    subst (λ it. media_of it ≡ with_pairs media media.pairs) same found.2
-
-length-anew : (value : List ℕ) (media : MediaType) (parts : Parts) → Reads (trimmed value) media → answer_of value ≡ read parts
-    → length (text_of_parts parts) ≡ length media.essence + length (text_of_pairs media.pairs)
-length-anew value media parts reads answered =
-    sym (written_length parts) ∙ ap (λ (it : MediaType). length it.kept) (anew_is value media parts reads answered)
-    ∙ length-append media.essence (text_of_pairs media.pairs)
+-- what the library reads without the white space around it is read and printed as it stands,
+pub stands : (value : List ℕ) (media : MediaType) → Reads (trimmed value) media → HttpReads value media × IsPrinted value media
+stands value media reads = (reads_around value media (plain_is_http (trimmed value) media reads), as_it_stands value media reads)
 
 -- pairs that take no bytes are none
 no_pairs : (pairs : List (List ℕ × List ℕ)) → length (text_of_pairs pairs) ≡ 0 → pairs ≡ []
 no_pairs [] none = refl
 no_pairs ((name, value) ∷ pairs) none = absurd (omega (arith, none))
 
--- if that is the essence alone, it is the same,
-pub essence_alone : (value : List ℕ) (media : MediaType) (parts : Parts) → Reads (trimmed value) media → answer_of value ≡ read parts
-    → length (text_of_parts parts) ≤ length media.essence → media_of parts ≡ media
-essence_alone value media parts reads answered all =
-    let none = no_pairs media.pairs (omega (arith, all, length-anew value media parts reads answered)) in
-    let kept = append-nil media.essence ∙ sym (kept_without (trimmed value) media reads none) in
-    anew_is value media parts reads answered
-    ∙ ap (λ pairs. record media { kept = media.essence ++ text_of_pairs pairs }) none ∙ ap (λ it. record media { kept = it }) kept
+module _ (value : List ℕ) (media : MediaType) (parts : Parts) (reads : Reads (trimmed value) media) (answered : answer_of value ≡ read parts) where
+  -- and is written anew as the same, but for the kept text,
+  anew_is : media_of parts ≡ with_pairs media media.pairs
+  anew_is =
+      let found = http_is_answered value media (stands value media reads).0 in
+      subst (λ parts. media_of parts ≡ with_pairs media media.pairs) (cc (found.1, answered)) found.2
 
--- and if it is more, or is long, a long value is printed with many bytes
-pub many_kept : (value : List ℕ) (media : MediaType) (parts : Parts) → Reads (trimmed value) media → answer_of value ≡ read parts
-    → 40 < length (trimmed value) → (40 < length (text_of_parts parts)) ⊎ (length media.essence < length (text_of_parts parts))
-    → 40 < length media.kept
-many_kept value media parts reads answered long either = ⊎_elim
-    (λ none.
-    let kept = ap length (kept_without (trimmed value) media reads none) in
-    let nothing : length (text_of_pairs media.pairs) ≡ 0 = ap (λ pairs. length (text_of_pairs pairs)) none in
-    let few = length-anew value media parts reads answered in
-    ⊎_elim (λ many. omega (arith, kept, few, nothing, many)) (λ less. absurd (omega (arith, few, nothing, less))) either)
-    (λ whole. omega (arith, whole, long))
-    (kept_with (trimmed value) media reads)
+  -- which takes the bytes of the essence and of the pairs
+  length-anew : length (text_of_parts parts) ≡ length media.essence + length (text_of_pairs media.pairs)
+  length-anew = grind (arith, written_length parts, anew_is, length-append media.essence)
+
+  -- If that is the essence alone, it is the same,
+  essence_alone : length (text_of_parts parts) ≤ length media.essence → media_of parts ≡ media
+  essence_alone all =
+      let none = no_pairs media.pairs (omega (arith, all, length-anew)) in
+      let kept = kept_without (trimmed value) media reads none in
+      anew_is ∙ grind (arith, none, kept, append-nil media.essence)
+
+  -- and if it is more, or is long, a long value is printed with many bytes.
+  many_kept : 40 < length (trimmed value) → (40 < length (text_of_parts parts)) ⊎ (length media.essence < length (text_of_parts parts))
+      → 40 < length media.kept
+  many_kept long either = grind (arith, kept_without (trimmed value) media, length-anew, kept_with (trimmed value) media)
 
 -- ---- what is read of it
 
@@ -179,12 +148,9 @@ pub stands_needs : {value bytes : List ℕ} (parts : Parts) → bytes ≡ value 
     → (40 < length (text_of_parts parts)) ⊎ (length (media_of parts).essence < length (text_of_parts parts)) → NeedsMemory value
 stands_needs {value} parts same answered (media, reads) long either =
     let here = ap answer_of (sym same) ∙ answered in
-    let essence = ap (λ (it : MediaType). length it.essence) (anew_is value media parts reads here) in record {
-      media = media;
-      is = reads_around value media (plain_is_http (trimmed value) media reads);
-      printed = as_it_stands value media reads;
-      long = many_kept value media parts reads here long (⊎_elim inl (λ less. inr (omega (arith, less, essence))) either);
-    }
+    let (is, printed) = stands value media reads in
+    let long : 40 < length media.kept = grind (arith, anew_is value media parts reads here, many_kept value media parts reads here) in
+    record { media = media; is = is; printed = printed; long = long }
 
 pub stands_printed : {value bytes : List ℕ} {media : MediaType} (parts : Parts) → bytes ≡ value → answer_of bytes ≡ read parts
     → IsAccepted (trimmed value) → media ≡ media_of parts → length (text_of_parts parts) ≤ length media.essence
@@ -193,8 +159,7 @@ stands_printed {value} {media = media} parts same answered (found, reads) is few
     let here = ap answer_of (sym same) ∙ answered in
     let essence = ap (λ (it : MediaType). length it.essence) (is ∙ anew_is value found parts reads here) in
     let all = essence_alone value found parts reads here (omega (arith, few, essence)) in
-    subst (λ m. HttpReads value m × IsPrinted value m) (sym (is ∙ all))
-    (reads_around value found (plain_is_http (trimmed value) found reads), as_it_stands value found reads)
+    subst (λ m. HttpReads value m × IsPrinted value m) (sym (is ∙ all)) (stands value found reads)
 
 -- ---- errors
 
@@ -209,10 +174,8 @@ error_is_memory value field.NoMemory utf8 is why = refl
 pub short_has_none : {T : Type 0} (value : List ℕ) (media : MediaType) → IsUtf8 value → HttpReads value media → IsPrinted value media
     → length media.kept ≤ 40 → (result : Result T FieldError) → IfErr result (HttpExplains value) → IsOk result
 short_has_none value media utf8 reads printed few (Ok mime) explained = refl
-short_has_none value media utf8 reads printed few (Err (NotUtf8 pos)) why = absurd (why.0 utf8)
-short_has_none value media utf8 reads printed few (Err (Invalid fault)) why = absurd (no_fault value fault (media, reads) why.1)
-short_has_none value media utf8 reads printed few (Err field.NoMemory) why =
-    let needs = why.1 in
+short_has_none value media utf8 reads printed few (Err error) why =
+    let needs = (subst (HttpExplains value) (error_is_memory value error utf8 (media, reads) why) why).1 in
     let same = one_printed_text value media needs.media reads printed needs.is needs.printed in
     absurd (omega (arith, few, needs.long, ap (λ (it : MediaType). length it.kept) same))
 
@@ -220,17 +183,8 @@ short_has_none value media utf8 reads printed few (Err field.NoMemory) why =
 pub star_has_none : {T : Type 0} (value : List ℕ) → value ≡ codes "*/*" → IsUtf8 value × ((result : Result T FieldError)
     → IfErr result (HttpExplains value) → IsOk result)
 unfolding is_token_byte
-star_has_none {T} value is = subst (λ v. IsUtf8 v × ((result : Result T FieldError) → IfErr result (HttpExplains v) → IsOk result)) (sym is)
-    (utf8, short_has_none star (value_of tree) utf8 (plain_is_http star _ reads) (as_it_stands star _ reads) (omega arith))
-  where
-    star : List ℕ
-    star = codes "*/*"
-
-    tree : SyntaxTree
-    tree = record { top = codes "*"; sub = codes "*"; tail = no_list }
-
-    reads : Reads star (value_of tree)
-    reads = record { tree = tree; well_formed = (refl, refl, tt); spelled = refl; valued = refl }
-
-    utf8 : IsUtf8 star
-    utf8 = put_ascii star [] (omega arith) IsUtf8-nil
+star_has_none {T} value is =
+    let star : List ℕ = codes "*/*" in
+    let utf8 = put_ascii star [] (omega arith) IsUtf8-nil in
+    let (reads, printed) = stands star _ (parts_are_read (record { top = codes "*"; sub = codes "*"; pairs = [] }) refl refl tt) in
+    rw is (utf8, short_has_none star _ utf8 reads printed (omega arith))

@@ -14,8 +14,7 @@ no_part value at = let none : at - at ≡ 0 = omega arith in rw none refl
 
 -- one to the next,
 pub one_part : (value : List ℕ) (at : ℕ) → at < length value → slice_range value at (at + 1) ≡ slice_index value at ∷ []
-one_part value at within =
-    let one : at + 1 - at ≡ 1 = omega arith in ap (λ n. take n (drop at value)) one ∙ ap (take 1) (drop_more value at 0 within)
+one_part value at within = grind (arith, drop_more)
 
 -- and is the part up to a position between and the part from there on
 pub parts_joined : (value : List ℕ) (from at to : ℕ) → from ≤ at → at ≤ to
@@ -100,21 +99,17 @@ pub over : (value : List ℕ) (from to : ℕ) (state after : State) → from ≤
     → answer_from state from (slice_range value from to ++ drop to value)
     ≡ answer_from after (from + length (slice_range value from to)) (drop to value)
     → answer_at value state from ≡ answer_at value after to
-over value from to state after least within goes =
-    ap (answer_from state from) (drop_split value from to least) ∙ goes
-    ∙ ap (λ n. answer_from after n (drop to value)) (omega (arith, least, length-part value from to within))
+over value from to state after least within goes = grind (arith, drop_split, length-part)
 
 -- over a byte,
 pub over_byte : (value : List ℕ) (at : ℕ) (state after : State) → at < length value → next state (slice_index value at) ≡ Some after
     → answer_at value state at ≡ answer_at value after (at + 1)
-over_byte value at state after within goes =
-    ap (answer_from state at) (drop_more value at 0 within) ∙ one_byte state after at _ (drop (at + 1) value) goes
+over_byte value at state after within goes = grind (arith, drop_more, one_byte)
 
 -- not over one that is at fault,
 pub at_byte : (value : List ℕ) (at : ℕ) (state : State) → at < length value → next state (slice_index value at) ≡ None
     → answer_at value state at ≡ rejected (InvalidToken at (slice_index value at))
-at_byte value at state within none =
-    ap (answer_from state at) (drop_more value at 0 within) ∙ no_way state at _ (drop (at + 1) value) none
+at_byte value at state within none = grind (arith, drop_more, no_way)
 
 -- nor over the end
 pub at_end : (value : List ℕ) (at : ℕ) (state : State) → length value ≤ at → answer_at value state at ≡ answer_at_end state
@@ -123,22 +118,17 @@ at_end value at state past = ap (answer_from state at) (drop_of_length-le value 
 -- a byte that is neither of two kinds goes nowhere
 pub neither : {X : Type 0} (one other : Bool) (x y : X) → one ≡ false → other ≡ false
     → (if one then Some x else (if other then Some y else None)) ≡ None
-neither one other x y isnt nor =
-    grind (arith, isnt, nor)
+neither one other x y isnt nor = grind (arith)
 
 -- so where nothing goes on there is a fault
 pub stuck : (value : List ℕ) (at : ℕ) (state : State) (missing : ParseError) → at ≤ length value
     → answer_at_end state ≡ rejected missing → (at < length value → next state (slice_index value at) ≡ None)
     → answer_at value state at ≡ rejected (fault_at value at missing)
-stuck value at state missing within ends none =
-    ⊎_elim (λ more. at_byte value at state more (none more) ∙ grind (arith, nat_tests, more))
-    (λ past. at_end value at state past ∙ ends ∙ grind (arith, nat_tests, past, within)) (cases_lt at (length value))
+stuck value at state missing within ends none = grind (arith, at_byte, nat_tests, at_end, cases_lt)
 
 -- a token ends where a run of its bytes does
 pub token_ends : (value : List ℕ) (to : ℕ) → (to < length value → is_token_byte (slice_index value to) ≡ false) → EndsToken (drop to value)
-token_ends value to stops =
-    ⊎_elim (λ more. subst EndsToken (sym (drop_more value to 0 more)) (stops more))
-    (λ past. subst EndsToken (sym (drop_of_length-le value past)) tt) (cases_lt to (length value))
+token_ends value to stops = grind (arith, drop_more, drop_of_length-le, cases_lt)
 
 -- ---- quoted content
 
@@ -166,8 +156,7 @@ pair_content value at end is within first fits =
 -- content before content is content
 pub content_on : (value : List ℕ) (from at to : ℕ) → from ≤ at → at ≤ to → IsContent (slice_range value from at)
     → IsContent (slice_range value at to) → IsContent (slice_range value from to)
-content_on value from at to least most before after =
-    subst IsContent (sym (parts_joined value from at to least most)) (content_more before after)
+content_on value from at to least most before after = grind (arith, parts_joined, content_more)
 
 -- it is read as a parameter's value, up to after the quote that closes it,
 pub over_content : (parts : Parts) (name value : List ℕ) (from close : ℕ) → IsClosedAt value from close
@@ -194,8 +183,7 @@ fault_after value from at fault least within content is = λ name done none part
 -- a byte that isn't quoted text, a quote or a backslash goes nowhere
 pub no_text : (parts : Parts) (name content : List ℕ) (b : ℕ) → awaits_after false content ≡ false → is_quoted_text_byte b ≡ false → b ≢ 34
     → b ≢ 92 → next (in_string parts name content) b ≡ None
-no_text parts name content b none text quote backslash =
-    rw none (grind (arith, nat_tests, text, quote, backslash))
+no_text parts name content b none text quote backslash = grind (arith, nat_tests)
 
 -- ---- tokens
 
@@ -239,61 +227,35 @@ no_token_value value from plain to run most within other = ⊎_elim
 pub over_subtype : (value top : List ℕ) (from to : ℕ) → from < to → to ≤ length value → IsRun is_token_byte value from to
     → answer_at value (in_subtype top []) from
     ≡ answer_at value (before_semicolon (record { top = top; sub = slice_range value from to; pairs = [] })) to
-over_subtype value top from to some within run =
-    let sub : List ℕ = slice_range value from to in
-    over value from to (in_subtype top []) (in_subtype top sub) run.least within (on_subtype top sub run.all [] from (drop to value))
-    ∙ subtype_ends top sub (token_part value from to some within run) to (drop to value) (token_ends value to run.stops)
+over_subtype value top from to some within run = grind (arith, over, on_subtype, subtype_ends, token_part, token_ends)
 
 -- a parameter's name,
 pub over_name : (parts : Parts) (value : List ℕ) (from to : ℕ) → from < to → to ≤ length value → IsRun is_token_byte value from to
     → answer_at value (after_semicolon parts) from ≡ answer_at value (in_name parts (slice_range value from to)) to
-over_name parts value from to some within run =
-    over value from to (after_semicolon parts) (in_name parts (slice_range value from to)) run.least within
-    (name_begins parts _ (token_part value from to some within run) from (drop to value))
+over_name parts value from to some within run = grind (arith, over, name_begins, token_part)
 
 -- and its value
 pub over_value : (parts : Parts) (name value : List ℕ) (from to : ℕ) → from < to → to ≤ length value → IsRun is_token_byte value from to
     → answer_at value (in_value parts name []) from
     ≡ answer_at value (before_semicolon (with_parameter parts name (slice_range value from to))) to
-over_value parts name value from to some within run =
-    let content : List ℕ = slice_range value from to in
-    over value from to (in_value parts name []) (in_value parts name content) run.least within
-    (on_value parts name content run.all [] from (drop to value))
-    ∙ value_ends parts name content (token_part value from to some within run) to (drop to value) (token_ends value to run.stops)
+over_value parts name value from to some within run = grind (arith, over, on_value, value_ends, token_part, token_ends)
 
 -- ---- white space
 
 -- where it changes nothing
 pub over_white_at : (state : State) → KeepsSpace state → (value : List ℕ) (from to : ℕ) → IsRun is_space value from to → to ≤ length value
     → answer_at value state from ≡ answer_at value state to
-over_white_at state keeps value from to run within =
-    over value from to state state run.least within (over_white state keeps _ run.all from (drop to value))
+over_white_at state keeps value from to run within = grind (arith, over, over_white)
 
 -- where no parameter begins after a semicolon, reading goes on as before one
 pub nothing_between : (parts : Parts) (value : List ℕ) (at : ℕ) → (at < length value → is_space (slice_index value at) ≡ false)
     → (at < length value → is_token_byte (slice_index value at) ≡ false)
     → answer_at value (after_semicolon parts) at ≡ answer_at value (before_semicolon parts) at
-nothing_between parts value at space token =
-    ⊎_elim (λ more.
-    let rest : List ℕ = drop (at + 1) value in
-    let b : ℕ = slice_index value at in
-    let here = drop_more value at 0 more in
-    ap (answer_from (after_semicolon parts) at) here ∙ same_next (after_semicolon parts) (before_semicolon parts) at b rest
-    (rw (token more, space more) refl) ∙ sym (ap (answer_from (before_semicolon parts) at) here))
-    (λ past. at_end value at (after_semicolon parts) past ∙ sym (at_end value at (before_semicolon parts) past))
-    (cases_lt at (length value))
-  where
-    same_next : (state other : State) (at b : ℕ) (bytes : List ℕ) → next state b ≡ next other b
-        → answer_from state at (b ∷ bytes) ≡ answer_from other at (b ∷ bytes)
-    same_next state other at b bytes same =
-        ap (λ after. unwrap_or (option_map (λ state. answer_from state (at + 1) bytes) after) (rejected (InvalidToken at b))) same
+nothing_between parts value at space token = grind (arith, drop_more, at_end, cases_lt)
 
 -- ---- what is written
 
 -- one parameter more is written after the others
 pub one_written : (parts : Parts) (name content : List ℕ)
     → text_of_parts parts ++ text_of_pair (name, content) ≡ text_of_parts (with_parameter parts name content)
-one_written parts name content =
-    rw (flat_map-append text_of_pair parts.pairs ((name, content) ∷ []), append-nil (text_of_pair (name, content)))
-    (append_assoc parts.top (47 ∷ (parts.sub ++ text_of_pairs parts.pairs)) (text_of_pair (name, content))
-    ∙ ap (λ rest. parts.top ++ (47 ∷ rest)) (append_assoc parts.sub (text_of_pairs parts.pairs) (text_of_pair (name, content))))
+one_written parts name content = grind (arith, flat_map-append, append-nil, append_assoc)

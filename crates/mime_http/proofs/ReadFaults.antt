@@ -1,5 +1,5 @@
 -- The fault of a value that isn't read is the answer: where reading stops nothing helps, and at each byte before that something does.
-use Rattle.mime_http.proofs.Common.{Answer, Bool, EndsIn, HttpLacks, HttpReads, InvalidToken, IsHttpFault, IsHttpLongestPrefix, IsHttpMediaType, IsHttpViable, List, MissingEqual, MissingQuote, MissingSlash, MissingSubtype, MissingValue, NoMemory, None, OneHttpFault, ParseError, Parts, State, [], awaits_after, before_semicolon, is_quoted_text_byte, list_all, true, with_parameter, answer_at_end, answer_from, answer_of, ap, append-nil, append_assoc, arith, before_type, by_option, false, codes, completion_of, cons_option, in_name, in_string, in_subtype, in_type, in_value, is_quoted_byte, is_token_byte, last_byte_of, length, length-append, media_of, next, read, refl, rejected, same_Some, slice_get, slice_get-prefix, slice_get_within, subst, suc, sym, take, take-append-add, take-append_seam, take-length, unwrap_or, ℕ, ⊤, ◌++◌, ◌+◌, ◌-◌, ◌<◌, ◌∙◌, ◌∷◌, ◌≡◌, ◌≢◌, closed-letter, takes_all-any}
+use Rattle.mime_http.proofs.Common.{Answer, not, ◌==◌, nat_tests, Bool, EndsIn, HttpLacks, HttpReads, InvalidToken, IsHttpFault, IsHttpLongestPrefix, IsHttpMediaType, IsHttpViable, List, MissingEqual, MissingQuote, MissingSlash, MissingSubtype, MissingValue, NoMemory, None, OneHttpFault, ParseError, Parts, State, [], awaits_after, before_semicolon, is_quoted_text_byte, list_all, true, with_parameter, answer_at_end, answer_from, answer_of, ap, append-nil, append_assoc, arith, before_type, by_option, false, codes, completion_of, cons_option, in_name, in_string, in_subtype, in_type, in_value, is_quoted_byte, is_token_byte, last_byte_of, length, length-append, media_of, next, read, refl, rules, rejected, same_Some, slice_get, slice_get-prefix, slice_get_within, subst, suc, sym, take, take-append-add, take-append_seam, take-length, unwrap_or, ℕ, ⊤, ◌++◌, ◌+◌, ◌-◌, ◌<◌, ◌∙◌, ◌∷◌, ◌≡◌, ◌≢◌, closed-letter, takes_all-any}
 use Rattle.mime_http.proofs.{Runs.no_way, Runs.on_open, Runs.one_byte, ReadBack.Follows, ReadBack.IsRead, ReadBack.Indented, ReadBack.Spells, ReadBack.follows, ReadBack.indented, ReadBack.answered_is_http, ReadBack.read_at_end, ReadBack.read_from, ReadBack.spelled_after, ReadForth.http_is_answered}
 
 -- what isn't read is no media type
@@ -15,21 +15,11 @@ after_slash top front (indented before white) = (before ++ top, sym (append_asso
 after_equals : (parts : Parts) (name front : List ℕ) → Follows parts (name ++ (61 ∷ [])) front → EndsIn front 61
 after_equals parts name front (follows first after is white) = (first ++ (59 ∷ (after ++ name)), simp append_assoc)
 
--- letters go on in a quoted string, after a backslash, too,
-letters_go_on : (parts : Parts) (name content letters : List ℕ) (at : ℕ) (bytes : List ℕ) → list_all is_quoted_text_byte letters ≡ true
-    → answer_from (in_string parts name content) at (letters ++ bytes)
-    ≡ answer_from (in_string parts name (content ++ letters)) (at + length letters) bytes
-letters_go_on parts name content letters at bytes all =
-    on_open parts name letters content (takes_all-any (awaits_after false content) letters all) at bytes
-
--- so a letter and a quote close it
+-- a letter and a quote close a quoted string, after a backslash, too
 letter_closes : (parts : Parts) (name content : List ℕ) (at : ℕ)
     → answer_from (in_string parts name content) at (codes "x\"") ≡ read (with_parameter parts name (content ++ (120 ∷ [])))
 unfolding is_quoted_byte
-letter_closes parts name content at =
-    letters_go_on parts name content (120 ∷ []) at (34 ∷ []) refl
-    ∙ one_byte (in_string parts name (content ++ (120 ∷ []))) (before_semicolon (with_parameter parts name (content ++ (120 ∷ [])))) _ 34 []
-    (rw (closed-letter content) refl)
+letter_closes parts name content at = grind (arith, takes_all-any (awaits_after false content) (120 ∷ []) refl, closed-letter content)
 
 -- the value is the media type that is the answer, or lacks what it says
 abbrev IsAnswered : List ℕ → Answer → Type 0
@@ -45,14 +35,8 @@ answered_at_end (in_subtype top []) value is = ((_, read_from (codes "x") (in_su
 answered_at_end (in_name parts name) value is = ((_, read_from (codes "=x") (in_name parts name) 0 value is), tt)
 answered_at_end (in_value parts name []) value is =
     ((_, read_from (codes "x") (in_value parts name []) 0 value is), after_equals parts name value is.2)
-answered_at_end (in_string parts name content) value is = (
-  (
-    _,
-    subst (IsRead (value ++ codes "x\"")) (letter_closes parts name content 0)
-        (read_from (codes "x\"") (in_string parts name content) 0 value is),
-  ),
-  tt,
-)
+answered_at_end (in_string parts name content) value is =
+    let read = read_from (codes "x\"") (in_string parts name content) 0 value is in ((_, rw (letter_closes parts name content 0) at read), tt)
 answered_at_end state value is = read_at_end state value is
 
 -- the fault that is an answer is the value's
@@ -61,17 +45,14 @@ IsExplained value (read parts) = ⊤
 IsExplained value (rejected fault) = IsHttpFault value fault
 
 -- so it is if the value lacks what it says, and then the value is viable
-lacks_explains : (value : List ℕ) (fault : ParseError) → HttpLacks value fault → IsHttpViable value × IsHttpFault value fault
-lacks_explains value (InvalidToken pos byte) lacks = absurd lacks.0
-lacks_explains value NoMemory lacks = absurd lacks.0
-lacks_explains value fault lacks = ((_, lacks.0), lacks)
+explained : (value : List ℕ) (answer : Answer) → IsAnswered value answer → IsHttpViable value × IsExplained value answer
+explained value (read parts) reads = (([], rw (append-nil value) (media_of parts, reads)), tt)
+explained value (rejected (InvalidToken pos byte)) lacks = absurd lacks.0
+explained value (rejected NoMemory) lacks = absurd lacks.0
+explained value (rejected fault) lacks = ((_, lacks.0), lacks)
 
 at_end : (state : State) (value : List ℕ) → Spells state value → IsHttpViable value × IsExplained value (answer_at_end state)
-at_end state value is = go (answer_at_end state) (answered_at_end state value is)
-  where
-    go : (answer : Answer) → IsAnswered value answer → IsHttpViable value × IsExplained value answer
-    go (read parts) reads = (([], subst IsHttpMediaType (sym (append-nil value)) (media_of parts, reads)), tt)
-    go (rejected fault) lacks = lacks_explains value fault lacks
+at_end state value is = explained value (answer_at_end state) (answered_at_end state value is)
 
 -- ---- a byte that leads nowhere
 
@@ -95,9 +76,7 @@ longest_at front b bytes viable dies = record {
 -- bytes that lead to a state, of which reading goes on there with whatever follows, and one that leads nowhere aren't viable
 dies_there : (state : State) (front : List ℕ) (b : ℕ) → next state b ≡ None
     → ((bytes : List ℕ) → answer_of (front ++ bytes) ≡ answer_from state (length front) bytes) → ¬ (IsHttpViable (front ++ (b ∷ [])))
-dies_there state front b stops goes viable =
-    rejected_is_none _ _ (ap answer_of (append_assoc front (b ∷ []) viable.0) ∙ goes (b ∷ viable.0)
-    ∙ no_way state (length front) b viable.0 stops) viable.1
+dies_there state front b stops goes viable = grind (arith, rejected_is_none, append_assoc, no_way)
 
 -- ---- the fault
 
@@ -121,15 +100,19 @@ answered_fault value fault e = subst (IsExplained value) e (explained_from value
 
 -- ---- one fault
 
+-- an answer is a media type or a fault
+by_answer : {P : Type 0} (answer : Answer) → ((parts : Parts) → answer ≡ read parts → P)
+    → ((fault : ParseError) → answer ≡ rejected fault → P) → P
+by_answer (read parts) is isnt = is parts refl
+by_answer (rejected fault) is isnt = isnt fault refl
+
 -- bytes that are read with others after them are rejected alone, if they are so from each state on
 sole_from : (last more : List ℕ) (fault : ParseError) → ((state : State) (at : ℕ) (parts : Parts)
     → answer_from state at (last ++ more) ≡ read parts → answer_from state at last ≡ rejected fault)
     → (front : List ℕ) (state : State) (at : ℕ) (parts : Parts) → answer_from state at (front ++ (last ++ more)) ≡ read parts
     → answer_from state at (front ++ last) ≡ rejected fault
 sole_from last more fault each [] state at parts is = each state at parts is
-sole_from last more fault each (b ∷ front) state at parts is = by_option (next state b)
-    (λ stops. absurd (cc (rw stops at is)))
-    (λ after goes. rw goes (sole_from last more fault each front after (at + 1) parts (rw goes at is)))
+sole_from last more fault each (b ∷ front) state at parts is = grind (arith, sole_from last more fault each front, by_option)
 
 -- the byte that a value with a fault ends in, if it must, and what completes it, if anything does
 abbrev last_of : ParseError → List ℕ
@@ -138,19 +121,12 @@ last_of fault = cons_option (last_byte_of fault) []
 abbrev more_of : ParseError → List ℕ
 more_of fault = unwrap_or (completion_of fault) (0 ∷ [])
 
--- letters alone end no quoted string,
-go_on : (before : Parts) (name content letters : List ℕ) (at : ℕ) (parts : Parts) → list_all is_quoted_text_byte letters ≡ true
-    → answer_from (in_string before name content) at letters ≢ read parts
-go_on before name content letters at parts all is =
-    let same = ap (answer_from (in_string before name content) at) (sym (append-nil letters)) in
-    absurd (cc (same, letters_go_on before name content letters at [] all, is))
-
--- and a zero byte stands in none,
-no_byte_0 : (awaiting : Bool) (before : Parts) (name content : List ℕ) (at : ℕ) (parts : Parts) → awaits_after false content ≡ awaiting
-    → answer_from (in_string before name content) at (0 ∷ []) ≢ read parts
-unfolding is_quoted_byte
-no_byte_0 true before name content at parts e is = absurd (cc (rw e at is))
-no_byte_0 false before name content at parts e is = absurd (cc (rw e at is))
+-- bytes without a quote end no quoted string
+no_quote : (before : Parts) (name content bytes : List ℕ) (at : ℕ) (parts : Parts) → list_all (λ b. not (b == 34)) bytes ≡ true
+    → answer_from (in_string before name content) at bytes ≢ read parts
+no_quote before name content [] at parts all is = absurd cc
+no_quote before name content (b ∷ bytes) at parts all is =
+    grind (arith, nat_tests, no_quote before name (content ++ (b ∷ [])) bytes (at + 1) parts)
 
 -- each state that is completed so has the fault
 has_fault : (fault : ParseError) (state : State) (at : ℕ) (parts : Parts)
@@ -162,63 +138,42 @@ has_fault MissingSubtype (in_type top) at parts is = refl
 has_fault MissingEqual (in_name _ name) at parts is = refl
 has_fault MissingValue (in_name _ name) at parts is = refl
 has_fault MissingQuote (in_string _ name content) at parts is = refl
-has_fault MissingSlash (in_string before name content) at parts is = absurd (go_on before name content (codes "x/x") at parts refl is)
-has_fault MissingSubtype (in_string before name content) at parts is = absurd (go_on before name content (codes "/x") at parts refl is)
-has_fault MissingEqual (in_string before name content) at parts is = absurd (go_on before name content (codes "=x") at parts refl is)
-has_fault MissingValue (in_string before name content) at parts is = absurd (go_on before name content (codes "=x") at parts refl is)
 has_fault fault (in_string before name content) at parts is =
-    absurd (no_byte_0 (awaits_after false content) before name content at parts refl is)
+    absurd (no_quote before name content (last_of fault ++ more_of fault) at parts refl is)
 has_fault fault (in_subtype top []) at parts is = absurd cc
 has_fault fault (in_value _ name []) at parts is = absurd cc
 has_fault fault state at parts is = absurd cc
 
 -- so what is missing is the answer
-lacks_answered : (value : List ℕ) (fault : ParseError) → HttpLacks value fault → answer_of value ≡ rejected fault
-lacks_answered value fault lacks = go fault lacks
-  where
-    by : (fault : ParseError) (front : List ℕ) → value ≡ front ++ last_of fault → IsHttpMediaType (value ++ more_of fault)
-        → answer_of value ≡ rejected fault
-    by fault front same is =
-        let whole = ap (λ bytes. bytes ++ more_of fault) same ∙ append_assoc front (last_of fault) (more_of fault) in
-        let answered = http_is_answered _ is.0 is.1 in
-        ap answer_of same
-        ∙ sole_from (last_of fault) (more_of fault) fault (has_fault fault) front before_type 0 _ (ap answer_of (sym whole) ∙ answered.1)
-
-    go : (fault : ParseError) → HttpLacks value fault → answer_of value ≡ rejected fault
-    go (InvalidToken pos byte) lacks = absurd lacks.0
-    go NoMemory lacks = absurd lacks.0
-    go MissingSubtype (is, (front, same)) = by MissingSubtype front same is
-    go MissingValue (is, (front, same)) = by MissingValue front same is
-    go fault lacks = by fault value (sym (append-nil value)) lacks.0
+completed : (value : List ℕ) (fault : ParseError) (front : List ℕ) → value ≡ front ++ last_of fault
+    → IsHttpMediaType (value ++ more_of fault) → answer_of value ≡ rejected fault
+completed value fault front same is =
+    let whole = ap (λ bytes. bytes ++ more_of fault) same ∙ append_assoc front (last_of fault) (more_of fault) in
+    let answered = ap answer_of (sym whole) ∙ (http_is_answered _ is.0 is.1).1 in
+    ap answer_of same ∙ sole_from (last_of fault) (more_of fault) fault (has_fault fault) front before_type 0 _ answered
 
 -- the longest prefix is one
 prefix_unique : (value : List ℕ) (m n : ℕ) → IsHttpLongestPrefix value m → IsHttpLongestPrefix value n → m ≡ n
-prefix_unique value m n first second =
-    let not_below : ¬ (m < n) = λ below. first.longest n below second.within second.viable in
-    let not_above : ¬ (n < m) = λ above. second.longest m above first.within first.viable in
-    omega arith
+prefix_unique value m n first second = grind (arith, first.longest n, second.longest m)
 
 -- a fault of a value is the answer,
 pub fault_answered : (value : List ℕ) (fault : ParseError) → IsHttpFault value fault → answer_of value ≡ rejected fault
-fault_answered value (InvalidToken pos byte) dead = go (answer_of value) refl
+fault_answered value (InvalidToken pos byte) dead = by_answer (answer_of value)
+    (λ parts e. absurd (not_viable (explained value (read parts) (answered_is_http value parts e)).0))
+    (λ fault e. e ∙ found fault (answered_fault value fault e))
   where
     not_viable : ¬ (IsHttpViable value)
     not_viable viable =
-        dead.prefix.longest (length value) (slice_get_within value pos byte dead.there) (omega arith)
-        (subst IsHttpViable (sym (take-length value)) viable)
+        dead.prefix.longest (length value) (slice_get_within value pos byte dead.there) (omega arith) (rw (take-length value) viable)
 
     found : (fault : ParseError) → IsHttpFault value fault → rejected fault ≡ rejected (InvalidToken pos byte)
     found (InvalidToken place other) is =
-        let same : place ≡ pos = prefix_unique value place pos is.prefix dead.prefix in
-        let bytes : other ≡ byte = same_Some other byte (sym is.there ∙ (ap (slice_get value) same ∙ dead.there)) in
-        λ i. rejected (InvalidToken (same i) (bytes i))
-    found fault lacks = absurd (not_viable (lacks_explains value fault lacks).0)
-
-    go : (answer : Answer) → answer_of value ≡ answer → answer ≡ rejected (InvalidToken pos byte)
-    go (read parts) e =
-        absurd (not_viable ([], subst IsHttpMediaType (sym (append-nil value)) (media_of parts, answered_is_http value parts e)))
-    go (rejected fault) e = found fault (answered_fault value fault e)
-fault_answered value fault lacks = lacks_answered value fault lacks
+        let same : place ≡ pos = prefix_unique value place pos is.prefix dead.prefix in cc (same, is.there, dead.there)
+    found fault lacks = absurd (not_viable (explained value (rejected fault) lacks).0)
+fault_answered value NoMemory lacks = absurd lacks.0
+fault_answered value MissingSubtype (is, (front, same)) = completed value MissingSubtype front same is
+fault_answered value MissingValue (is, (front, same)) = completed value MissingValue front same is
+fault_answered value fault lacks = completed value fault value (sym (append-nil value)) lacks.0
 
 -- so a media type has none,
 pub no_fault : (value : List ℕ) (fault : ParseError) → IsHttpMediaType value → ¬ (IsHttpFault value fault)
@@ -226,9 +181,5 @@ no_fault value fault is has = rejected_is_none value fault (fault_answered value
 
 -- and a value that is none has exactly one
 pub one_http_fault : OneHttpFault
-one_http_fault value isnt = go (answer_of value) refl
-  where
-    go : (answer : Answer) → answer_of value ≡ answer
-        → (fault : ParseError) × IsHttpFault value fault × ((other : ParseError) → IsHttpFault value other → other ≡ fault)
-    go (read parts) e = absurd (isnt (media_of parts, answered_is_http value parts e))
-    go (rejected fault) e = (fault, answered_fault value fault e, λ other has. cc (fault_answered value other has, e))
+one_http_fault value isnt = by_answer (answer_of value) (λ parts e. absurd (isnt (media_of parts, answered_is_http value parts e)))
+    (λ fault e. (fault, answered_fault value fault e, λ other has. cc (fault_answered value other has, e)))

@@ -26,11 +26,7 @@ goes_on : (class : ℕ → Bool) (state : List ℕ → State)
     → (run : List ℕ) → list_all class run ≡ true → (done : List ℕ) (at : ℕ) (bytes : List ℕ)
     → answer_from (state done) at (run ++ bytes) ≡ answer_from (state (done ++ run)) (at + length run) bytes
 goes_on class state goes [] all done at bytes = same_from bytes (ap state (sym (append-nil done))) (omega arith)
-goes_on class state goes (b ∷ run) all done at bytes =
-    let parts = and_parts (class b) _ all in
-    one_byte (state done) (state (done ++ (b ∷ []))) at b (run ++ bytes) (goes done b parts.0)
-    ∙ goes_on class state goes run parts.1 (done ++ (b ∷ [])) (at + 1) bytes
-    ∙ same_from bytes (ap state (append_assoc done (b ∷ []) run)) (omega arith)
+goes_on class state goes (b ∷ run) all done at bytes = grind (arith, goes_on class state goes run, and_parts, one_byte, same_from, append_assoc)
 
 -- ---- white space
 
@@ -129,19 +125,13 @@ value_ends parts name (v ∷ value) is at (b ∷ bytes) ends = rw ends refl
 pub on_open : (parts : Parts) (name run done : List ℕ) → takes_all (awaits_after false done) run ≡ true → (at : ℕ) (bytes : List ℕ)
     → answer_from (in_string parts name done) at (run ++ bytes) ≡ answer_from (in_string parts name (done ++ run)) (at + length run) bytes
 on_open parts name [] done all at bytes = same_from bytes (ap (in_string parts name) (sym (append-nil done))) (omega arith)
-on_open parts name (b ∷ run) done all at bytes =
-    let here = and_parts (continues done b) _ all in
-    one_byte (in_string parts name done) (in_string parts name (done ++ (b ∷ []))) at b (run ++ bytes) (rw here.0 refl)
-    ∙ on_open parts name run (done ++ (b ∷ []))
-    (subst (λ awaiting. takes_all awaiting run ≡ true) (sym (awaits_after-append false done (b ∷ []))) here.1) (at + 1) bytes
-    ∙ same_from bytes (ap (in_string parts name) (append_assoc done (b ∷ []) run)) (omega arith)
+on_open parts name (b ∷ run) done all at bytes = grind (arith, on_open parts name run (done ++ (b ∷ [])), and_parts, continues, one_byte, takes_all, awaits_after-append, same_from, append_assoc)
 
 -- and so does content, if no byte is paired before it.
 pub on_content : {content : List ℕ} → IsContent content → (parts : Parts) (name done : List ℕ) → awaits_after false done ≡ false
     → (at : ℕ) (bytes : List ℕ) → answer_from (in_string parts name done) at (content ++ bytes)
     ≡ answer_from (in_string parts name (done ++ content)) (at + length content) bytes
-on_content {content} is parts name done none at bytes =
-    on_open parts name content done (subst (λ awaiting. takes_all awaiting content ≡ true) (sym none) (content-taken content is)) at bytes
+on_content {content} is parts name done none at bytes = grind (arith, on_open, takes_all, content-taken)
 
 -- A quote ends it.
 pub content_ends : {content : List ℕ} → IsContent content → (parts : Parts) (name : List ℕ)

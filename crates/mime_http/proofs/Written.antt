@@ -28,15 +28,12 @@ pub ruleset lengths = (length-append, length-cons, length-lowered, length-lowere
 
 -- a pair takes as many,
 length-pair : (pair : List ℕ × List ℕ) → length (text_of_pair (lowered_pair pair)) ≡ length (text_of_pair pair)
-length-pair (name, value) =
-    grind (arith, test-either name value, length-append {A = ℕ}, length-lowered name, length-lowered_value name value)
+length-pair (name, value) = grind (arith, test-either, length-append, length-lowered, length-lowered_value)
 
 -- and so do more of them
 pub length-pairs : (pairs : List (List ℕ × List ℕ)) → length (text_of_pairs (map lowered_pair pairs)) ≡ length (text_of_pairs pairs)
 length-pairs [] = refl
-length-pairs (pair ∷ pairs) =
-    length-append (text_of_pair (lowered_pair pair)) _ ∙ simp (length-pair pair, length-pairs pairs)
-    (sym (length-append (text_of_pair pair) (text_of_pairs pairs)))
+length-pairs (pair ∷ pairs) = grind (arith, length-pairs pairs, length-append, lowered_pair, length-pair)
 
 -- the parameter of a pair: its value is a token, or in quotes
 abbrev parameter_of : List ℕ × List ℕ → Parameter
@@ -49,8 +46,7 @@ list_of pair (next ∷ pairs) = more (32 ∷ []) (parameter_of pair) (list_of ne
 
 -- they are well formed if the pairs are safe,
 well_formed_one : (pair : List ℕ × List ℕ) → IsSafePair pair → IsParameter (parameter_of pair)
-well_formed_one (name, value) (named, is) = cond_both (is_token_value value) _ _ IsParameter
-    (λ token. (named, token_from_test value token)) (λ other. (named, is, refl))
+well_formed_one (name, value) (named, is) = grind (arith, cond_both, token_from_test)
 
 well_formed_list : (pair : List ℕ × List ℕ) (pairs : List (List ℕ × List ℕ)) → AllByRecursion IsSafePair (pair ∷ pairs)
     → AreParameters (list_of pair pairs)
@@ -129,8 +125,7 @@ others_stay : (name : List ℕ) (pairs : List (List ℕ × List ℕ)) (pair : Li
     → map lowered_pair (others name (map lowered_pair pairs) ++ (pair ∷ []))
     ≡ others (lowered name) (map lowered_pair pairs) ++ (lowered_pair pair ∷ [])
 others_stay name [] pair = refl
-others_stay name (first ∷ pairs) pair =
-    grind (arith, lowered-lowered name, lowered-lowered first.0, lowered_value-lowered first.0 first.1, others_stay name pairs pair)
+others_stay name (first ∷ pairs) pair = grind (arith, others_stay name pairs pair, lowered-lowered, lowered_value-lowered)
 
 -- an essence with the parameters of other names and this one after it is read as the value with this one in place of those of its name
 pub with_pair_is_read : (text : List ℕ) (value : MediaType) (name content : List ℕ) → Reads text value → IsSafe value → IsToken name
@@ -173,29 +168,18 @@ pub record Left (name whole text : List ℕ) (total count : ℕ) (items : List I
 -- at first all are left,
 pub all_left : (name essence : List ℕ) (pairs : List (List ℕ × List ℕ)) {items : List Item} {text : List ℕ} → items ≡ items_of pairs
     → text ≡ essence → Left name (essence ++ text_of_pairs (others name pairs)) text (length (others name pairs)) 0 items
-all_left name essence pairs are is =
-    let same = ap (other_items name) are ∙ others_of name pairs in
-    record { written = ap₂ (λ text ps. text ++ text_of_pairs ps) is same; counted = omega (arith, ap length same) }
+all_left name essence pairs are is = grind (arith, others_of)
 
 module _ {name whole text : List ℕ} {total count : ℕ} {items next : List Item} {item : Item}
     (left : Left name whole text total count items) (is : items ≡ item ∷ next) where
   -- an item of this name is left out,
   pub named_skipped : NameIs item.name item.name_ignores_case name → Left name whole text total count next
-  named_skipped named =
-      let test : is_named name item ≡ true = (name_decides name item.name item.name_ignores_case).1 named in
-      record { written = rw (is, test) at left.written; counted = rw (is, test) at left.counted }
+  named_skipped named = grind (arith, name_decides)
 
   -- one of another is written,
   pub copied : ¬ (NameIs item.name item.name_ignores_case name)
       → Left name whole (text ++ text_of_pair (item.name, item.value)) total (count + 1) next
-  copied other =
-      let test : is_named name item ≡ false =
-      false_from_ne_true _ (λ same. other ((name_decides name item.name item.name_ignores_case).0 same)) in
-      let counted : count + suc (length (other_items name next)) ≡ total = rw (is, test) at left.counted in
-      record {
-        written = append_assoc text (text_of_pair (item.name, item.value)) _ ∙ (rw (is, test) at left.written);
-        counted = omega (arith, counted);
-      }
+  copied other = grind (arith, false_from_ne_true, name_decides, append_assoc)
 
 -- and at last all is written and counted
 pub none_left : {name whole text : List ℕ} {total count : ℕ} {items : List Item} → Left name whole text total count items → items ≡ []

@@ -1,12 +1,11 @@
 -- What the library reads is what HTTP writes, with the white space around it; and a short value is always read.
-use Rattle.mime_http.proofs.Common.{HttpExplains, HttpReads, IfErr, IsPrinted, List, MediaType, OwnedMedia, Reads, ap, as_it_stands, subst, trimmed, ℕ, ◌∙◌, ◌≡◌, IfErr-weaker}
-use Rattle.mime_http.{proofs.Around.reads_around, proofs.HttpLaws.error_is_memory, proofs.HttpLaws.short_has_none, proofs.HttpLaws.star_has_none, proofs.PlainIsHttp.plain_is_http, specs.declared.value.FieldError.TheVariants.NoMemory}
+use Rattle.mime_http.proofs.Common.{HttpExplains, HttpReads, IfErr, IsPrinted, List, MediaType, OwnedMedia, Reads, ap, subst, trimmed, ℕ, ◌∙◌, ◌≡◌, IfErr-weaker}
+use Rattle.mime_http.{proofs.HttpLaws.error_is_memory, proofs.HttpLaws.short_has_none, proofs.HttpLaws.star_has_none, proofs.HttpLaws.stands, specs.declared.value.FieldError.TheVariants.NoMemory}
 use Rattle.mime_http.proofs.value.content_type.Goals as goal
 
 as_it_is : (value text : List ℕ) (media : MediaType) → text ≡ trimmed value → Reads text media → HttpReads value media × IsPrinted value media
 as_it_is value text media same is =
-    let reads = subst (λ t. Reads t media) same is in
-    (reads_around value media (plain_is_http (trimmed value) media reads), as_it_stands value media reads)
+    stands value media (subst (λ t. Reads t media) same is)
 
 pub returns-in-Err-clause-star : goal.returns-in-Err-clause-star
 returns-in-Err-clause-star c = λ is. absurd (c.in-Err.ensures.cases.0 (star_has_none {T = OwnedMedia} c.args.value.now is).0)
