@@ -1,5 +1,5 @@
 -- Reading on from a position of a value: over a byte, a run, and quoted content; and where nothing goes on.
-use Rattle.mime_http.proofs.Common.{Bool, InvalidToken, IsClosedAt, IsContent, List, None, ParseError, Some, State, [], IsStringFault, IsToken, Parts, after_semicolon, and_from, and_parts, answer_at, answer_at_end, answer_from, ap, append-nil, append_assoc, ap₂, arith, awaits_after, awaits_after-append, before_semicolon, cases_lt, drop, drop-drop, drop_more, drop_of_length-le, drop_split, false, fault_at, flat_map-append, get_or-drop, if◌then◌else◌, in_name, in_ranges, in_string, in_subtype, in_value, is_quoted_byte, is_quoted_text_byte, is_space, is_token_byte, is_token_value, length, length-drop, length-take-le, nat_tests, list_all, list_all-append, list_all-wider, next, no_byte, not, prefix_len, option_map, prefix_len_stops, quoted_pair, refl, rejected, slice_index, slice_range, subst, suc, sym, take, take-add, text_byte, text_of_pair, text_of_pairs, text_of_parts, true, unwrap_or, with_parameter, ℕ, ⊎_elim, ◌++◌, ◌+◌, ◌-◌, ◌<◌, ◌∙◌, ◌∷◌, ◌≡◌, ◌≢◌, ◌≤◌, not-true, content-awaits, is_stop}
+use Rattle.mime_http.proofs.Common.{Bool, one-add, InvalidToken, IsClosedAt, IsContent, List, None, ParseError, Some, State, [], IsStringFault, IsToken, Parts, after_semicolon, and_from, and_parts, answer_at, answer_at_end, answer_from, ap, append-nil, append_assoc, ap₂, arith, awaits_after, awaits_after-append, before_semicolon, cases_lt, drop, drop-drop, drop_more, drop_of_length-le, drop_split, false, fault_at, flat_map-append, get_or-drop, if◌then◌else◌, in_name, in_ranges, in_string, in_subtype, in_value, is_quoted_byte, is_quoted_text_byte, is_space, is_token_byte, is_token_value, length, length-drop, length-take-le, nat_tests, list_all, list_all-append, list_all-wider, next, no_byte, not, prefix_len, option_map, prefix_len_stops, quoted_pair, refl, rejected, slice_index, slice_range, subst, suc, sym, take, take-add, text_byte, text_of_pair, text_of_pairs, text_of_parts, true, unwrap_or, with_parameter, ℕ, ⊎_elim, ◌++◌, ◌+◌, ◌-◌, ◌<◌, ◌∙◌, ◌∷◌, ◌≡◌, ◌≢◌, ◌≤◌, not-true, content-awaits, is_stop}
 use Rattle.mime_http.{specs.declared.reader.TheConstants.TOKEN_STOPS, specs.declared.reader.TheConstants.TEXT_STOPS, proofs.ReadBack.content_more, proofs.Runs.EndsToken, proofs.Runs.KeepsSpace, proofs.Runs.content_ends, proofs.Runs.name_begins, proofs.Runs.no_way, proofs.Runs.on_content, proofs.Runs.on_subtype, proofs.Runs.on_value, proofs.Runs.one_byte, proofs.Runs.over_white, proofs.Runs.subtype_ends, proofs.Runs.value_ends}
 
 -- ---- a part of a value
@@ -19,11 +19,7 @@ one_part value at within = grind (arith, drop_more)
 -- and is the part up to a position between and the part from there on
 pub parts_joined : (value : List ℕ) (from at to : ℕ) → from ≤ at → at ≤ to
     → slice_range value from to ≡ slice_range value from at ++ slice_range value at to
-parts_joined value from at to least most =
-    let sum : to - from ≡ (at - from) + (to - at) = omega (arith, least, most) in
-    let there : from + (at - from) ≡ at = omega (arith, least) in
-    ap (λ n. take n (drop from value)) sum ∙ take-add (at - from) (to - at) (drop from value)
-    ∙ ap (λ rest. slice_range value from at ++ take (to - at) rest) (drop-drop (at - from) from value ∙ ap (λ n. drop n value) there)
+parts_joined value from at to least most = grind (arith, take-add (at - from) (to - at) (drop from value), drop-drop (at - from) from value)
 
 -- ---- runs
 
@@ -31,15 +27,10 @@ parts_joined value from at to least most =
 abbrev pub run_end : (ℕ → Bool) → List ℕ → ℕ → ℕ
 run_end class value from = from + prefix_len class (drop from value)
 
--- one more, counted in front
-one_more : (n : ℕ) → suc n ≡ 1 + n
-one_more n = omega arith
-
 -- the bytes of a run are of its class
 run_all : (class : ℕ → Bool) (bytes : List ℕ) → list_all class (take (prefix_len class bytes) bytes) ≡ true
 run_all class [] = refl
-run_all class (b ∷ bytes) =
-    grind (arith, one_more (prefix_len class bytes), run_all class bytes)
+run_all class (b ∷ bytes) = grind (arith, one-add (prefix_len class bytes), run_all class bytes)
 
 -- a part of a value whose bytes are of a class, and which ends before a byte of another or at the end
 pub record IsRun (class : ℕ → Bool) (value : List ℕ) (from to : ℕ) : Type 0 where
@@ -50,31 +41,22 @@ pub record IsRun (class : ℕ → Bool) (value : List ℕ) (from to : ℕ) : Typ
 -- which is up to the end of a run
 pub run_is : (class : ℕ → Bool) (value : List ℕ) (from to : ℕ) → to ≡ run_end class value from → IsRun class value from to
 run_is class value from to is =
-    let n : ℕ = prefix_len class (drop from value) in
-    let long : to - from ≡ n = omega (arith, is) in record {
+    let long : to - from ≡ prefix_len class (drop from value) = omega (arith, is) in record {
       least = omega (arith, is);
-      all = ap (λ k. list_all class (take k (drop from value))) long ∙ run_all class (drop from value);
-      stops = λ more.
-          ap (λ k. class (slice_index value k)) is ∙ ap class (sym (get_or-drop from value n 0))
-          ∙ prefix_len_stops class (drop from value) 0 (omega (arith, is, more, length-drop from value));
+      all = rw long (run_all class (drop from value));
+      stops = grind (arith, get_or-drop from value, prefix_len_stops class (drop from value) 0, length-drop from value);
     }
 
 -- a run of a class goes on over one of a narrower class
 wider_run : (narrow class : ℕ → Bool) → ((b : ℕ) → narrow b ≡ true → class b ≡ true) → (bytes : List ℕ)
     → prefix_len class bytes ≡ prefix_len narrow bytes + prefix_len class (drop (prefix_len narrow bytes) bytes)
 wider_run narrow class wider [] = refl
-wider_run narrow class wider (b ∷ bytes) =
-    grind (arith, one_more (prefix_len narrow bytes), wider b, wider_run narrow class wider bytes)
+wider_run narrow class wider (b ∷ bytes) = grind (arith, one-add (prefix_len narrow bytes), wider b, wider_run narrow class wider bytes)
 
 -- so its end stays the same
 pub run_goes_on : (narrow class : ℕ → Bool) → ((b : ℕ) → narrow b ≡ true → class b ≡ true) → (value : List ℕ) (from to : ℕ)
     → to ≡ run_end narrow value from → run_end class value to ≡ run_end class value from
-run_goes_on narrow class wider value from to is =
-    let bytes : List ℕ = drop from value in
-    let n : ℕ = prefix_len narrow bytes in
-    let there : drop to value ≡ drop n bytes = ap (λ k. drop k value) is ∙ sym (drop-drop n from value) in
-    let here : prefix_len class (drop to value) ≡ prefix_len class (drop n bytes) = ap (prefix_len class) there in
-    omega (arith, is, here, wider_run narrow class wider bytes)
+run_goes_on narrow class wider value from to is = grind (arith, drop-drop (prefix_len narrow (drop from value)) from value, wider_run narrow class wider (drop from value))
 
 -- the bytes that a search passes may stand in a token,
 pub are_token_bytes : (b : ℕ) → not (is_stop TOKEN_STOPS b) ≡ true → is_token_byte b ≡ true
@@ -89,8 +71,7 @@ are_text_bytes b go = in_ranges TEXT_STOPS is_quoted_text_byte (omega arith) (om
 -- bytes of quoted text are content
 pub text_content : (bytes : List ℕ) → list_all is_quoted_text_byte bytes ≡ true → IsContent bytes
 text_content [] all = no_byte
-text_content (b ∷ bytes) all =
-    let parts = and_parts (is_quoted_text_byte b) _ all in text_byte b bytes parts.0 (text_content bytes parts.1)
+text_content (b ∷ bytes) all = grind (arith, text_content bytes, text_byte)
 
 -- ---- reading on
 
@@ -138,20 +119,16 @@ pub text_after : (value : List ℕ) (at to : ℕ) → at < length value → is_q
     → list_all is_quoted_text_byte (slice_range value at to) ≡ true
 text_after value at to within text is =
     let run = run_is (λ b. not (is_stop TEXT_STOPS b)) value (at + 1) to is in
-    let rest = list_all-wider (λ b. not (is_stop TEXT_STOPS b)) is_quoted_text_byte are_text_bytes _ run.all in
-    ap (list_all is_quoted_text_byte) (parts_joined value at (at + 1) to (omega arith) run.least
-    ∙ ap (λ first. first ++ slice_range value (at + 1) to) (one_part value at within))
-    ∙ and_from (is_quoted_text_byte (slice_index value at)) _ text rest
+    let rest = list_all-wider _ is_quoted_text_byte are_text_bytes (slice_range value (at + 1) to) run.all in
+    grind (arith, parts_joined value at (at + 1) to, run.least, one_part value at within, rest)
 
 -- a part of two bytes of which the first is a backslash
 pub pair_content : (value : List ℕ) (at end : ℕ) → end ≡ at + 2 → end ≤ length value → slice_index value at ≡ 92
     → is_quoted_byte (slice_index value (at + 1)) ≡ true → IsContent (slice_range value at end)
 pair_content value at end is within first fits =
-    let two : at + 1 + 1 ≡ end = omega (arith, is) in
-    let one = one_part value at (omega (arith, is, within)) ∙ ap (λ b. b ∷ []) first in
-    let other = ap (slice_range value (at + 1)) (sym two) ∙ one_part value (at + 1) (omega (arith, is, within)) in
-    let joined = parts_joined value at (at + 1) end (omega arith) (omega (arith, is)) in
-    subst IsContent (sym (joined ∙ ap₂ (λ xs ys. xs ++ ys) one other)) (quoted_pair (slice_index value (at + 1)) [] fits no_byte)
+    let whole : slice_range value at end ≡ 92 ∷ slice_index value (at + 1) ∷ [] =
+    grind (arith, parts_joined value at (at + 1) end, one_part value at, one_part value (at + 1)) in
+    rw whole (quoted_pair (slice_index value (at + 1)) [] fits no_byte)
 
 -- content before content is content
 pub content_on : (value : List ℕ) (from at to : ℕ) → from ≤ at → at ≤ to → IsContent (slice_range value from at)
@@ -165,18 +142,23 @@ pub over_content : (parts : Parts) (name value : List ℕ) (from close : ℕ) �
 unfolding is_quoted_byte
 over_content parts name value from close closed =
     let content : List ℕ = slice_range value from close in
-    over value from close (in_string parts name []) (in_string parts name content) closed.least (omega (arith, closed.within))
-    (on_content closed.content parts name [] refl from (drop close value))
-    ∙ over_byte value close (in_string parts name content) (before_semicolon (with_parameter parts name content)) closed.within
-    (ap (next (in_string parts name content)) closed.quote ∙ content_ends closed.content parts name)
+    grind (
+      arith,
+      over value from close (in_string parts name []) (in_string parts name content),
+      closed.least,
+      closed.within,
+      on_content closed.content parts name [] refl,
+      over_byte value close (in_string parts name content),
+      closed.quote,
+      content_ends closed.content,
+    )
 
 -- and a fault after content is the string's
 pub fault_after : (value : List ℕ) (from at : ℕ) (fault : ParseError) → from ≤ at → at ≤ length value
     → IsContent (slice_range value from at) → IsStringFault value at fault → IsStringFault value from fault
 fault_after value from at fault least within content is = λ name done none parts.
     let more : List ℕ = done ++ slice_range value from at in
-    let awaits : awaits_after false more ≡ false = awaits_after-append false done _
-    ∙ ap (λ awaiting. awaits_after awaiting (slice_range value from at)) none ∙ content-awaits _ content in
+    let awaits : awaits_after false more ≡ false = grind (arith, awaits_after-append false done, content-awaits, content, none) in
     over value from at (in_string parts name done) (in_string parts name more) least within
     (on_content content parts name done none from (drop at value)) ∙ is name more awaits parts
 
@@ -195,7 +177,7 @@ token_from (b ∷ bytes) some all = all
 -- so a run of them is
 pub token_part : (value : List ℕ) (from to : ℕ) → from < to → to ≤ length value → IsRun is_token_byte value from to
     → IsToken (slice_range value from to)
-token_part value from to some within run = token_from _ (omega (arith, some, length-part value from to within)) run.all
+token_part value from to some within run = grind (arith, token_from, length-part, run.all)
 
 -- a token is a token's value
 pub token_value : (bytes : List ℕ) → IsToken bytes → is_token_value bytes ≡ true
@@ -210,18 +192,7 @@ no_token_with (c ∷ before) b bytes isnt = grind (arith, list_all-append is_tok
 -- so bytes after a run, or no bytes, are no token's value
 pub no_token_value : (value : List ℕ) (from plain to : ℕ) → IsRun is_token_byte value from plain → plain ≤ to → to < length value
     → (from < plain → plain ≢ to) → is_token_value (slice_range value from to) ≡ false
-no_token_value value from plain to run most within other = ⊎_elim
-    (λ more.
-    let first : slice_range value plain to ≡ slice_index value plain ∷ slice_range value (plain + 1) to =
-    parts_joined value plain (plain + 1) to (omega arith) (omega (arith, more))
-    ∙ ap (λ xs. xs ++ slice_range value (plain + 1) to) (one_part value plain (omega (arith, more, within))) in
-    ap is_token_value (parts_joined value from plain to run.least most ∙ ap (λ xs. slice_range value from plain ++ xs) first)
-    ∙ no_token_with (slice_range value from plain) _ _ (run.stops (omega (arith, more, within))))
-    (λ past. ⊎_elim (λ some. absurd (other some (omega (arith, past, most))))
-    (λ none.
-    let here : from ≡ to = omega (arith, none, run.least, past, most) in
-    ap (λ n. is_token_value (slice_range value n to)) here ∙ ap is_token_value (no_part value to)) (cases_lt from plain))
-    (cases_lt plain to)
+no_token_value value from plain to run most within other = grind (arith, parts_joined value from plain to, parts_joined value plain (plain + 1) to, one_part value plain, run.least, run.stops, no_token_with, no_part, cases_lt plain to, cases_lt from plain)
 
 -- reading goes on over a subtype,
 pub over_subtype : (value top : List ℕ) (from to : ℕ) → from < to → to ≤ length value → IsRun is_token_byte value from to

@@ -1,6 +1,6 @@
 -- The fault of a value that isn't read is the answer: where reading stops nothing helps, and at each byte before that something does.
 use Rattle.mime_http.proofs.Common.{Answer, not, ◌==◌, nat_tests, Bool, EndsIn, HttpLacks, HttpReads, InvalidToken, IsHttpFault, IsHttpLongestPrefix, IsHttpMediaType, IsHttpViable, List, MissingEqual, MissingQuote, MissingSlash, MissingSubtype, MissingValue, NoMemory, None, OneHttpFault, ParseError, Parts, State, [], awaits_after, before_semicolon, is_quoted_text_byte, list_all, true, with_parameter, answer_at_end, answer_from, answer_of, ap, append-nil, append_assoc, arith, before_type, by_option, false, codes, completion_of, cons_option, in_name, in_string, in_subtype, in_type, in_value, is_quoted_byte, is_token_byte, last_byte_of, length, length-append, media_of, next, read, refl, rules, rejected, same_Some, slice_get, slice_get-prefix, slice_get_within, subst, suc, sym, take, take-append-add, take-append_seam, take-length, unwrap_or, ℕ, ⊤, ◌++◌, ◌+◌, ◌-◌, ◌<◌, ◌∙◌, ◌∷◌, ◌≡◌, ◌≢◌, closed-letter, takes_all-any}
-use Rattle.mime_http.proofs.{Runs.no_way, Runs.on_open, Runs.one_byte, ReadBack.Follows, ReadBack.IsRead, ReadBack.Indented, ReadBack.Spells, ReadBack.follows, ReadBack.indented, ReadBack.answered_is_http, ReadBack.read_at_end, ReadBack.read_from, ReadBack.spelled_after, ReadForth.http_is_answered}
+use Rattle.mime_http.proofs.{Runs.no_way, Runs.on_open, Runs.one_byte, ReadBack.Behind, ReadBack.IsRead, ReadBack.Spells, ReadBack.behind, ReadBack.answered_is_http, ReadBack.read_at_end, ReadBack.read_from, ReadBack.spelled_after, ReadForth.http_is_answered}
 
 -- what isn't read is no media type
 pub rejected_is_none : (value : List ℕ) (fault : ParseError) → answer_of value ≡ rejected fault → ¬ (IsHttpMediaType value)
@@ -8,12 +8,9 @@ rejected_is_none value fault e is = let answered = http_is_answered value is.0 i
 
 -- ---- the end
 
--- the last byte is the slash, and the equals sign
-after_slash : (top front : List ℕ) → Indented (top ++ (47 ∷ [])) front → EndsIn front 47
-after_slash top front (indented before white) = (before ++ top, sym (append_assoc before top (47 ∷ [])))
-
-after_equals : (parts : Parts) (name front : List ℕ) → Follows parts (name ++ (61 ∷ [])) front → EndsIn front 61
-after_equals parts name front (follows first after is white) = (first ++ (59 ∷ (after ++ name)), simp append_assoc)
+-- the last byte of bytes behind others is the last of all
+ends_in : {Front : List ℕ → Type 0} (bytes front : List ℕ) (b : ℕ) → Behind Front (bytes ++ (b ∷ [])) front → EndsIn front b
+ends_in bytes front b (behind before is) = (before ++ bytes, simp append_assoc)
 
 -- a letter and a quote close a quoted string, after a backslash, too
 letter_closes : (parts : Parts) (name content : List ℕ) (at : ℕ)
@@ -31,10 +28,10 @@ answered_at_end : (state : State) (value : List ℕ) → Spells state value → 
 unfolding is_token_byte is_quoted_byte
 answered_at_end before_type value is = ((_, read_from (codes "x/x") before_type 0 value is), tt)
 answered_at_end (in_type top) value is = ((_, read_from (codes "x/x") (in_type top) 0 value is), tt)
-answered_at_end (in_subtype top []) value is = ((_, read_from (codes "x") (in_subtype top []) 0 value is), after_slash top value is.2)
+answered_at_end (in_subtype top []) value is = ((_, read_from (codes "x") (in_subtype top []) 0 value is), ends_in top value 47 is.2)
 answered_at_end (in_name parts name) value is = ((_, read_from (codes "=x") (in_name parts name) 0 value is), tt)
 answered_at_end (in_value parts name []) value is =
-    ((_, read_from (codes "x") (in_value parts name []) 0 value is), after_equals parts name value is.2)
+    ((_, read_from (codes "x") (in_value parts name []) 0 value is), ends_in name value 61 is.2)
 answered_at_end (in_string parts name content) value is =
     let read = read_from (codes "x\"") (in_string parts name content) 0 value is in ((_, rw (letter_closes parts name content 0) at read), tt)
 answered_at_end state value is = read_at_end state value is
