@@ -54,6 +54,12 @@ pub past_ascii : (xs ys : List ℕ) → AreAscii xs → IsUtf8 (xs ++ ys) → Is
 past_ascii [] ys all is = is
 past_ascii (b ∷ xs) ys all is = past_ascii xs ys all.1 (around [] b (xs ++ ys) all.0 is).1
 
+-- after a token, which is in UTF-8 as well,
+pub past_token : (token bytes : List ℕ) → IsToken token → IsUtf8 (token ++ bytes) → IsUtf8 token × IsUtf8 bytes
+past_token token bytes is utf8 =
+    let ascii = token_bytes_ascii token (AreTokenBytes-from_token token is) in
+    (rw append-nil at (put_ascii token [] ascii IsUtf8-nil), past_ascii token bytes ascii utf8)
+
 -- and before them
 pub before_ascii : (xs ys : List ℕ) → AreAscii ys → IsUtf8 (xs ++ ys) → IsUtf8 xs
 before_ascii xs [] all is = subst IsUtf8 (append-nil xs) is

@@ -1,6 +1,6 @@
 -- What is printed of a header's value: one text, which is read as its one media type, and needs memory only if it is long.
 use Rattle.mime_http.proofs.Common.{AllByRecursion, AreTokenBytes-from_token, IsSafePair, IsToken, IsUtf8, IsUtf8-append, IsUtf8-nil, List, Parts, Reads, [], answer_of, arith, cond_both, is_token_value, length, media_of, quote_of, read, subst, text_of_pair, text_of_pairs, text_of_parts, ℕ, ◌∷◌, ◌≡◌, IsPrinted, MediaType, OneHttpReading, OnePrintedText, PrintedIsRead, anew, ap, as_it_stands, one_reading, sym, trimmed, with_pairs, ◌∙◌, kept_is_read, HttpReads, Err, HttpExplains, IfErr, IsAccepted, IsHttpMediaType, NeedsMemory, Parameters, Ok, Result, SyntaxTree, Tail, append-nil, blank, codes, essence_of, is_token_byte, final, inl, inr, kept_text, length-append, listed, lowered_list, lowered_tail, lowered_tree, more, no_list, pairs_of_tail, plain, quoted, refl, text_of, text_of_list, value_of, ⊎_elim, ◌++◌, ◌+◌, ◌<◌, ◌≤◌, ◌⊎◌, IsOk}
-use Rattle.mime_http.{proofs.Around.put_ascii, proofs.Around.put_one, proofs.Around.put_token, proofs.ReadBack.answered_is_http, proofs.ReadForth.AreFound, proofs.ReadForth.AreUtf8, proofs.ReadForth.http_is_answered, proofs.Written.length-pairs, proofs.Written.lengths, proofs.Written.parts_are_read, proofs.PlainIsHttp.plain_is_http, proofs.Around.reads_around, proofs.ReadFaults.no_fault, specs.declared.value.FieldError.FieldError, specs.declared.value.FieldError.TheVariants.NotUtf8, specs.declared.value.FieldError.TheVariants.Invalid}
+use Rattle.mime_http.{proofs.Around.put_ascii, proofs.Around.put_one, proofs.Around.put_token, proofs.ReadBack.answered_is_http, proofs.ReadForth.AreFound, proofs.ReadForth.http_is_answered, proofs.Written.length-pairs, proofs.Written.lengths, proofs.Written.parts_are_read, proofs.PlainIsHttp.plain_is_http, proofs.Around.reads_around, proofs.ReadFaults.no_fault, specs.declared.value.FieldError.FieldError, specs.declared.value.FieldError.TheVariants.NotUtf8, specs.declared.value.FieldError.TheVariants.Invalid}
 use Rattle.mime_http.specs.declared.value.FieldError.TheVariants as field
 
 -- ---- what is written anew
@@ -16,22 +16,10 @@ pub written_reads : (value : List ℕ) (parts : Parts) → answer_of value ≡ r
 written_reads value parts is = grind (arith, are_found, parts_are_read)
 
 -- is in UTF-8,
-utf8_pair : (pair : List ℕ × List ℕ) → IsSafePair pair → IsUtf8 pair.1 → IsUtf8 (text_of_pair pair)
-utf8_pair (name, value) (named, is) utf8 =
-    let quote = cond_both (is_token_value value) [] (34 ∷ []) IsUtf8 (λ token. IsUtf8-nil) (λ other. put_one 34 [] (omega arith) IsUtf8-nil) in
-    put_ascii (59 ∷ 32 ∷ []) _ (omega arith)
-    (put_token name _ named (put_one 61 _ (omega arith) (IsUtf8-append _ _ quote (IsUtf8-append value _ utf8 quote))))
-
-utf8_pairs : (pairs : List (List ℕ × List ℕ)) → AllByRecursion IsSafePair pairs → AreUtf8 pairs → IsUtf8 (text_of_pairs pairs)
-utf8_pairs [] safe utf8 = IsUtf8-nil
-utf8_pairs (pair ∷ pairs) safe utf8 =
-    IsUtf8-append (text_of_pair pair) (text_of_pairs pairs) (utf8_pair pair safe.0 utf8.0) (utf8_pairs pairs safe.1 utf8.1)
-
 pub written_is_utf8 : (value : List ℕ) (parts : Parts) → IsUtf8 value → answer_of value ≡ read parts → IsUtf8 (text_of_parts parts)
 written_is_utf8 value parts utf8 is =
     let found = are_found value parts is in
-    put_token parts.top _ found.is_top (put_one 47 _ (omega arith) (put_token parts.sub _ found.is_sub
-    (utf8_pairs parts.pairs found.safe (found.utf8 utf8))))
+    put_token parts.top _ found.is_top (put_one 47 _ (omega arith) (put_token parts.sub _ found.is_sub (found.utf8 utf8)))
 
 -- and takes as many bytes as are kept.
 pub written_length : (parts : Parts) → length (media_of parts).kept ≡ length (text_of_parts parts)
