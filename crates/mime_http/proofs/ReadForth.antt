@@ -45,11 +45,14 @@ reads_one (with_string name content named is) bytes ends = record {
       let (here, rest) = around content 34 bytes (omega arith) (around [] 34 (content ++ (34 ∷ bytes)) (omega arith) quoted).1 in
       (utf8_pair name content named here, rest);
   reads = λ parts at.
-      (simp regroup (name_begins parts name named at (61 ∷ 34 ∷ (content ++ (34 ∷ bytes)))))
-      ∙ on_content is parts name [] refl (at + length name + 1 + 1) (34 ∷ bytes)
-      ∙ one_byte (in_string parts name content) (before_semicolon (with_parameter parts name content)) _ 34 bytes
-      (content_ends is parts name)
-      ∙ same_from bytes refl (omega (arith, length-append content (34 ∷ []), length-append name (61 ∷ 34 ∷ (content ++ (34 ∷ [])))));
+      simp regroup (grind (
+        arith,
+        name_begins parts name named at (61 ∷ 34 ∷ (content ++ (34 ∷ bytes))),
+        length-append content (34 ∷ []),
+        length-append name (61 ∷ 34 ∷ (content ++ (34 ∷ []))),
+        on_content is parts name [] refl,
+        content_ends is parts name,
+      ));
 }
 
 -- ---- parameters and the white space after them
@@ -88,10 +91,7 @@ module _ (before after bytes : List ℕ) (first : AreSpaces before) (second : Ar
   after_white : {parts : Parts} {state : State} → IsBetween parts state → (at : ℕ)
       → answer_from state at (before ++ (59 ∷ (after ++ bytes)))
       ≡ answer_from (after_semicolon parts) (at + length before + 1 + length after) bytes
-  after_white {parts} {state} between at =
-      over_white state between.white before first at (59 ∷ (after ++ bytes))
-      ∙ one_byte state (after_semicolon parts) (at + length before) 59 (after ++ bytes) between.semicolon
-      ∙ over_white (after_semicolon parts) (keeps_inside parts) after second (at + length before + 1) bytes
+  after_white {parts} {state} between at = grind (arith, over_white state between.white before first at, between.semicolon, over_white (after_semicolon parts) (keeps_inside parts) after second)
 
   -- bytes are in UTF-8 if all are
   utf8_past : IsUtf8 (before ++ (59 ∷ (after ++ bytes))) → IsUtf8 bytes
