@@ -26,14 +26,11 @@ length-cons b xs = refl
 
 pub ruleset lengths = (length-append, length-cons, length-lowered, length-lowered_value)
 
--- a pair takes as many,
-length-pair : (pair : List ℕ × List ℕ) → length (text_of_pair (lowered_pair pair)) ≡ length (text_of_pair pair)
-length-pair (name, value) = grind (arith, test-either, length-append, length-lowered, length-lowered_value)
-
--- and so do more of them
+-- pairs take as many,
 pub length-pairs : (pairs : List (List ℕ × List ℕ)) → length (text_of_pairs (map lowered_pair pairs)) ≡ length (text_of_pairs pairs)
 length-pairs [] = refl
-length-pairs (pair ∷ pairs) = grind (arith, length-pairs pairs, length-append, lowered_pair, length-pair)
+length-pairs ((name, value) ∷ pairs) =
+    grind (arith, length-pairs pairs, test-either name value, length-append {A = ℕ}, length-lowered name, length-lowered_value name value)
 
 -- the parameter of a pair: its value is a token, or in quotes
 abbrev parameter_of : List ℕ × List ℕ → Parameter
@@ -45,36 +42,22 @@ list_of pair [] = final (32 ∷ []) (parameter_of pair)
 list_of pair (next ∷ pairs) = more (32 ∷ []) (parameter_of pair) (list_of next pairs)
 
 -- they are well formed if the pairs are safe,
-well_formed_one : (pair : List ℕ × List ℕ) → IsSafePair pair → IsParameter (parameter_of pair)
-well_formed_one (name, value) (named, is) = grind (arith, cond_both, token_from_test)
-
 well_formed_list : (pair : List ℕ × List ℕ) (pairs : List (List ℕ × List ℕ)) → AllByRecursion IsSafePair (pair ∷ pairs)
     → AreParameters (list_of pair pairs)
-well_formed_list pair [] (is, all) = (refl, well_formed_one pair is)
-well_formed_list pair (next ∷ pairs) (is, all) = (refl, well_formed_one pair is, well_formed_list next pairs all)
+well_formed_list (name, value) [] (is, all) = grind (arith, token_from_test)
+well_formed_list (name, value) (next ∷ pairs) (is, all) = grind (arith, token_from_test, well_formed_list next pairs)
 
--- are what is written of the pairs,
-text_of_one : (pair : List ℕ × List ℕ) → 59 ∷ 32 ∷ text_of_parameter (parameter_of pair) ≡ text_of_pair pair
-text_of_one (name, value) = grind (arith, append-nil value)
+-- are what is written of the pairs, and read as them,
+written_list : (pair : List ℕ × List ℕ) (pairs : List (List ℕ × List ℕ)) → (59 ∷ text_of_list (list_of pair pairs) ≡ text_of_pairs (pair ∷ pairs))
+    × (pairs_of_list (list_of pair pairs) ≡ pair ∷ pairs)
+written_list (name, value) [] = grind (arith, append-nil)
+written_list (name, value) (next ∷ pairs) = grind (arith, written_list next pairs, append-nil, append_assoc)
 
-text_of_all : (pair : List ℕ × List ℕ) (pairs : List (List ℕ × List ℕ))
-    → 59 ∷ text_of_list (list_of pair pairs) ≡ text_of_pairs (pair ∷ pairs)
-text_of_all pair [] = text_of_one pair ∙ sym (append-nil _)
-text_of_all pair (next ∷ pairs) = λ i. text_of_one pair i ++ text_of_all next pairs i
-
--- in lowercase those of the pairs in lowercase,
-lowered_one : (pair : List ℕ × List ℕ) → lowered_parameter (parameter_of pair) ≡ parameter_of (lowered_pair pair)
-lowered_one (name, value) = grind (arith, test-either name value)
-
+-- and in lowercase those of the pairs in lowercase
 lowered_all : (pair : List ℕ × List ℕ) (pairs : List (List ℕ × List ℕ))
     → lowered_list (list_of pair pairs) ≡ list_of (lowered_pair pair) (map lowered_pair pairs)
-lowered_all pair [] = ap (final (32 ∷ [])) (lowered_one pair)
-lowered_all pair (next ∷ pairs) = ap₂ (more (32 ∷ [])) (lowered_one pair) (lowered_all next pairs)
-
--- and read as the pairs
-pairs_of_all : (pair : List ℕ × List ℕ) (pairs : List (List ℕ × List ℕ)) → pairs_of_list (list_of pair pairs) ≡ pair ∷ pairs
-pairs_of_all (name, value) [] = grind arith
-pairs_of_all (name, value) (next ∷ pairs) = grind (arith, pairs_of_all next pairs)
+lowered_all (name, value) [] = grind (arith, test-either name value)
+lowered_all (name, value) (next ∷ pairs) = grind (arith, test-either name value, lowered_all next pairs)
 
 -- So a type, a subtype and pairs are read as they are written,
 pub parts_are_read : (parts : Parts) → IsToken parts.top → IsToken parts.sub → AllByRecursion IsSafePair parts.pairs
@@ -92,26 +75,11 @@ parts_are_read parts is_top is_sub safe = go parts.pairs safe
     go (pair ∷ pairs) safe = record {
       tree = record { top = parts.top; sub = parts.sub; tail = listed (list_of pair pairs) };
       well_formed = (is_top, is_sub, well_formed_list pair pairs safe);
-      spelled = ap (λ text. parts.top ++ (47 ∷ (parts.sub ++ text))) (text_of_all pair pairs);
-      valued = rw (
-        lowered_all pair pairs,
-        pairs_of_all (lowered_pair pair) (map lowered_pair pairs),
-        text_of_all (lowered_pair pair) (map lowered_pair pairs),
-      ) (simp append_assoc);
+      spelled = ap (λ text. parts.top ++ (47 ∷ (parts.sub ++ text))) (written_list pair pairs).0;
+      valued =
+          let low = written_list (lowered_pair pair) (map lowered_pair pairs) in
+          rw (lowered_all pair pairs, low.1, low.0) (simp append_assoc);
     }
-
--- and so are an essence and pairs
-written_is_read : (text : List ℕ) (value : MediaType) (pairs : List (List ℕ × List ℕ)) → Reads text value
-    → AllByRecursion IsSafePair pairs → Reads (value.essence ++ text_of_pairs pairs) (with_pairs value (map lowered_pair pairs))
-written_is_read text value pairs reads safe =
-    let top = reads.tree.top in
-    let sub = reads.tree.sub in
-    let low : Parts = record { top = lowered top; sub = lowered sub; pairs = pairs } in
-    let written = parts_are_read low (IsToken-lowered top reads.well_formed.0) (IsToken-lowered sub reads.well_formed.1) safe in
-    subst (λ (v : MediaType). Reads (v.essence ++ text_of_pairs pairs) (with_pairs v (map lowered_pair pairs))) reads.valued
-    (subst (λ text. Reads text (with_pairs (value_of reads.tree) (map lowered_pair pairs)))
-    (sym (append_assoc (lowered top) (47 ∷ lowered sub) (text_of_pairs pairs)))
-    (rw (lowered-lowered top, lowered-lowered sub, length-lowered top) at written))
 
 -- what holds of all pairs holds of those of other names, and of one more
 all_others : (P : List ℕ × List ℕ → Type 0) (name : List ℕ) (pairs : List (List ℕ × List ℕ)) (pair : List ℕ × List ℕ)
@@ -133,11 +101,15 @@ pub with_pair_is_read : (text : List ℕ) (value : MediaType) (name content : Li
     → Reads (value.essence ++ text_of_pairs (others name value.pairs ++ ((name, content) ∷ [])))
     (with_pair value (lowered name) (lowered_value name content))
 with_pair_is_read text value name content reads safe named is =
-    let low : value.pairs ≡ map lowered_pair (pairs_of_tail reads.tree.tail) =
-    sym (ap (λ (v : MediaType). v.pairs) reads.valued) ∙ pairs_of_tail-lowered reads.tree.tail in
-    subst (λ pairs. Reads (value.essence ++ text_of_pairs (others name value.pairs ++ ((name, content) ∷ []))) (with_pairs value pairs))
-    (rw low (others_stay name (pairs_of_tail reads.tree.tail) (name, content)))
-    (written_is_read text value _ reads (all_others IsSafePair name value.pairs (name, content) safe.pairs (named, is)))
+    let tree = reads.tree in
+    let pairs = others name value.pairs ++ ((name, content) ∷ []) in
+    let low : Parts = record { top = lowered tree.top; sub = lowered tree.sub; pairs = pairs } in
+    let all = all_others IsSafePair name value.pairs (name, content) safe.pairs (named, is) in
+    let written = parts_are_read low (IsToken-lowered tree.top reads.well_formed.0) (IsToken-lowered tree.sub reads.well_formed.1) all in
+    let same : text_of_parts low ≡ value.essence ++ text_of_pairs pairs = grind (arith, reads.valued, append_assoc) in
+    let media : media_of low ≡ with_pair value (lowered name) (lowered_value name content) =
+    grind (arith, reads.valued, lowered-lowered, length-lowered, others_stay, pairs_of_tail-lowered) in
+    rw (same, media) at written
 
 -- ---- those of other names, item by item
 
