@@ -41,12 +41,9 @@ pub around : (run : List ℕ) (b : ℕ) (bytes : List ℕ) → b < 128 → IsUtf
 around run b bytes ascii is =
     let whole : List ℕ = run ++ (b ∷ bytes) in
     let within : length run < length whole = omega (arith, length-append run (b ∷ bytes)) in
-    let there = get_or_from_slice_get whole (length run) b 0 (slice_get-prefix run b bytes (length run) refl) in
-    let below : get_or whole (length run) 0 < 128 = omega (arith, there, ascii) in (
-      subst IsUtf8 (take-append_seam run (b ∷ bytes))
-          (IsUtf8-take whole (length run) is (IsCharBoundary-before_ascii whole (length run) within below)),
-      subst IsUtf8 (drop-append-add run (b ∷ bytes) 1)
-          (IsUtf8-drop whole (length run + 1) is (IsCharBoundary-after_ascii whole (length run) is within below)),
+    let below : get_or whole (length run) 0 < 128 = grind (arith, get_or_from_slice_get whole (length run) b 0, slice_get-prefix run b bytes) in (
+      rw take-append_seam at (IsUtf8-take whole (length run) is (IsCharBoundary-before_ascii whole (length run) within below)),
+      rw drop-append-add at (IsUtf8-drop whole (length run + 1) is (IsCharBoundary-after_ascii whole (length run) is within below)),
     )
 
 -- after more of them,
@@ -62,7 +59,7 @@ past_token token bytes is utf8 =
 
 -- and before them
 pub before_ascii : (xs ys : List ℕ) → AreAscii ys → IsUtf8 (xs ++ ys) → IsUtf8 xs
-before_ascii xs [] all is = subst IsUtf8 (append-nil xs) is
+before_ascii xs [] all is = rw append-nil at is
 before_ascii xs (b ∷ ys) all is = (around xs b ys all.0 is).0
 
 -- ---- a piece without the white space around it
@@ -78,7 +75,7 @@ split_white (b ∷ bytes) =
 -- nothing is left of white space,
 trimmed_start : (piece : List ℕ) → AreSpaces piece → trim_start piece ≡ []
 trimmed_start [] all = refl
-trimmed_start (b ∷ piece) all = let parts = and_parts (is_space b) _ all in rw parts.0 (trimmed_start piece parts.1)
+trimmed_start (b ∷ piece) all = grind (arith, trimmed_start piece)
 
 -- on neither side
 pub trimmed_from_blank : (piece : List ℕ) → AreSpaces piece → trimmed piece ≡ []
@@ -92,15 +89,12 @@ trim_end-last (c ∷ bytes) b = grind (arith, trim_end-last bytes b, list_all-ap
 -- the same, counted to the end
 pub last_trimmed : (piece : List ℕ) (end : ℕ) → 0 < end → end ≤ length piece → trim_end (take end piece)
     ≡ (if is_space (get_or piece (end - 1) 0) then trim_end (take (end - 1) piece) else take end piece)
-last_trimmed piece end some within =
-    grind (arith, take_more piece (end - 1) 0, trim_end-last (take (end - 1) piece) (get_or piece (end - 1) 0))
+last_trimmed piece end some within = grind (arith, take_more piece (end - 1) 0, trim_end-last (take (end - 1) piece))
 
 -- so nothing is left out of bytes of which the last is no white space
 pub nothing_after : (piece : List ℕ) → (0 < length piece → is_space (get_or piece (length piece - 1) 0) ≡ false) → trim_end piece ≡ piece
 nothing_after [] other = refl
-nothing_after (b ∷ bytes) other =
-    rw (take_all (length bytes) bytes (omega arith), other (omega arith))
-    at (last_trimmed (b ∷ bytes) (suc (length bytes)) (omega arith) (omega arith))
+nothing_after (b ∷ bytes) other = grind (arith, take_all (length bytes) bytes, last_trimmed (b ∷ bytes) (suc (length bytes)))
 
 -- ---- the white space around a value
 
@@ -124,21 +118,19 @@ white_around value =
 pub utf8_trimmed : (value : List ℕ) → IsUtf8 value → IsUtf8 (trimmed value)
 utf8_trimmed value utf8 =
     let (before, after, first, last, same) = white_around value in
-    before_ascii (trimmed value) after (spaces_ascii after last)
-    (past_ascii before _ (spaces_ascii before first) (subst IsUtf8 same utf8))
+    before_ascii _ after (spaces_ascii after last) (past_ascii before _ (spaces_ascii before first) (rw same at utf8))
 
 -- and the other way.
 pub utf8_around : (value : List ℕ) → IsUtf8 (trimmed value) → IsUtf8 value
 utf8_around value utf8 =
     let (before, after, first, last, same) = white_around value in
-    let ended = subst IsUtf8 (append-nil after) (put_ascii after [] (spaces_ascii after last) IsUtf8-nil) in
-    subst IsUtf8 (sym same) (put_ascii before _ (spaces_ascii before first) (IsUtf8-append (trimmed value) after utf8 ended))
+    let ended = rw append-nil at (put_ascii after [] (spaces_ascii after last) IsUtf8-nil) in
+    rw same (put_ascii before _ (spaces_ascii before first) (IsUtf8-append (trimmed value) after utf8 ended))
 
 -- If nothing is left of it, it is white space.
 pub blank_from_trimmed : (value : List ℕ) → trimmed value ≡ [] → AreSpaces value
 blank_from_trimmed value none =
-    let (before, after, first, last, same) = white_around value in
-    subst AreSpaces (sym (same ∙ ap (λ left. before ++ (left ++ after)) none)) (spaces-append before after first last)
+    let (before, after, first, last, same) = white_around value in rw (same, none) (spaces-append before after first last)
 
 -- ---- HTTP's reading
 

@@ -2,10 +2,6 @@
 use Rattle.mime_http.proofs.Common.{AreHeaderBytes, one-add, AreTokenBytes-from_token, Bool, IsBoundary, IsContent, IsToken, List, WrittenIsMeant, [], and_parts, ap, append-nil, append_assoc, arith, cases_Bool, cond, drop, drop-append-add, drop-length, drop_of_length-le, eqb-true, escaped, false, false_from_ne_true, get_or, if◌then◌else◌, is_bchar, is_charset, is_quoted_byte, is_quoted_text_byte, is_token_byte, length, list_all, list_all-wider, lowered, lowered_value, lowered_value-either, nat_tests, no_byte, not, quoted_pair, refl, suc, sym, take, take-append-add, take-length, text_byte, to_ascii_lowercase, true, unescaped, zero, ℕ, ⊎_elim, ◌&&◌, ◌*◌, ◌++◌, ◌+◌, ◌<◌, ◌==◌, ◌||◌, ◌∙◌, ◌∷◌, ◌≡◌, ◌≢◌, ◌≤◌, Form, flat_map-append, text_of_pairs, Token, bit_and, drop-cons, form_of, is_plain, is_token_value, kind_of, list_all-append, prefix_len, prefix_len-le-length, prefix_len_stops, take_more, text_in, text_of_pair, is_ascii_uppercase}
 use Rattle.mime_http.{specs.declared.quoted.Form.TheVariants.Quoted, proofs.Written.token_from_test}
 
--- whether a byte is written after a backslash
-abbrev pub is_special : ℕ → Bool
-is_special b = b == 34 || b == 92
-
 -- bytes that stand in quotes as they are need no backslash,
 pub plain_text : (bytes : List ℕ) → list_all is_quoted_text_byte bytes ≡ true → escaped bytes ≡ bytes
 plain_text [] all = refl
@@ -30,11 +26,6 @@ unfolding is_quoted_byte
 boundary_text bytes is = list_all-wider is_bchar is_quoted_text_byte (λ b is. grind (arith, nat_tests)) bytes is.all
 
 -- ---- bytes before the first backslash
-
--- a byte other than a backslash means itself
-plain_first : (b : ℕ) (bytes : List ℕ) → (b == 92) ≡ false → unescaped (b ∷ bytes) ≡ b ∷ unescaped bytes
-plain_first b [] other = rw other refl
-plain_first b (c ∷ bytes) other = rw other refl
 
 -- what the rest of a value means byte by byte, after a backslash that begins a pair, or not
 abbrev pub unescaped_from : Bool → List ℕ → List ℕ
@@ -83,7 +74,7 @@ content_of_escaped (b ∷ value) all = grind (arith, nat_tests, content_of_escap
 -- it means the value
 meant : (value : List ℕ) → unescaped (escaped value) ≡ value
 meant [] = refl
-meant (b ∷ value) = grind (arith, meant value, plain_first b (escaped value))
+meant (b ∷ value) = grind (arith, meant value, unescaped_is (escaped (b ∷ value)), unescaped_is (escaped value))
 
 -- so a boundary means itself
 pub boundary_means_itself : (bytes : List ℕ) → IsBoundary bytes → unescaped bytes ≡ bytes
@@ -101,8 +92,7 @@ no_capital (b ∷ bytes) all = grind (arith, nat_tests, all, no_capital bytes)
 
 -- so a value without capitals stays as it is written where it is read in lowercase
 pub kept_low : (name value : List ℕ) → lowered value ≡ value → lowered_value name (escaped value) ≡ escaped value
-kept_low name value low =
-    lowered_value-either (λ bytes. bytes ≡ escaped value) name (escaped value) refl (lowered_escaped value ∙ ap escaped low)
+kept_low name value low = grind (arith, lowered_escaped, low)
 
 -- what is written for a value means the value
 pub written_is_meant : WrittenIsMeant
@@ -191,14 +181,10 @@ unfolding is_token_byte
 all_tokens [] = refl
 all_tokens (b ∷ value) = grind (arith, nat_tests, all_tokens value)
 
-same_test : (value : List ℕ) → is_token_value (escaped value) ≡ is_token_value value
-unfolding is_token_byte
-same_test [] = refl
-same_test (b ∷ value) = grind (arith, nat_tests, all_tokens value)
-
 -- a value is written in its form
 pub form_text : (name value : List ℕ) → text_in (form_of value) name value ≡ text_of_pair (name, escaped value)
-form_text name value = grind (arith, same_test, plain_text, token_text, token_from_test)
+form_text name [] = refl
+form_text name (b ∷ value) = grind (arith, all_tokens (b ∷ value), plain_text (b ∷ value), token_text (b ∷ value))
 
 -- so one more is written after all
 pub last_written : (name value essence text : List ℕ) (pairs : List (List ℕ × List ℕ)) (form : Form) → text ≡ essence ++ text_of_pairs pairs

@@ -158,14 +158,20 @@ error_is_memory value (NotUtf8 pos) utf8 is why = absurd (why.0 utf8)
 error_is_memory value (Invalid fault) utf8 is why = absurd (no_fault value fault is why.1)
 error_is_memory value field.NoMemory utf8 is why = refl
 
--- and there is none if at most 40 bytes of it are printed.
+-- which isn't needed if at most 40 bytes of it are printed,
+pub short_needs_none : (value : List ℕ) (media : MediaType) → HttpReads value media → IsPrinted value media → length media.kept ≤ 40
+    → ¬ (NeedsMemory value)
+short_needs_none value media reads printed few needs =
+    let same = one_printed_text value media needs.media reads printed needs.is needs.printed in
+    absurd (omega (arith, few, needs.long, ap (λ (it : MediaType). length it.kept) same))
+
+-- so then there is none.
 pub short_has_none : {T : Type 0} (value : List ℕ) (media : MediaType) → IsUtf8 value → HttpReads value media → IsPrinted value media
     → length media.kept ≤ 40 → (result : Result T FieldError) → IfErr result (HttpExplains value) → IsOk result
 short_has_none value media utf8 reads printed few (Ok mime) explained = refl
 short_has_none value media utf8 reads printed few (Err error) why =
-    let needs = (subst (HttpExplains value) (error_is_memory value error utf8 (media, reads) why) why).1 in
-    let same = one_printed_text value media needs.media reads printed needs.is needs.printed in
-    absurd (omega (arith, few, needs.long, ap (λ (it : MediaType). length it.kept) same))
+    let needs = subst (HttpExplains value) (error_is_memory value error utf8 (media, reads) why) why in
+    absurd (short_needs_none value media reads printed few needs.1)
 
 -- Of `*/*` three bytes are printed.
 pub star_has_none : {T : Type 0} (value : List ℕ) → value ≡ codes "*/*" → IsUtf8 value × ((result : Result T FieldError)
