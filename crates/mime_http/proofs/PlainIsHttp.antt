@@ -110,13 +110,20 @@ same_byte before text after pos byte white dead space other = by_option (walk te
     let same = one.2 (InvalidToken (length stop.prefix) stop.byte) (dead-from_stop text stop) ∙ sym (one.2 (InvalidToken pos byte) dead) in
     let there : length stop.prefix ≡ pos = cc same in
     let here : stop.byte ≡ byte = cc same in
-    let stops = side_by_side stop.byte stop.begun (rw (stop.dead, here, space, ne_eqb byte 59 other) refl) ∙ ap (option_map state_of) stop.dead in
+    let stops = side_by_side stop.byte stop.begun (rw (stop.dead, here, space, ne_eqb byte 59 other) refl) in
     let whole : before ++ (text ++ after) ≡ before ++ (stop.prefix ++ (stop.byte ∷ (stop.rest ++ after))) =
-    ap (λ bytes. before ++ (bytes ++ after)) stop.spelled
-    ∙ ap (λ bytes. before ++ bytes) (append_assoc stop.prefix (stop.byte ∷ stop.rest) after) in
-    answered_fault _ _ (ap answer_of whole ∙ over_white before_type keeps_before before white 0 _
-    ∙ over_front stop.prefix (walked.in_type []) stop.begun stop.walked (0 + length before) _
-    ∙ no_way (state_of stop.begun) (0 + length before + length stop.prefix) stop.byte _ stops ∙ ap₂ (λ n b. rejected (InvalidToken n b)) (omega (arith, there)) here))
+    grind (arith, stop.spelled, append_assoc) in
+    answered_fault (before ++ (text ++ after)) (InvalidToken (length before + pos) byte) (grind (
+      arith,
+      whole,
+      over_white before_type keeps_before before white 0,
+      there,
+      here,
+      stops,
+      stop.dead,
+      over_front stop.prefix (walked.in_type []) stop.begun stop.walked,
+      no_way (state_of stop.begun) (0 + length before + pos) stop.byte,
+    )))
     (λ begun goes. absurd (not_viable-at_dead text pos byte dead (viable-from_walk text begun goes)))
 
 -- and so is what is missing at the end.
@@ -124,16 +131,13 @@ pub same_lack : (before text : List ℕ) (fault : ParseError) → AreSpaces befo
     → ((pos byte : ℕ) → fault ≢ InvalidToken pos byte) → Explains text fault → IsHttpFault (before ++ text) fault
 same_lack before text NoMemory white other nor why = absurd (other refl)
 same_lack before text (InvalidToken pos byte) white other nor why = absurd (nor pos byte refl)
-same_lack before text fault white other nor lacks = (completed (completion_of fault) lacks.0, ended_in (last_byte_of fault) lacks.1)
+same_lack before text fault white other nor lacks =
+    (completed (unwrap_or (completion_of fault) []) lacks.0, ended_in (last_byte_of fault) lacks.1)
   where
-    completed : (more : Option (List ℕ)) → MatchOption more ⊥ (λ more. IsAccepted (text ++ more))
-        → MatchOption more ⊥ (λ more. IsHttpMediaType ((before ++ text) ++ more))
-    completed None none = none
-    completed (Some bytes) (media, reads) = (
-      media,
-      white_more media.kept before [] white refl (plain_is_http (text ++ bytes) media reads) (simp (append_assoc, append-nil)),
-    )
+    completed : (bytes : List ℕ) → IsAccepted (text ++ bytes) → IsHttpMediaType ((before ++ text) ++ bytes)
+    completed bytes (media, reads) =
+        (media, white_more _ before [] white refl (plain_is_http (text ++ bytes) media reads) (simp (append_assoc, append-nil)))
 
     ended_in : (byte : Option ℕ) → MatchOption byte ⊤ (EndsIn text) → MatchOption byte ⊤ (EndsIn (before ++ text))
     ended_in None is = is
-    ended_in (Some byte) (front, same) = (before ++ front, ap (λ bytes. before ++ bytes) same ∙ sym (append_assoc before front (byte ∷ [])))
+    ended_in (Some byte) (front, same) = (before ++ front, rw same (simp append_assoc))
