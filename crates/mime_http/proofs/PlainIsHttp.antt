@@ -113,17 +113,11 @@ same_byte before text after pos byte white dead space other = by_option (walk te
     let stops = side_by_side stop.byte stop.begun (rw (stop.dead, here, space, ne_eqb byte 59 other) refl) in
     let whole : before ++ (text ++ after) ≡ before ++ (stop.prefix ++ (stop.byte ∷ (stop.rest ++ after))) =
     grind (arith, stop.spelled, append_assoc) in
-    answered_fault (before ++ (text ++ after)) (InvalidToken (length before + pos) byte) (grind (
-      arith,
-      whole,
-      over_white before_type keeps_before before white 0,
-      there,
-      here,
-      stops,
-      stop.dead,
-      over_front stop.prefix (walked.in_type []) stop.begun stop.walked,
-      no_way (state_of stop.begun) (0 + length before + pos) stop.byte,
-    )))
+    let over = over_front stop.prefix (walked.in_type []) stop.begun stop.walked in
+    let last = no_way (state_of stop.begun) (0 + length before + pos) stop.byte in
+    let answer : answer_of (before ++ (text ++ after)) ≡ rejected (InvalidToken (length before + pos) byte) =
+    grind (arith, stop.dead, over_white before_type keeps_before before white 0, over, last) in
+    answered_fault _ _ answer)
     (λ begun goes. absurd (not_viable-at_dead text pos byte dead (viable-from_walk text begun goes)))
 
 -- and so is what is missing at the end.

@@ -142,16 +142,9 @@ pub over_content : (parts : Parts) (name value : List ℕ) (from close : ℕ) �
 unfolding is_quoted_byte
 over_content parts name value from close closed =
     let content : List ℕ = slice_range value from close in
-    grind (
-      arith,
-      over value from close (in_string parts name []) (in_string parts name content),
-      closed.least,
-      closed.within,
-      on_content closed.content parts name [] refl,
-      over_byte value close (in_string parts name content),
-      closed.quote,
-      content_ends closed.content,
-    )
+    let first = over value from close (in_string parts name []) (in_string parts name content) closed.least (omega (arith, closed.within)) in
+    let last = over_byte value close (in_string parts name content) (before_semicolon (with_parameter parts name content)) closed.within in
+    grind (arith, first, on_content closed.content parts name [] refl, last, closed.quote, content_ends closed.content)
 
 -- and a fault after content is the string's
 pub fault_after : (value : List ℕ) (from at : ℕ) (fault : ParseError) → from ≤ at → at ≤ length value

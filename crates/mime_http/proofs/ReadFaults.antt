@@ -53,27 +53,23 @@ at_end state value is = explained value (answer_at_end state) (answered_at_end s
 
 -- ---- a byte that leads nowhere
 
--- each prefix of a viable value is viable,
-prefix_of_http_viable : (front more : List ℕ) → IsHttpViable (front ++ more) → IsHttpViable front
-prefix_of_http_viable front more viable = (more ++ viable.0, subst IsHttpMediaType (append_assoc front more viable.0) viable.1)
-
--- so bytes that are viable and aren't with the next are the longest prefix
-longest_at : (front : List ℕ) (b : ℕ) (bytes : List ℕ) → IsHttpViable front → ¬ (IsHttpViable (front ++ (b ∷ [])))
-    → IsHttpLongestPrefix (front ++ (b ∷ bytes)) (length front)
-longest_at front b bytes viable dies = record {
-  within = omega (arith, length-append front (b ∷ bytes));
-  viable = subst IsHttpViable (sym (take-append_seam front (b ∷ bytes))) viable;
-  longest = λ n above within more.
-      let k = n - suc (length front) in
-      let is : n ≡ length front + suc k = omega arith in
-      dies (prefix_of_http_viable (front ++ (b ∷ [])) (take k bytes) (subst IsHttpViable (ap (λ n. take n (front ++ (b ∷ bytes))) is
-      ∙ take-append-add front (b ∷ bytes) (suc k) ∙ sym (append_assoc front (b ∷ []) (take k bytes))) more));
+-- is at fault after bytes that are viable, if reading goes on from a state after them, whatever follows
+dead_at : (state : State) (front : List ℕ) (b : ℕ) (bytes : List ℕ) → next state b ≡ None → IsHttpViable front
+    → ((more : List ℕ) → answer_of (front ++ more) ≡ answer_from state (length front) more)
+    → IsHttpFault (front ++ (b ∷ bytes)) (InvalidToken (length front) b)
+dead_at state front b bytes stops viable goes = record {
+  prefix = record {
+    within = omega (arith, length-append front (b ∷ bytes));
+    viable = rw take-append_seam viable;
+    longest = λ n above within viable.
+        let k = n - suc (length front) in
+        let is : n ≡ length front + suc k = omega arith in
+        let text : take n (front ++ (b ∷ bytes)) ++ viable.0 ≡ front ++ (b ∷ (take k bytes ++ viable.0)) =
+        grind (arith, take-append-add front (b ∷ bytes) (suc k), append_assoc) in
+        rejected_is_none _ _ (ap answer_of text ∙ goes _ ∙ no_way state (length front) b _ stops) viable.1;
+  };
+  there = slice_get-prefix front b bytes (length front) refl;
 }
-
--- bytes that lead to a state, of which reading goes on there with whatever follows, and one that leads nowhere aren't viable
-dies_there : (state : State) (front : List ℕ) (b : ℕ) → next state b ≡ None
-    → ((bytes : List ℕ) → answer_of (front ++ bytes) ≡ answer_from state (length front) bytes) → ¬ (IsHttpViable (front ++ (b ∷ [])))
-dies_there state front b stops goes viable = grind (arith, rejected_is_none, append_assoc, no_way)
 
 -- ---- the fault
 
@@ -82,10 +78,7 @@ explained_from : (bytes : List ℕ) (state : State) (at : ℕ) (front : List ℕ
     → ((more : List ℕ) → answer_of (front ++ more) ≡ answer_from state at more) → IsExplained (front ++ bytes) (answer_from state at bytes)
 explained_from [] state at front there is goes = rw (append-nil front) (at_end state front is).1
 explained_from (b ∷ bytes) state at front there is goes = by_option (next state b)
-    (λ stops. rw (stops, there) (record {
-      prefix = longest_at front b bytes (at_end state front is).0 (dies_there state front b stops (rw there at goes));
-      there = slice_get-prefix front b bytes (length front) refl;
-    }))
+    (λ stops. rw (stops, there) (dead_at state front b bytes stops (at_end state front is).0 (rw there at goes)))
     (λ after leads. rw leads (subst (λ x. IsExplained x (answer_from after (at + 1) bytes)) (append_assoc front (b ∷ []) bytes)
     (explained_from bytes after (at + 1) (front ++ (b ∷ [])) (omega (arith, there, length-append front (b ∷ [])))
     (spelled_after state after b front leads is)

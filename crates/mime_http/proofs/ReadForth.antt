@@ -45,14 +45,9 @@ reads_one (with_string name content named is) bytes ends = record {
       let (here, rest) = around content 34 bytes (omega arith) (around [] 34 (content ++ (34 ∷ bytes)) (omega arith) quoted).1 in
       (utf8_pair name content named here, rest);
   reads = λ parts at.
-      simp regroup (grind (
-        arith,
-        name_begins parts name named at (61 ∷ 34 ∷ (content ++ (34 ∷ bytes))),
-        length-append content (34 ∷ []),
-        length-append name (61 ∷ 34 ∷ (content ++ (34 ∷ []))),
-        on_content is parts name [] refl,
-        content_ends is parts name,
-      ));
+      let begins = name_begins parts name named at (61 ∷ 34 ∷ (content ++ (34 ∷ bytes))) in
+      let long = length-append name (61 ∷ 34 ∷ (content ++ (34 ∷ []))) in
+      simp regroup (grind (arith, length-append content (34 ∷ []), on_content is parts name [] refl, content_ends is parts name));
 }
 
 -- ---- parameters and the white space after them
