@@ -22,12 +22,7 @@ three_digits_more : (n : ℕ) (bytes : List ℕ) → fold step n (take 3 (digits
 three_digits_more n [] = omega arith
 three_digits_more n (a ∷ []) = grind (arith, nat_tests)
 three_digits_more n (a ∷ b ∷ []) = grind (arith, nat_tests)
-three_digits_more n (a ∷ b ∷ c ∷ bytes) =
-    rw (
-      take_while-cons is_ascii_digit a (b ∷ c ∷ bytes),
-      take_while-cons is_ascii_digit b (c ∷ bytes),
-      take_while-cons is_ascii_digit c bytes,
-    ) (grind (arith, nat_tests, no_unit bytes))
+three_digits_more n (a ∷ b ∷ c ∷ bytes) = simp take_while-cons (grind (arith, nat_tests, no_unit bytes))
 
 -- digits are worth at most ten of the first one's unit
 worth_most : (unit : ℕ) (bytes : List ℕ) → worth unit bytes ≤ 10 * unit

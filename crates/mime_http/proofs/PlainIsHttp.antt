@@ -35,20 +35,15 @@ Follows b after grown = (is_some grown || not (is_space b || b == 59)) ≡ true 
 in_list : (b : ℕ) (top sub : List ℕ) (closed : ClosedParameters) (position : ListState) → (parts : Parts)
     → parts ≡ record { top = top; sub = sub; pairs = closed_pairs closed }
     → Follows b (next (state_in parts position) b) (option_map (walked.in_list top sub) (grow_state closed position b))
-in_list b top sub closed (walked.in_spaces n) parts is = grind (arith, nat_tests)
-in_list b top sub closed (walked.in_name n name) parts is = grind (arith, nat_tests)
 in_list b top sub closed (walked.in_value n name []) parts is = grind (arith, nat_tests)
-in_list b top sub closed (walked.in_value n name (v ∷ value)) parts is = grind (arith, nat_tests)
-in_list b top sub closed (walked.in_quotes n name content) parts is = grind (arith, nat_tests)
-in_list b top sub closed (walked.after_quotes n name content m) parts is = grind (arith, nat_tests)
+in_list b top sub closed position parts is = grind (arith, nat_tests)
 
 -- and in each state
 side_by_side : (b : ℕ) (begun : Begun) → Follows b (next (state_of begun) b) (grow begun b)
-side_by_side b (walked.in_type []) = grind (arith, nat_tests)
-side_by_side b (walked.in_type (t ∷ top)) = grind (arith, nat_tests)
-side_by_side b (walked.in_subtype top []) = grind (arith, nat_tests)
-side_by_side b (walked.in_subtype top (s ∷ sub)) = grind (arith, nat_tests)
 side_by_side b (walked.in_list top sub list) = in_list b top sub list.closed list.position _ refl
+side_by_side b (walked.in_type []) = grind (arith, nat_tests)
+side_by_side b (walked.in_subtype top []) = grind (arith, nat_tests)
+side_by_side b begun = grind (arith, nat_tests)
 
 -- so over each byte of a text that the library walks
 over_front : (front : List ℕ) (begun last : Begun) → walk_from begun front ≡ Some last → (at : ℕ) (bytes : List ℕ)
@@ -77,9 +72,8 @@ list_ends : (top sub : List ℕ) (closed : ClosedParameters) (position : ListSta
     → tree_of (walked.in_list top sub (list_at closed position)) ≡ Some tree
     → answer_at_end (state_of (walked.in_list top sub (list_at closed position))) ≡ read (parts_of tree)
 list_ends top sub closed (walked.in_spaces n) tree is = grind (arith, pairs_closed closed (blank n), append-nil)
-list_ends top sub closed (walked.in_value n name (v ∷ value)) tree is = grind (arith, pairs_closed)
-list_ends top sub closed (walked.after_quotes n name content m) tree is = grind (arith, pairs_closed)
-list_ends top sub closed position tree is = absurd (none-some tree is)
+list_ends top sub closed (walked.in_value n name []) tree is = absurd (none-some tree is)
+list_ends top sub closed position tree is = grind (arith, pairs_closed)
 
 -- and of any text
 ends : (begun : Begun) (tree : SyntaxTree) → tree_of begun ≡ Some tree → answer_at_end (state_of begun) ≡ read (parts_of tree)

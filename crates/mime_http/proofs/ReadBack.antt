@@ -183,11 +183,9 @@ IsRead value (rejected fault) = ⊤
 
 -- at the end,
 pub read_at_end : (state : State) (value : List ℕ) → Spells state value → IsRead value (answer_at_end state)
-read_at_end (in_subtype top []) value is = tt
 read_at_end (in_subtype top (s ∷ sub)) value is = whole_is_http (essence_read is.0 is.1 is.2)
 read_at_end (before_semicolon parts) value is = whole_is_http is
 read_at_end (after_semicolon parts) value is = whole_is_http (nothing_after is)
-read_at_end (in_value parts name []) value is = tt
 read_at_end (in_value parts name (v ∷ value)) front is =
     whole_is_http (parameter_after name (v ∷ value) (with_token name (v ∷ value) is.0 is.1) is.2)
 read_at_end other value is = tt

@@ -122,17 +122,12 @@ no_quote before name content (b ∷ bytes) at parts all is =
 has_fault : (fault : ParseError) (state : State) (at : ℕ) (parts : Parts)
     → answer_from state at (last_of fault ++ more_of fault) ≡ read parts → answer_from state at (last_of fault) ≡ rejected fault
 unfolding is_token_byte is_quoted_byte
-has_fault MissingSlash before_type at parts is = refl
-has_fault MissingSlash (in_type top) at parts is = refl
-has_fault MissingSubtype (in_type top) at parts is = refl
-has_fault MissingEqual (in_name _ name) at parts is = refl
-has_fault MissingValue (in_name _ name) at parts is = refl
 has_fault MissingQuote (in_string _ name content) at parts is = refl
 has_fault fault (in_string before name content) at parts is =
     absurd (no_quote before name content (last_of fault ++ more_of fault) at parts refl is)
 has_fault fault (in_subtype top []) at parts is = absurd cc
 has_fault fault (in_value _ name []) at parts is = absurd cc
-has_fault fault state at parts is = absurd cc
+has_fault fault state at parts is = grind arith
 
 -- so what is missing is the answer
 completed : (value : List ℕ) (fault : ParseError) (front : List ℕ) → value ≡ front ++ last_of fault
