@@ -1,6 +1,6 @@
 -- What is printed of a header's value: one text, which is read as its one media type, and needs memory only if it is long.
-use Rattle.mime_http.proofs.Common.{AllByRecursion, AreTokenBytes-from_token, IsSafePair, IsToken, IsUtf8, IsUtf8-append, IsUtf8-nil, List, Parts, Reads, [], answer_of, arith, cond_both, is_token_value, length, media_of, quote_of, read, subst, text_of_pair, text_of_pairs, text_of_parts, ℕ, ◌∷◌, ◌≡◌, IsPrinted, MediaType, OneHttpReading, OnePrintedText, PrintedIsRead, anew, ap, as_it_stands, one_reading, sym, trimmed, with_pairs, ◌∙◌, kept_is_read, HttpReads, Err, HttpExplains, IfErr, IsAccepted, IsHttpMediaType, NeedsMemory, Parameters, Ok, Result, SyntaxTree, Tail, append-nil, blank, codes, essence_of, is_token_byte, final, inl, inr, kept_text, length-append, listed, lowered_list, lowered_tail, lowered_tree, more, no_list, pairs_of_tail, plain, quoted, refl, text_of, text_of_list, value_of, ⊎_elim, ◌++◌, ◌+◌, ◌<◌, ◌≤◌, ◌⊎◌, IsOk}
-use Rattle.mime_http.{proofs.Around.put_ascii, proofs.Around.put_one, proofs.Around.put_token, proofs.ReadBack.answered_is_http, proofs.ReadForth.AreFound, proofs.ReadForth.http_is_answered, proofs.Written.length-pairs, proofs.Written.lengths, proofs.Written.parts_are_read, proofs.PlainIsHttp.plain_is_http, proofs.Around.reads_around, proofs.ReadFaults.no_fault, specs.declared.value.FieldError.FieldError, specs.declared.value.FieldError.TheVariants.NotUtf8, specs.declared.value.FieldError.TheVariants.Invalid}
+use Rattle.mime_http.proofs.Common.{AllByRecursion, nil_from_length, AreTokenBytes-from_token, IsSafePair, IsToken, IsUtf8, IsUtf8-append, IsUtf8-nil, List, Parts, Reads, [], answer_of, arith, cond_both, is_token_value, length, media_of, quote_of, read, subst, text_of_pair, text_of_pairs, text_of_parts, ℕ, ◌∷◌, ◌≡◌, IsPrinted, MediaType, OneHttpReading, OnePrintedText, PrintedIsRead, anew, ap, as_it_stands, one_reading, sym, trimmed, with_pairs, ◌∙◌, kept_is_read, HttpReads, Err, HttpExplains, IfErr, IsAccepted, IsHttpMediaType, NeedsMemory, Parameters, Ok, Result, SyntaxTree, Tail, append-nil, blank, codes, essence_of, is_token_byte, final, inl, inr, kept_text, length-append, listed, lowered_list, lowered_tail, lowered_tree, more, no_list, pairs_of_tail, plain, quoted, refl, text_of, text_of_list, value_of, ⊎_elim, ◌++◌, ◌+◌, ◌<◌, ◌≤◌, ◌⊎◌, IsOk}
+use Rattle.mime_http.{proofs.Around.put_ascii, proofs.Around.put_one, proofs.Around.put_token, proofs.ReadBack.answered_is_http, proofs.ReadForth.AreFound, proofs.ReadForth.http_is_answered, proofs.Written.length-pairs, proofs.Written.pairs_within_text, proofs.Written.lengths, proofs.Written.parts_are_read, proofs.PlainIsHttp.plain_is_http, proofs.Around.reads_around, proofs.ReadFaults.no_fault, specs.declared.value.FieldError.FieldError, specs.declared.value.FieldError.TheVariants.NotUtf8, specs.declared.value.FieldError.TheVariants.Invalid}
 use Rattle.mime_http.specs.declared.value.FieldError.TheVariants as field
 
 -- ---- what is written anew
@@ -30,11 +30,10 @@ written_length parts = simp (lengths, length-pairs parts.pairs) (omega arith)
 -- two media types of a value, written anew, are the same
 pub same_anew : (value : List ℕ) (first second : MediaType) → HttpReads value first → HttpReads value second
     → with_pairs first first.pairs ≡ with_pairs second second.pairs
-same_anew value first second one other =
+same_anew value first second one other = 
     let here = http_is_answered value first one in
     let there = http_is_answered value second other in
-    let same : here.0 ≡ there.0 = cc (here.1, there.1) in
-    sym here.2 ∙ ap media_of same ∙ there.2
+    cc (here.1, there.1, here.2, there.2)
 
 -- so a value is one media type,
 pub one_http_reading : OneHttpReading
@@ -65,10 +64,6 @@ printed_is_read value media is printed =
 
 -- ---- what the library keeps
 
--- a text without parameters is kept as its essence,
-kept_without : (text : List ℕ) (media : MediaType) → Reads text media → media.pairs ≡ [] → media.kept ≡ media.essence
-kept_without text media reads = grind (arith)
-
 -- in lowercase a list takes as many bytes,
 length_list : (list : Parameters) → length (text_of_list (lowered_list list)) ≡ length (text_of_list list)
 length_list (blank n) = refl
@@ -87,11 +82,6 @@ kept_with text media reads = grind (arith, lengths, length_list)
 pub stands : (value : List ℕ) (media : MediaType) → Reads (trimmed value) media → HttpReads value media × IsPrinted value media
 stands value media reads = (reads_around value media (plain_is_http (trimmed value) media reads), as_it_stands value media reads)
 
--- pairs that take no bytes are none
-no_pairs : (pairs : List (List ℕ × List ℕ)) → length (text_of_pairs pairs) ≡ 0 → pairs ≡ []
-no_pairs [] none = refl
-no_pairs ((name, value) ∷ pairs) none = absurd (omega (arith, none))
-
 module _ (value : List ℕ) (media : MediaType) (parts : Parts) (reads : Reads (trimmed value) media) (answered : answer_of value ≡ read parts) where
   -- and is written anew as the same, but for the kept text,
   anew_is : media_of parts ≡ with_pairs media media.pairs
@@ -106,48 +96,44 @@ module _ (value : List ℕ) (media : MediaType) (parts : Parts) (reads : Reads (
   -- If that is the essence alone, it is the same,
   essence_alone : length (text_of_parts parts) ≤ length media.essence → media_of parts ≡ media
   essence_alone all =
-      let none = no_pairs media.pairs (omega (arith, all, length-anew)) in
-      let kept = kept_without (trimmed value) media reads none in
-      anew_is ∙ grind (arith, none, kept, append-nil media.essence)
+      let none = nil_from_length media.pairs (omega (arith, all, length-anew, pairs_within_text media.pairs)) in
+      anew_is ∙ grind (arith, none, reads.valued, append-nil media.essence)
 
   -- and if it is more, or is long, a long value is printed with many bytes.
   many_kept : 40 < length (trimmed value) → (40 < length (text_of_parts parts)) ⊎ (length media.essence < length (text_of_parts parts))
       → 40 < length media.kept
-  many_kept long either = grind (arith, kept_without (trimmed value) media, length-anew, kept_with (trimmed value) media)
+  many_kept long either = grind (arith, length-anew, kept_with (trimmed value) media, reads.valued)
 
 -- ---- what is read of it
 
--- that is printed of a value that the library rejects without the white space around it
-pub printed_anew : {value bytes : List ℕ} {media : MediaType} (parts : Parts) → bytes ≡ value → answer_of bytes ≡ read parts
-    → ¬ (IsAccepted (trimmed value)) → media ≡ media_of parts → HttpReads value media × IsPrinted value media
-printed_anew {value} {media = media} parts same answered isnt is =
-    let reads = answered_is_http value parts (ap answer_of (sym same) ∙ answered) in
-    subst (λ m. HttpReads value m × IsPrinted value m) (sym is) (reads, anew value (media_of parts) isnt refl)
+module _ {value bytes : List ℕ} (parts : Parts) (same : bytes ≡ value) (answered : answer_of bytes ≡ read parts) where
+  -- the value is answered as its bytes
+  here : answer_of value ≡ read parts
+  here = ap answer_of (sym same) ∙ answered
 
-pub anew_needs : {value bytes : List ℕ} (parts : Parts) → bytes ≡ value → answer_of bytes ≡ read parts → ¬ (IsAccepted (trimmed value))
-    → 40 < length (text_of_parts parts) → NeedsMemory value
-anew_needs {value} {bytes} parts same answered isnt long =
-    let it = printed_anew {value = value} {media = media_of parts} parts same answered isnt refl in
-    record { media = media_of parts; is = it.0; printed = it.1; long = omega (arith, long, written_length parts) }
+  -- that is printed of a value that the library rejects without the white space around it
+  pub printed_anew : {media : MediaType} → ¬ (IsAccepted (trimmed value)) → media ≡ media_of parts
+      → HttpReads value media × IsPrinted value media
+  printed_anew isnt is = rw is (answered_is_http value parts here, anew value (media_of parts) isnt refl)
 
--- and of one that it accepts what it keeps
-pub stands_needs : {value bytes : List ℕ} (parts : Parts) → bytes ≡ value → answer_of bytes ≡ read parts
-    → (accepted : IsAccepted (trimmed value)) → 40 < length (trimmed value)
-    → (40 < length (text_of_parts parts)) ⊎ (length (media_of parts).essence < length (text_of_parts parts)) → NeedsMemory value
-stands_needs {value} parts same answered (media, reads) long either =
-    let here = ap answer_of (sym same) ∙ answered in
-    let (is, printed) = stands value media reads in
-    let long : 40 < length media.kept = grind (arith, anew_is value media parts reads here, many_kept value media parts reads here) in
-    record { media = media; is = is; printed = printed; long = long }
+  pub anew_needs : ¬ (IsAccepted (trimmed value)) → 40 < length (text_of_parts parts) → NeedsMemory value
+  anew_needs isnt long =
+      let (is, printed) = printed_anew {media = media_of parts} isnt refl in
+      record { media = media_of parts; is = is; printed = printed; long = omega (arith, long, written_length parts) }
 
-pub stands_printed : {value bytes : List ℕ} {media : MediaType} (parts : Parts) → bytes ≡ value → answer_of bytes ≡ read parts
-    → IsAccepted (trimmed value) → media ≡ media_of parts → length (text_of_parts parts) ≤ length media.essence
-    → HttpReads value media × IsPrinted value media
-stands_printed {value} {media = media} parts same answered (found, reads) is few =
-    let here = ap answer_of (sym same) ∙ answered in
-    let essence = ap (λ (it : MediaType). length it.essence) (is ∙ anew_is value found parts reads here) in
-    let all = essence_alone value found parts reads here (omega (arith, few, essence)) in
-    subst (λ m. HttpReads value m × IsPrinted value m) (sym (is ∙ all)) (stands value found reads)
+  -- and of one that it accepts what it keeps
+  pub stands_needs : IsAccepted (trimmed value) → 40 < length (trimmed value)
+      → (40 < length (text_of_parts parts)) ⊎ (length (media_of parts).essence < length (text_of_parts parts)) → NeedsMemory value
+  stands_needs (media, reads) long either =
+      let (is, printed) = stands value media reads in
+      let long : 40 < length media.kept = grind (arith, anew_is value media parts reads here, many_kept value media parts reads here) in
+      record { media = media; is = is; printed = printed; long = long }
+
+  pub stands_printed : {media : MediaType} → IsAccepted (trimmed value) → media ≡ media_of parts
+      → length (text_of_parts parts) ≤ length media.essence → HttpReads value media × IsPrinted value media
+  stands_printed {media} (found, reads) is few =
+      let essence = ap (λ (it : MediaType). length it.essence) (is ∙ anew_is value found parts reads here) in
+      rw (is, essence_alone value found parts reads here (omega (arith, few, essence))) (stands value found reads)
 
 -- ---- errors
 
