@@ -30,7 +30,7 @@ written_length parts = simp (lengths, length-pairs parts.pairs) (omega arith)
 -- two media types of a value, written anew, are the same
 pub same_anew : (value : List ℕ) (first second : MediaType) → HttpReads value first → HttpReads value second
     → with_pairs first first.pairs ≡ with_pairs second second.pairs
-same_anew value first second one other = 
+same_anew value first second one other =
     let here = http_is_answered value first one in
     let there = http_is_answered value second other in
     cc (here.1, there.1, here.2, there.2)
