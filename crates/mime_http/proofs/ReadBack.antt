@@ -100,52 +100,45 @@ module _ (b : ℕ) (front : List ℕ) where
   abbrev Fits : Option State → Type 0
   Fits after = MatchOption after ⊤ (λ next. Spells next (front ++ (b ∷ [])))
 
-  either : (test : Bool) (one other : Option State) → (test ≡ true → Fits one) → (test ≡ false → Fits other)
-      → Fits (if test then one else other)
-  either test one other = cond_both test one other Fits
-
   -- after a media type,
-  semicolon_after : {parts : Parts} → (b == 59) ≡ true → Whole parts front → Opened parts (front ++ (b ∷ []))
-  semicolon_after {parts} same is = rw (eqb-true b 59 same) (opened front [] is refl)
-
   after_whole : {parts : Parts} → Whole parts front → Fits (next_after parts b)
   after_whole is =
-      either (is_space b) _ _ (λ space. space_after b space is)
-      (λ other. either (b == 59) _ _ (λ same. semicolon_after same is) (λ no. tt))
+      cond_both (is_space b) _ _ Fits (λ space. space_after b space is)
+      (λ other. cond_both (b == 59) _ _ Fits (λ same. rw (eqb-true b 59 same) (opened front [] is refl)) (λ no. tt))
 
   -- and so in each state
   after_state : (state : State) → Spells state front → Fits (next state b)
   after_state before_type is =
-      either (is_token_byte b) _ _ (λ token. (token_more [] b refl token, behind front is))
-      (λ other. either (is_space b) _ _ (λ space. one_more is_space front b is space) (λ no. tt))
+      cond_both (is_token_byte b) _ _ Fits (λ token. (token_more [] b refl token, behind front is))
+      (λ other. cond_both (is_space b) _ _ Fits (λ space. one_more is_space front b is space) (λ no. tt))
   after_state (in_type top) is =
-      either (is_token_byte b) _ _ (λ token. (token_more top b (AreTokenBytes-from_token top is.0) token, more b refl is.1))
-      (λ other. either (b == 47) _ _
+      cond_both (is_token_byte b) _ _ Fits (λ token. (token_more top b (AreTokenBytes-from_token top is.0) token, more b refl is.1))
+      (λ other. cond_both (b == 47) _ _ Fits
       (λ same. (is.0, refl, more b (ap (λ x. top ++ (x ∷ [])) (eqb-true b 47 same)) is.1)) (λ no. tt))
   after_state (in_subtype top []) is =
-      either (is_token_byte b) _ _ (λ token. (is.0, token_more [] b refl token, more b (simp append_assoc) is.2)) (λ no. tt)
+      cond_both (is_token_byte b) _ _ Fits (λ token. (is.0, token_more [] b refl token, more b (simp append_assoc) is.2)) (λ no. tt)
   after_state (in_subtype top (s ∷ sub)) is =
-      either (is_token_byte b) _ _ (λ token. (is.0, token_more (s ∷ sub) b is.1 token, more b (simp append_assoc) is.2))
+      cond_both (is_token_byte b) _ _ Fits (λ token. (is.0, token_more (s ∷ sub) b is.1 token, more b (simp append_assoc) is.2))
       (λ other. after_whole (essence_read is.0 is.1 is.2))
   after_state (before_semicolon parts) is = after_whole is
   after_state (after_semicolon parts) is =
-      either (is_space b) _ _ (λ space. space_inside b space is)
-      (λ other. either (is_token_byte b) _ _ (λ token. (token_more [] b refl token, behind front is))
-      (λ other. either (b == 59) _ _ (λ same. semicolon_after same (nothing_after is)) (λ no. tt)))
+      cond_both (is_space b) _ _ Fits (λ space. space_inside b space is)
+      (λ other. cond_both (is_token_byte b) _ _ Fits (λ token. (token_more [] b refl token, behind front is))
+      (λ other. cond_both (b == 59) _ _ Fits (λ same. rw (eqb-true b 59 same) (opened front [] (nothing_after is) refl)) (λ no. tt)))
   after_state (in_name parts name) is =
-      either (is_token_byte b) _ _ (λ token. (token_more name b (AreTokenBytes-from_token name is.0) token, more b refl is.1))
-      (λ other. either (b == 61) _ _
+      cond_both (is_token_byte b) _ _ Fits (λ token. (token_more name b (AreTokenBytes-from_token name is.0) token, more b refl is.1))
+      (λ other. cond_both (b == 61) _ _ Fits
       (λ same. (is.0, refl, more b (ap (λ x. name ++ (x ∷ [])) (eqb-true b 61 same)) is.1)) (λ no. tt))
   after_state (in_value parts name []) is =
-      either (is_token_byte b) _ _ (λ token. (is.0, token_more [] b refl token, more b (simp append_assoc) is.2))
-      (λ other. either (b == 34) _ _
+      cond_both (is_token_byte b) _ _ Fits (λ token. (is.0, token_more [] b refl token, more b (simp append_assoc) is.2))
+      (λ other. cond_both (b == 34) _ _ Fits
       (λ same. (is.0, refl, more b (rw (eqb-true b 34 same) (append_assoc name (61 ∷ []) (34 ∷ []))) is.2)) (λ no. tt))
   after_state (in_value parts name (v ∷ value)) is =
-      either (is_token_byte b) _ _ (λ token. (is.0, token_more (v ∷ value) b is.1 token, more b (simp append_assoc) is.2))
+      cond_both (is_token_byte b) _ _ Fits (λ token. (is.0, token_more (v ∷ value) b is.1 token, more b (simp append_assoc) is.2))
       (λ other. after_whole (parameter_after name (v ∷ value) (with_token name (v ∷ value) is.0 is.1) is.2))
   after_state (in_string parts name content) is =
-      either (continues content b) _ _ (λ taken. (is.0, IsOpenContent-push content b is.1 taken, more b (simp append_assoc) is.2))
-      (λ stopped. either (b == 34) _ _
+      cond_both (continues content b) _ _ Fits (λ taken. (is.0, IsOpenContent-push content b is.1 taken, more b (simp append_assoc) is.2))
+      (λ stopped. cond_both (b == 34) _ _ Fits
       (λ same. parameter_after name content (with_string name content is.0 (IsContent-closed content b is.1 stopped same))
       (more b (rw (eqb-true b 34 same) (simp append_assoc)) is.2)) (λ no. tt))
 

@@ -18,38 +18,29 @@ letter_closes : (parts : Parts) (name content : List ℕ) (at : ℕ)
 unfolding is_quoted_byte
 letter_closes parts name content at = grind (arith, takes_all-any (awaits_after false content) (120 ∷ []) refl, closed-letter content)
 
--- the value is the media type that is the answer, or lacks what it says
-abbrev IsAnswered : List ℕ → Answer → Type 0
-IsAnswered value (read parts) = HttpReads value (media_of parts)
-IsAnswered value (rejected fault) = HttpLacks value fault
-
--- so it is at the end
-answered_at_end : (state : State) (value : List ℕ) → Spells state value → IsAnswered value (answer_at_end state)
-unfolding is_token_byte is_quoted_byte
-answered_at_end before_type value is = ((_, read_from (codes "x/x") before_type 0 value is), tt)
-answered_at_end (in_type top) value is = ((_, read_from (codes "x/x") (in_type top) 0 value is), tt)
-answered_at_end (in_subtype top []) value is = ((_, read_from (codes "x") (in_subtype top []) 0 value is), ends_in top value 47 is.2)
-answered_at_end (in_name parts name) value is = ((_, read_from (codes "=x") (in_name parts name) 0 value is), tt)
-answered_at_end (in_value parts name []) value is =
-    ((_, read_from (codes "x") (in_value parts name []) 0 value is), ends_in name value 61 is.2)
-answered_at_end (in_string parts name content) value is =
-    let read = read_from (codes "x\"") (in_string parts name content) 0 value is in ((_, rw (letter_closes parts name content 0) at read), tt)
-answered_at_end state value is = read_at_end state value is
-
 -- the fault that is an answer is the value's
 abbrev IsExplained : List ℕ → Answer → Type 0
 IsExplained value (read parts) = ⊤
 IsExplained value (rejected fault) = IsHttpFault value fault
 
--- so it is if the value lacks what it says, and then the value is viable
-explained : (value : List ℕ) (answer : Answer) → IsAnswered value answer → IsHttpViable value × IsExplained value answer
-explained value (read parts) reads = (([], rw (append-nil value) (media_of parts, reads)), tt)
-explained value (rejected (InvalidToken pos byte)) lacks = absurd lacks.0
-explained value (rejected NoMemory) lacks = absurd lacks.0
-explained value (rejected fault) lacks = ((_, lacks.0), lacks)
+-- a value that is read with more bytes after it lacks them, and is viable
+lacking : (value more : List ℕ) (state : State) {parts : Parts} {Last : Type 0} → Spells state value
+    → answer_from state 0 more ≡ read parts → Last → IsHttpViable value × (IsHttpMediaType (value ++ more) × Last)
+lacking value more state {parts} is reads last =
+    let http : IsHttpMediaType (value ++ more) = (media_of parts, subst (IsRead (value ++ more)) reads (read_from more state 0 value is)) in
+    ((more, http), (http, last))
 
+-- so it is at the end, where the fault is its own
 at_end : (state : State) (value : List ℕ) → Spells state value → IsHttpViable value × IsExplained value (answer_at_end state)
-at_end state value is = explained value (answer_at_end state) (answered_at_end state value is)
+unfolding is_token_byte is_quoted_byte
+at_end before_type value is = lacking value (codes "x/x") before_type is refl tt
+at_end (in_type top) value is = lacking value (codes "x/x") (in_type top) is refl tt
+at_end (in_subtype top []) value is = lacking value (codes "x") (in_subtype top []) is refl (ends_in top value 47 is.2)
+at_end (in_name parts name) value is = lacking value (codes "=x") (in_name parts name) is refl tt
+at_end (in_value parts name []) value is = lacking value (codes "x") (in_value parts name []) is refl (ends_in name value 61 is.2)
+at_end (in_string parts name content) value is =
+    lacking value (codes "x\"") (in_string parts name content) is (letter_closes parts name content 0) tt
+at_end state value is = (([], rw (append-nil value) (_, read_at_end state value is)), tt)
 
 -- ---- a byte that leads nowhere
 
@@ -144,7 +135,7 @@ prefix_unique value m n first second = grind (arith, first.longest n, second.lon
 -- a fault of a value is the answer,
 pub fault_answered : (value : List ℕ) (fault : ParseError) → IsHttpFault value fault → answer_of value ≡ rejected fault
 fault_answered value (InvalidToken pos byte) dead = by_answer (answer_of value)
-    (λ parts e. absurd (not_viable (explained value (read parts) (answered_is_http value parts e)).0))
+    (λ parts e. absurd (not_viable ([], rw (append-nil value) (media_of parts, answered_is_http value parts e))))
     (λ fault e. e ∙ found fault (answered_fault value fault e))
   where
     not_viable : ¬ (IsHttpViable value)
@@ -154,7 +145,8 @@ fault_answered value (InvalidToken pos byte) dead = by_answer (answer_of value)
     found : (fault : ParseError) → IsHttpFault value fault → rejected fault ≡ rejected (InvalidToken pos byte)
     found (InvalidToken place other) is =
         let same : place ≡ pos = prefix_unique value place pos is.prefix dead.prefix in cc (same, is.there, dead.there)
-    found fault lacks = absurd (not_viable (explained value (rejected fault) lacks).0)
+    found NoMemory lacks = absurd lacks.0
+    found fault lacks = absurd (not_viable (_, lacks.0))
 fault_answered value NoMemory lacks = absurd lacks.0
 fault_answered value MissingSubtype (is, (front, same)) = completed value MissingSubtype front same is
 fault_answered value MissingValue (is, (front, same)) = completed value MissingValue front same is
