@@ -41,7 +41,8 @@ pub around : (run : List ℕ) (b : ℕ) (bytes : List ℕ) → b < 128 → IsUtf
 around run b bytes ascii is =
     let whole : List ℕ = run ++ (b ∷ bytes) in
     let within : length run < length whole = omega (arith, length-append run (b ∷ bytes)) in
-    let below : get_or whole (length run) 0 < 128 = grind (arith, get_or_from_slice_get whole (length run) b 0, slice_get-prefix run b bytes) in (
+    let below : get_or whole (length run) 0 < 128 =
+    grind (arith, get_or_from_slice_get whole (length run) b 0, slice_get-prefix run b bytes) in (
       rw take-append_seam at (IsUtf8-take whole (length run) is (IsCharBoundary-before_ascii whole (length run) within below)),
       rw drop-append-add at (IsUtf8-drop whole (length run + 1) is (IsCharBoundary-after_ascii whole (length run) is within below)),
     )

@@ -130,7 +130,7 @@ contents = (refl, differ _ _ refl, refl, differ _ _ refl)
 
 -- ---- parameters
 
--- `utf-8` is a token; `a b` and nothing aren't. A token is written as it is, and any other value in quotes, with the backslashes that it has
+-- `utf-8` is a token; `a b` and nothing aren't. A token is written as it is, and any other value in quotes, with its backslashes
 written : (is_token_value (codes "utf-8") ≡ true) × (is_token_value (codes "a b") ≡ false) × (is_token_value [] ≡ false)
     × (text_of_pair (codes "charset", codes "utf-8") ≡ codes "; charset=utf-8")
     × (text_of_pair (codes "charset", codes "utf-8") ≢ codes "; charset=\"utf-8\"")

@@ -82,7 +82,8 @@ kept_with text media reads = grind (arith, lengths, length_list)
 pub stands : (value : List ℕ) (media : MediaType) → Reads (trimmed value) media → HttpReads value media × IsPrinted value media
 stands value media reads = (reads_around value media (plain_is_http (trimmed value) media reads), as_it_stands value media reads)
 
-module _ (value : List ℕ) (media : MediaType) (parts : Parts) (reads : Reads (trimmed value) media) (answered : answer_of value ≡ read parts) where
+module _ (value : List ℕ) (media : MediaType) (parts : Parts) (reads : Reads (trimmed value) media)
+    (answered : answer_of value ≡ read parts) where
   -- and is written anew as the same, but for the kept text,
   anew_is : media_of parts ≡ with_pairs media media.pairs
   anew_is =

@@ -56,7 +56,8 @@ wider_run narrow class wider (b ∷ bytes) = grind (arith, one-add (prefix_len n
 -- so its end stays the same
 pub run_goes_on : (narrow class : ℕ → Bool) → ((b : ℕ) → narrow b ≡ true → class b ≡ true) → (value : List ℕ) (from to : ℕ)
     → to ≡ run_end narrow value from → run_end class value to ≡ run_end class value from
-run_goes_on narrow class wider value from to is = grind (arith, drop-drop (prefix_len narrow (drop from value)) from value, wider_run narrow class wider (drop from value))
+run_goes_on narrow class wider value from to is =
+    grind (arith, drop-drop (prefix_len narrow (drop from value)) from value, wider_run narrow class wider (drop from value))
 
 -- the bytes that a search passes may stand in a token,
 pub are_token_bytes : (b : ℕ) → not (is_stop TOKEN_STOPS b) ≡ true → is_token_byte b ≡ true
@@ -142,7 +143,8 @@ pub over_content : (parts : Parts) (name value : List ℕ) (from close : ℕ) �
 unfolding is_quoted_byte
 over_content parts name value from close closed =
     let content : List ℕ = slice_range value from close in
-    let first = over value from close (in_string parts name []) (in_string parts name content) closed.least (omega (arith, closed.within)) in
+    let within : close ≤ length value = omega (arith, closed.within) in
+    let first = over value from close (in_string parts name []) (in_string parts name content) closed.least within in
     let last = over_byte value close (in_string parts name content) (before_semicolon (with_parameter parts name content)) closed.within in
     grind (arith, first, on_content closed.content parts name [] refl, last, closed.quote, content_ends closed.content)
 
@@ -185,7 +187,9 @@ no_token_with (c ∷ before) b bytes isnt = grind (arith, list_all-append is_tok
 -- so bytes after a run, or no bytes, are no token's value
 pub no_token_value : (value : List ℕ) (from plain to : ℕ) → IsRun is_token_byte value from plain → plain ≤ to → to < length value
     → (from < plain → plain ≢ to) → is_token_value (slice_range value from to) ≡ false
-no_token_value value from plain to run most within other = grind (arith, parts_joined value from plain to, parts_joined value plain (plain + 1) to, one_part value plain, run.least, run.stops, no_token_with, no_part, cases_lt plain to, cases_lt from plain)
+no_token_value value from plain to run most within other =
+    let after = parts_joined value plain (plain + 1) to in
+    grind (arith, parts_joined value from plain to, after, one_part value plain, run.stops, no_token_with, no_part, cases_lt)
 
 -- reading goes on over a subtype,
 pub over_subtype : (value top : List ℕ) (from to : ℕ) → from < to → to ≤ length value → IsRun is_token_byte value from to

@@ -7,7 +7,8 @@ use Rattle.mime_http.proofs.{Around.around, Around.past_ascii, Around.put_ascii,
 -- what is written of a pair is in UTF-8 if its value is
 utf8_pair : (name value : List ℕ) → IsToken name → IsUtf8 value → IsUtf8 (text_of_pair (name, value))
 utf8_pair name value named utf8 =
-    let quote = cond_both (is_token_value value) [] (34 ∷ []) IsUtf8 (λ token. IsUtf8-nil) (λ other. put_one 34 [] (omega arith) IsUtf8-nil) in
+    let quoted = put_one 34 [] (omega arith) IsUtf8-nil in
+    let quote = cond_both (is_token_value value) [] (34 ∷ []) IsUtf8 (λ token. IsUtf8-nil) (λ other. quoted) in
     put_ascii (59 ∷ 32 ∷ []) _ (omega arith)
     (put_token name _ named (put_one 61 _ (omega arith) (IsUtf8-append _ _ quote (IsUtf8-append value _ utf8 quote))))
 
@@ -86,7 +87,9 @@ module _ (before after bytes : List ℕ) (first : AreSpaces before) (second : Ar
   after_white : {parts : Parts} {state : State} → IsBetween parts state → (at : ℕ)
       → answer_from state at (before ++ (59 ∷ (after ++ bytes)))
       ≡ answer_from (after_semicolon parts) (at + length before + 1 + length after) bytes
-  after_white {parts} {state} between at = grind (arith, over_white state between.white before first at, between.semicolon, over_white (after_semicolon parts) (keeps_inside parts) after second)
+  after_white {parts} {state} between at =
+      let past = over_white (after_semicolon parts) (keeps_inside parts) after second in
+      grind (arith, over_white state between.white before first at, between.semicolon, past)
 
   -- bytes are in UTF-8 if all are
   utf8_past : IsUtf8 (before ++ (59 ∷ (after ++ bytes))) → IsUtf8 bytes

@@ -80,7 +80,8 @@ type_begins (b ∷ token) is at bytes = grind (arith, goes_on is_token_byte in_t
 pub name_begins : (parts : Parts) (token : List ℕ) → IsToken token → (at : ℕ) (bytes : List ℕ)
     → answer_from (after_semicolon parts) at (token ++ bytes) ≡ answer_from (in_name parts token) (at + length token) bytes
 name_begins parts [] is at bytes = absurd is
-name_begins parts (b ∷ token) is at bytes = grind (arith, space_is_no_token b, goes_on is_token_byte (in_name parts) (λ done b is. rw is refl) token)
+name_begins parts (b ∷ token) is at bytes =
+    grind (arith, space_is_no_token b, goes_on is_token_byte (in_name parts) (λ done b is. rw is refl) token)
 
 -- ---- the end of a token
 

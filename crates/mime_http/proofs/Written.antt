@@ -48,8 +48,8 @@ well_formed_list (name, value) [] (is, all) = grind (arith, token_from_test)
 well_formed_list (name, value) (next ∷ pairs) (is, all) = grind (arith, token_from_test, well_formed_list next pairs)
 
 -- are what is written of the pairs, and read as them,
-written_list : (pair : List ℕ × List ℕ) (pairs : List (List ℕ × List ℕ)) → (59 ∷ text_of_list (list_of pair pairs) ≡ text_of_pairs (pair ∷ pairs))
-    × (pairs_of_list (list_of pair pairs) ≡ pair ∷ pairs)
+written_list : (pair : List ℕ × List ℕ) (pairs : List (List ℕ × List ℕ))
+    → (59 ∷ text_of_list (list_of pair pairs) ≡ text_of_pairs (pair ∷ pairs)) × (pairs_of_list (list_of pair pairs) ≡ pair ∷ pairs)
 written_list (name, value) [] = grind (arith, append-nil)
 written_list (name, value) (next ∷ pairs) = grind (arith, written_list next pairs, append-nil, append_assoc)
 

@@ -40,8 +40,8 @@ returns-else-byte-eq59 c =
     let it = around value c.trim_start.result.now c.trim_start.ensures in
     let dead = subst (Explains (trimmed value)) c.in-InvalidToken.is c.requires in
     let begin : length it.before ≡ length value - length c.trim_start.result.now = omega (arith, it.begin) in
-    let fault = same_byte it.before (trimmed value) it.after _ _ it.white dead (sym c.is_space.ensures ∙ c.if-is_space.false) c.if-byte-eq59.false in
-    rw (← it.whole, begin) at fault
+    let space = sym c.is_space.ensures ∙ c.if-is_space.false in
+    rw (← it.whole, begin) at (same_byte it.before (trimmed value) it.after _ _ it.white dead space c.if-byte-eq59.false)
 
 pub returns-else-trim_end-text : goal.returns-else-trim_end-text
 returns-else-trim_end-text c =
