@@ -1,5 +1,5 @@
 -- The pieces written one by one are the whole text.
-use Rattle.mime_http.proofs.Common.{FoldsTo, List, [], ap, append-nil, arith, append_assoc, concat, sym, ℕ, ◌++◌, ◌∙◌, ◌∷◌, ◌≡◌}
+use Rattle.mime_http.proofs.Common.{FoldsTo, List, [], append-nil, arith, append_assoc, concat, ℕ, ◌++◌, ◌∷◌, ◌≡◌}
 use Rattle.std.specs.{Fmt.WritesInCalls, Fmt.InlineText.inline_text, Fmt.InlineText.IsIntact, Fmt.InlineText.AppendsIfIntact, declared.fmt.InlineText.InlineText}
 use Rattle.mime_http.specs.HttpPrinted.{not_utf8_text as printed}
 use Rattle.mime_http.proofs.value.not_utf8_text.Goals as goal

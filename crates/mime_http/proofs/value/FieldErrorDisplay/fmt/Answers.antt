@@ -1,5 +1,5 @@
 -- The text of the fault follows what is written first.
-use Rattle.mime_http.proofs.Common.{FoldsTo, arith, List, [], ap, codes, concat, concat-append, field_error_text, refl, subst, sym, ℕ, ◌++◌, ◌∙◌, ◌∷◌}
+use Rattle.mime_http.proofs.Common.{FoldsTo, arith, List, [], concat-append, refl, subst, sym, ℕ, ◌++◌, ◌∙◌, ◌∷◌}
 use Rattle.mime_http.proofs.value.FieldErrorDisplay.fmt.Goals as goal
 
 -- two runs of writes in a row are one
