@@ -1,6 +1,6 @@
 -- Worked facts of the pages `HttpMediaType`, `HttpFaults` and `HttpList`, and of `Unescaped`, `Written` and `Boundary`: values that are
 -- media types, values that aren't, their faults, and what is printed of a value.
-use Rattle.mime_http.proofs.Common.{IsUtf8-nil, HttpExplains, HttpReads, InvalidToken, IsBoundary, IsBoundaryOf, IsContent-taken, IsHttpFault, IsHttpMediaType, IsPrinted, List, MediaType, MissingQuote, MissingSubtype, MissingValue, NeedsMemory, None, Parts, [], anew, ap, arith, as_it_stands, bytes_eq, bytes_eq-Decides, codes, escaped, false, final, is_quoted_byte, is_token_byte, is_token_value, length, listed, media_of, others, quoted, refl, same_Some, stopped-from_walk, sym, text_of_pair, text_of_pairs, trimmed, true, true≢false, unescaped, with_pair, with_pairs, ℕ, ◌++◌, ◌∙◌, ◌∷◌, ◌≡◌, ◌≢◌}
+use Rattle.mime_http.proofs.Common.{Parameter, SyntaxTree, IsUtf8-nil, HttpExplains, HttpReads, InvalidToken, IsBoundary, IsBoundaryOf, IsContent-taken, IsHttpFault, IsHttpMediaType, IsPrinted, List, MediaType, MissingQuote, MissingSubtype, MissingValue, NeedsMemory, None, Parts, [], anew, ap, arith, as_it_stands, bytes_eq, bytes_eq-Decides, codes, escaped, false, final, is_quoted_byte, is_token_byte, is_token_value, length, listed, media_of, others, quoted, refl, same_Some, stopped-from_walk, sym, text_of_pair, text_of_pairs, trimmed, true, true≢false, unescaped, with_pair, with_pairs, ℕ, ◌++◌, ◌∙◌, ◌∷◌, ◌≡◌, ◌≢◌}
 use Rattle.mime_http.specs.declared.value.FieldError.TheVariants.{Invalid, NoMemory as OutOfMemory}
 use Rattle.mime_http.proofs.{Around.white_more, Around.put_ascii, HttpLaws.one_printed_text, HttpLaws.short_needs_none, ReadBack.answered_is_http, ReadFaults.answered_fault, ReadFaults.fault_answered, ReadFaults.rejected_is_none as none}
 
@@ -16,10 +16,17 @@ html_type kept = record { essence = codes "text/html"; slash = 4; plus = None; p
 parts : Parts
 parts = record { top = codes "text"; sub = codes "HTML"; pairs = (codes "charset", codes "UTF-8") ∷ [] }
 
--- it is read so, whatever is kept
-read : (kept : List ℕ) → HttpReads value (html_type kept)
+-- the same without a space before the semicolon, which the library accepts without the white space around it
+abbrev plain_value : List ℕ
+plain_value = codes "\ttext/HTML;charset=\"UTF-8\" "
+
+-- both are read so, whatever is kept
+read : (kept : List ℕ) → HttpReads value (html_type kept) × HttpReads plain_value (html_type kept)
 unfolding parts is_token_byte is_quoted_byte
-read kept = white_more (media_of parts).kept [] [] refl refl (answered_is_http value parts refl) refl
+read kept = (
+  white_more _ [] [] refl refl (answered_is_http value parts refl) refl,
+  white_more _ [] [] refl refl (answered_is_http plain_value parts refl) refl,
+)
 
 -- no white space stands at the slash, nor before an equals sign or after it; no parameter is without a semicolon before it, or a value; and
 -- each quoted string is closed
@@ -59,32 +66,23 @@ printed_anew : IsPrinted value (html_type (codes "text/html; charset=utf-8"))
 unfolding is_token_byte is_quoted_byte
 printed_anew = anew value _ (stopped-from_walk (trimmed value) refl) refl
 
--- and one that it accepts without the white space around it
-abbrev plain_value : List ℕ
-plain_value = codes "\ttext/HTML;charset=\"UTF-8\" "
-
-plain_read : (kept : List ℕ) → HttpReads plain_value (html_type kept)
-unfolding parts is_token_byte is_quoted_byte
-plain_read kept = white_more (media_of parts).kept [] [] refl refl (answered_is_http plain_value parts refl) refl
-
--- as it stands,
+-- and one that it accepts as it stands,
 printed_as_it_stands : IsPrinted plain_value (html_type (codes "text/html;charset=\"utf-8\""))
 unfolding is_token_byte is_quoted_byte
-printed_as_it_stands = as_it_stands plain_value _ (record {
-  tree = record { top = codes "text"; sub = codes "HTML"; tail = listed (final [] (quoted (codes "charset") (codes "UTF-8") [])) };
-  well_formed = (refl, refl, (refl, (refl, IsContent-taken (codes "UTF-8") refl refl, refl)));
-  spelled = refl;
-  valued = refl;
-})
+printed_as_it_stands =
+    let pair : Parameter = quoted (codes "charset") (codes "UTF-8") [] in
+    let tree : SyntaxTree = record { top = codes "text"; sub = codes "HTML"; tail = listed (final [] pair) } in
+    let content = IsContent-taken (codes "UTF-8") refl refl in
+    as_it_stands plain_value _ (record { tree = tree; well_formed = (refl, refl, (refl, (refl, content, refl))); spelled = refl; valued = refl })
 
 -- of the first nothing with quotes is printed, since a token needs none; of the second nothing anew, and no white space
 not_printed : ¬ (IsPrinted value (html_type (codes "text/html; charset=\"utf-8\"")))
     × ¬ (IsPrinted plain_value (html_type (codes "text/html; charset=utf-8")))
     × ¬ (IsPrinted plain_value (html_type (codes "text/html;charset=\"utf-8\" ")))
 not_printed = (
-  no_other_text _ read printed_anew (λ same. absurd (omega (arith, same))),
-  no_other_text _ plain_read printed_as_it_stands (λ same. absurd (omega (arith, same))),
-  no_other_text _ plain_read printed_as_it_stands (λ same. absurd (omega (arith, same))),
+  no_other_text _ (λ kept. (read kept).0) printed_anew (omega arith),
+  no_other_text _ (λ kept. (read kept).1) printed_as_it_stands (omega arith),
+  no_other_text _ (λ kept. (read kept).1) printed_as_it_stands (omega arith),
 )
 
 -- ---- memory

@@ -5,11 +5,6 @@ use Rattle.mime_http.proofs.Common.{AreSpaces, AreTokenBytes, Bool, InvalidToken
 pub spaces-append : (n m : List ℕ) → AreSpaces n → AreSpaces m → AreSpaces (n ++ m)
 spaces-append n m first second = grind (arith, list_all-append)
 
--- the same state at the same position
-pub same_from : (bytes : List ℕ) {state other : State} {at to : ℕ} → state ≡ other → at ≡ to
-    → answer_from state at bytes ≡ answer_from other to bytes
-same_from bytes same there = ap₂ (λ s n. answer_from s n bytes) same there
-
 -- a byte that leads to a state
 pub one_byte : (state after : State) (at b : ℕ) (bytes : List ℕ) → next state b ≡ Some after
     → answer_from state at (b ∷ bytes) ≡ answer_from after (at + 1) bytes

@@ -1,5 +1,5 @@
 -- What is written of parameters is read as them, and is written item by item.
-use Rattle.mime_http.proofs.Common.{All-push, All-filter, if◌then◌else◌, AllByRecursion, AreParameters, Bool, IsContent, IsParameter, IsSafe, IsSafePair, IsToken, IsToken-lowered, List, MediaType, Parameter, Parameters, Parts, Reads, [], ap, append-nil, append_assoc, ap₂, arith, bytes_eq, cond_both, false, final, is_token_byte, is_token_value, length, length-append, length-lowered, list_all-lowered, listed, lowered, lowered-lowered, lowered_list, lowered_parameter, lowered_value, lowered_value-either, lowered_value-lowered, map, media_of, more, nat_tests, no_list, not, others, pair_of, pairs_of_list, pairs_of_tail, pairs_of_tail-lowered, plain, quoted, refl, subst, suc, sym, text_of_list, text_of_pair, text_of_pairs, text_of_parameter, text_of_parts, true, value_of, with_pair, with_pairs, ℕ, ◌++◌, ◌∙◌, ◌∷◌, ◌≡◌, Item, NameIs, bytes_eq-Decides, false_from_ne_true, flat_map-append, items_of, ◌+◌, ◌≤◌, Decides, filter, All-from_recursion, recursion_from_All, lowered_pair}
+use Rattle.mime_http.proofs.Common.{SyntaxTree, All-push, All-filter, if◌then◌else◌, AllByRecursion, AreParameters, Bool, IsContent, IsParameter, IsSafe, IsSafePair, IsToken, IsToken-lowered, List, MediaType, Parameter, Parameters, Parts, Reads, [], ap, append-nil, append_assoc, ap₂, arith, bytes_eq, cond_both, false, final, is_token_byte, is_token_value, length, length-append, length-lowered, list_all-lowered, listed, lowered, lowered-lowered, lowered_list, lowered_parameter, lowered_value, lowered_value-either, lowered_value-lowered, map, media_of, more, nat_tests, no_list, not, others, pair_of, pairs_of_list, pairs_of_tail, pairs_of_tail-lowered, plain, quoted, refl, subst, suc, sym, text_of_list, text_of_pair, text_of_pairs, text_of_parameter, text_of_parts, true, value_of, with_pair, with_pairs, ℕ, ◌++◌, ◌∙◌, ◌∷◌, ◌≡◌, Item, NameIs, bytes_eq-Decides, false_from_ne_true, flat_map-append, items_of, ◌+◌, ◌≤◌, Decides, filter, All-from_recursion, recursion_from_All, lowered_pair}
 
 -- the test for a token holds for tokens alone
 pub token_from_test : (value : List ℕ) → is_token_value value ≡ true → IsToken value
@@ -66,20 +66,17 @@ parts_are_read parts is_top is_sub safe = go parts.pairs safe
   where
     go : (pairs : List (List ℕ × List ℕ)) → AllByRecursion IsSafePair pairs
         → Reads (text_of_parts (record parts { pairs = pairs })) (media_of (record parts { pairs = pairs }))
-    go [] safe = record {
-      tree = record { top = parts.top; sub = parts.sub; tail = no_list };
-      well_formed = (is_top, is_sub, tt);
-      spelled = refl;
-      valued = rw (append-nil (lowered parts.top ++ (47 ∷ lowered parts.sub))) refl;
-    }
-    go (pair ∷ pairs) safe = record {
-      tree = record { top = parts.top; sub = parts.sub; tail = listed (list_of pair pairs) };
-      well_formed = (is_top, is_sub, well_formed_list pair pairs safe);
-      spelled = ap (λ text. parts.top ++ (47 ∷ (parts.sub ++ text))) (written_list pair pairs).0;
-      valued =
-          let low = written_list (lowered_pair pair) (map lowered_pair pairs) in
-          rw (lowered_all pair pairs, low.1, low.0) (simp append_assoc);
-    }
+    go [] safe =
+        let tree : SyntaxTree = record { top = parts.top; sub = parts.sub; tail = no_list } in
+        record { tree = tree; well_formed = (is_top, is_sub, tt); spelled = refl; valued = grind (arith, append-nil) }
+    go (pair ∷ pairs) safe =
+        let tree : SyntaxTree = record { top = parts.top; sub = parts.sub; tail = listed (list_of pair pairs) } in
+        let low = written_list (lowered_pair pair) (map lowered_pair pairs) in record {
+          tree = tree;
+          well_formed = (is_top, is_sub, well_formed_list pair pairs safe);
+          spelled = grind (arith, written_list pair pairs);
+          valued = grind (arith, lowered_all pair pairs, low, append_assoc);
+        }
 
 -- what holds of all pairs holds of those of other names, and of one more
 all_others : (P : List ℕ × List ℕ → Type 0) (name : List ℕ) (pairs : List (List ℕ × List ℕ)) (pair : List ℕ × List ℕ)
