@@ -50,17 +50,14 @@ one_printed_text value first second one (anew _ _ isnt is) other (as_it_stands _
 one_printed_text value first second one (anew _ _ isnt is) other (anew _ _ not same) =
     is ∙ same_anew value first second one other ∙ sym same
 
--- which the library reads as it
-printed_reads : (value : List ℕ) (media : MediaType) → HttpReads value media → IsPrinted value media → Reads media.kept media
-printed_reads value media is (as_it_stands _ _ reads) = kept_is_read (trimmed value) media reads
-printed_reads value media is (anew _ _ isnt same) =
-    let answered = http_is_answered value media is in
-    kept_is_read _ media (subst (Reads (text_of_parts answered.0)) (answered.2 ∙ sym same) (written_reads value answered.0 answered.1))
-
--- and so HTTP
+-- which the library reads as it, and so HTTP
 pub printed_is_read : PrintedIsRead
-printed_is_read value media is printed =
-    let reads = printed_reads value media is printed in (reads, plain_is_http media.kept media reads)
+printed_is_read value media is (as_it_stands _ _ reads) =
+    let kept = kept_is_read (trimmed value) media reads in (kept, plain_is_http media.kept media kept)
+printed_is_read value media is (anew _ _ isnt same) =
+    let (parts, answered, media_is, found) = http_is_answered value media is in
+    let kept = kept_is_read _ media (subst (Reads (text_of_parts parts)) (media_is ∙ sym same) (written_reads value parts answered)) in
+    (kept, plain_is_http media.kept media kept)
 
 -- ---- what the library keeps
 

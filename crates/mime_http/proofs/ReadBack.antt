@@ -111,10 +111,7 @@ module _ (b : ℕ) (front : List ℕ) where
   after_state before_type is =
       cond_both (is_token_byte b) _ _ Fits (λ token. (token_more [] b refl token, behind front is))
       (λ other. cond_both (is_space b) _ _ Fits (λ space. one_more is_space front b is space) (λ no. tt))
-  after_state (in_type top) is =
-      cond_both (is_token_byte b) _ _ Fits (λ token. (token_more top b (AreTokenBytes-from_token top is.0) token, more b refl is.1))
-      (λ other. cond_both (b == 47) _ _ Fits
-      (λ same. (is.0, refl, more b (ap (λ x. top ++ (x ∷ [])) (eqb-true b 47 same)) is.1)) (λ no. tt))
+  after_state (in_type top) is = grind (arith, cond_both, token_more, AreTokenBytes-from_token, more, eqb-true)
   after_state (in_subtype top []) is =
       cond_both (is_token_byte b) _ _ Fits (λ token. (is.0, token_more [] b refl token, more b (simp append_assoc) is.2)) (λ no. tt)
   after_state (in_subtype top (s ∷ sub)) is =
@@ -125,10 +122,7 @@ module _ (b : ℕ) (front : List ℕ) where
       cond_both (is_space b) _ _ Fits (λ space. space_inside b space is)
       (λ other. cond_both (is_token_byte b) _ _ Fits (λ token. (token_more [] b refl token, behind front is))
       (λ other. cond_both (b == 59) _ _ Fits (λ same. rw (eqb-true b 59 same) (opened front [] (nothing_after is) refl)) (λ no. tt)))
-  after_state (in_name parts name) is =
-      cond_both (is_token_byte b) _ _ Fits (λ token. (token_more name b (AreTokenBytes-from_token name is.0) token, more b refl is.1))
-      (λ other. cond_both (b == 61) _ _ Fits
-      (λ same. (is.0, refl, more b (ap (λ x. name ++ (x ∷ [])) (eqb-true b 61 same)) is.1)) (λ no. tt))
+  after_state (in_name parts name) is = grind (arith, cond_both, token_more, AreTokenBytes-from_token, more, eqb-true)
   after_state (in_value parts name []) is =
       cond_both (is_token_byte b) _ _ Fits (λ token. (is.0, token_more [] b refl token, more b (simp append_assoc) is.2))
       (λ other. cond_both (b == 34) _ _ Fits
@@ -152,22 +146,7 @@ spelled_after state after b front goes is =
 
 -- a media type of these parts is what HTTP writes
 whole_is_http : {parts : Parts} {value : List ℕ} → Whole parts value → HttpReads value (media_of parts)
-whole_is_http {parts} (whole before parameters after first top sub are last) = record {
-  before = before;
-  top = parts.top;
-  sub = parts.sub;
-  parameters = parameters;
-  after = after;
-  spelled = refl;
-  white_before = first;
-  is_top = top;
-  is_sub = sub;
-  are_parameters = are;
-  white_after = last;
-  essence = refl;
-  slash = refl;
-  plus = refl;
-}
+whole_is_http {parts} (whole before parameters after first top sub are last) = grind arith
 
 -- so are the parts that are an answer
 abbrev pub IsRead : List ℕ → Answer → Type 0
@@ -189,8 +168,7 @@ pub read_from : (bytes : List ℕ) (state : State) (at : ℕ) (front : List ℕ)
 read_from [] state at front is = rw (append-nil front) (read_at_end state front is)
 read_from (b ∷ bytes) state at front is = by_option (next state b)
     (λ stops. rw stops tt)
-    (λ after goes. rw goes (subst (λ x. IsRead x (answer_from after (at + 1) bytes)) (append_assoc front (b ∷ []) bytes)
-    (read_from bytes after (at + 1) (front ++ (b ∷ [])) (spelled_after state after b front goes is))))
+    (λ after goes. rw goes (rw append_assoc at (read_from bytes after (at + 1) (front ++ (b ∷ [])) (spelled_after state after b front goes is))))
 
 -- so what is read of a value is what HTTP writes
 pub answered_is_http : (value : List ℕ) (parts : Parts) → answer_of value ≡ read parts → HttpReads value (media_of parts)

@@ -70,10 +70,10 @@ explained_from : (bytes : List ℕ) (state : State) (at : ℕ) (front : List ℕ
 explained_from [] state at front there is goes = rw (append-nil front) (at_end state front is).1
 explained_from (b ∷ bytes) state at front there is goes = by_option (next state b)
     (λ stops. rw (stops, there) (dead_at state front b bytes stops (at_end state front is).0 (rw there at goes)))
-    (λ after leads. rw leads (subst (λ x. IsExplained x (answer_from after (at + 1) bytes)) (append_assoc front (b ∷ []) bytes)
-    (explained_from bytes after (at + 1) (front ++ (b ∷ [])) (omega (arith, there, length-append front (b ∷ [])))
-    (spelled_after state after b front leads is)
-    (λ more. ap answer_of (append_assoc front (b ∷ []) more) ∙ goes (b ∷ more) ∙ one_byte state after at b more leads))))
+    (λ after leads.
+    let here : at + 1 ≡ length (front ++ (b ∷ [])) = omega (arith, there, length-append front (b ∷ [])) in
+    let on = λ (more : List ℕ). ap answer_of (append_assoc front (b ∷ []) more) ∙ goes (b ∷ more) ∙ one_byte state after at b more leads in
+    rw leads (rw append_assoc at (explained_from bytes after (at + 1) _ here (spelled_after state after b front leads is) on)))
 
 -- from the first on
 pub answered_fault : (value : List ℕ) (fault : ParseError) → answer_of value ≡ rejected fault → IsHttpFault value fault

@@ -88,9 +88,7 @@ module _ (before after bytes : List ℕ) (first : AreSpaces before) (second : Ar
   after_white : {parts : Parts} {state : State} → IsBetween parts state → (at : ℕ)
       → answer_from state at (before ++ (59 ∷ (after ++ bytes)))
       ≡ answer_from (after_semicolon parts) (at + length before + 1 + length after) bytes
-  after_white {parts} {state} between at =
-      let past = over_white (after_semicolon parts) (keeps_inside parts) after second in
-      grind (arith, over_white state between.white before first at, between.semicolon, past)
+  after_white {parts} {state} between at = grind (arith, over_white, between.white, between.semicolon, keeps_inside)
 
   -- bytes are in UTF-8 if all are
   utf8_past : IsUtf8 (before ++ (59 ∷ (after ++ bytes))) → IsUtf8 bytes
@@ -153,15 +151,13 @@ http_is_answered value media reads =
     let rest = reads.parameters ++ reads.after in
     let from = reads_on reads.are_parameters reads.after reads.white_after in
     let at = 0 + length reads.before in
-    let bare : Parts = record { top = top; sub = sub; pairs = [] } in (
+    let bare : Parts = record { top = top; sub = sub; pairs = [] } in
+    let over = over_white before_type keeps_before reads.before reads.white_before 0 (top ++ (47 ∷ (sub ++ rest))) in
+    let begins = type_begins top reads.is_top at (47 ∷ (sub ++ rest)) in
+    let ends = subtype_ends top sub reads.is_sub (at + length top + 1 + length sub) rest from.ends in
+    let last = from.reads bare (before_semicolon bare) (outside bare) in (
       record { top = top; sub = sub; pairs = from.found },
-      ap answer_of (sym reads.spelled)
-          ∙ over_white before_type keeps_before reads.before reads.white_before 0 (top ++ (47 ∷ (sub ++ rest)))
-          ∙ type_begins top reads.is_top at (47 ∷ (sub ++ rest))
-          ∙ one_byte (in_type top) (in_subtype top []) (at + length top) 47 (sub ++ rest) refl
-          ∙ on_subtype top sub (AreTokenBytes-from_token sub reads.is_sub) [] (at + length top + 1) rest
-          ∙ subtype_ends top sub reads.is_sub (at + length top + 1 + length sub) rest from.ends
-          ∙ from.reads bare (before_semicolon bare) (outside bare) _,
+      grind (arith, reads.spelled, over, begins, on_subtype top sub (AreTokenBytes-from_token sub reads.is_sub) [], ends, last),
       rw (reads.essence, reads.slash, reads.plus, from.same) refl,
       record {
         is_top = reads.is_top;
