@@ -138,22 +138,10 @@ blank_from_trimmed value none =
 -- what is read stays with more white space around it, and with another kept text
 pub white_more : {text value : List ℕ} {media : MediaType} (kept before after : List ℕ) → AreSpaces before → AreSpaces after
     → HttpReads text (record media { kept = kept }) → before ++ (text ++ after) ≡ value → HttpReads value media
-white_more kept before after first last reads same = record {
-  before = before ++ reads.before;
-  top = reads.top;
-  sub = reads.sub;
-  parameters = reads.parameters;
-  after = reads.after ++ after;
-  spelled = (simp append_assoc) ∙ (ap (λ bytes. before ++ (bytes ++ after)) reads.spelled ∙ same);
-  white_before = spaces-append before reads.before first reads.white_before;
-  is_top = reads.is_top;
-  is_sub = reads.is_sub;
-  are_parameters = reads.are_parameters;
-  white_after = spaces-append reads.after after reads.white_after last;
-  essence = reads.essence;
-  slash = reads.slash;
-  plus = reads.plus;
-}
+white_more {value = value} kept before after first last reads same =
+    let whole : (before ++ reads.before) ++ (reads.top ++ (47 ∷ (reads.sub ++ (reads.parameters ++ (reads.after ++ after))))) ≡ value =
+    (simp append_assoc) ∙ (ap (λ bytes. before ++ (bytes ++ after)) reads.spelled ∙ same) in
+    rw (← whole) (grind (arith, spaces-append))
 
 -- so a value is a media type if it is one without the white space around it
 pub reads_around : (value : List ℕ) (media : MediaType) → HttpReads (trimmed value) media → HttpReads value media

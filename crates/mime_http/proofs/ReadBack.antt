@@ -47,9 +47,9 @@ content_more (text_byte b content text rest) is = text_byte b _ text (content_mo
 content_more (quoted_pair b content fits rest) is = quoted_pair b _ fits (content_more rest is)
 
 -- and bytes behind others
-more : {Front : List ℕ → Type 0} {bytes all front : List ℕ} (b : ℕ) → bytes ++ (b ∷ []) ≡ all → Behind Front bytes front
-    → Behind Front all (front ++ (b ∷ []))
-more b same (behind front is) = rw (← same) (simp append_assoc (behind front is))
+more : {Front : List ℕ → Type 0} {bytes front : List ℕ} (b : ℕ) → Behind Front bytes front
+    → Behind Front (bytes ++ (b ∷ [])) (front ++ (b ∷ []))
+more b (behind front is) = simp append_assoc (behind front is)
 
 -- ---- a media type
 
@@ -102,39 +102,25 @@ module _ (b : ℕ) (front : List ℕ) where
 
   -- after a media type,
   after_whole : {parts : Parts} → Whole parts front → Fits (next_after parts b)
-  after_whole is =
-      cond_both (is_space b) _ _ Fits (λ space. space_after b space is)
-      (λ other. cond_both (b == 59) _ _ Fits (λ same. rw (eqb-true b 59 same) (opened front [] is refl)) (λ no. tt))
+  after_whole is = grind (arith, cond_both, space_after, opened, eqb-true)
 
   -- and so in each state
   after_state : (state : State) → Spells state front → Fits (next state b)
-  after_state before_type is =
-      cond_both (is_token_byte b) _ _ Fits (λ token. (token_more [] b refl token, behind front is))
-      (λ other. cond_both (is_space b) _ _ Fits (λ space. one_more is_space front b is space) (λ no. tt))
-  after_state (in_type top) is = grind (arith, cond_both, token_more, AreTokenBytes-from_token, more, eqb-true)
-  after_state (in_subtype top []) is =
-      cond_both (is_token_byte b) _ _ Fits (λ token. (is.0, token_more [] b refl token, more b (simp append_assoc) is.2)) (λ no. tt)
-  after_state (in_subtype top (s ∷ sub)) is =
-      cond_both (is_token_byte b) _ _ Fits (λ token. (is.0, token_more (s ∷ sub) b is.1 token, more b (simp append_assoc) is.2))
-      (λ other. after_whole (essence_read is.0 is.1 is.2))
+  after_state before_type is = grind (arith, cond_both, token_more, behind, one_more)
+  after_state (in_type top) is = grind (arith, cond_both, token_more, AreTokenBytes-from_token, more b is.1, eqb-true)
+  after_state (in_subtype top []) is = grind (arith, cond_both, token_more, more b is.2, append_assoc)
+  after_state (in_subtype top (s ∷ sub)) is = grind (arith, cond_both, token_more, more b is.2, append_assoc, after_whole, essence_read)
   after_state (before_semicolon parts) is = after_whole is
-  after_state (after_semicolon parts) is =
-      cond_both (is_space b) _ _ Fits (λ space. space_inside b space is)
-      (λ other. cond_both (is_token_byte b) _ _ Fits (λ token. (token_more [] b refl token, behind front is))
-      (λ other. cond_both (b == 59) _ _ Fits (λ same. rw (eqb-true b 59 same) (opened front [] (nothing_after is) refl)) (λ no. tt)))
-  after_state (in_name parts name) is = grind (arith, cond_both, token_more, AreTokenBytes-from_token, more, eqb-true)
-  after_state (in_value parts name []) is =
-      cond_both (is_token_byte b) _ _ Fits (λ token. (is.0, token_more [] b refl token, more b (simp append_assoc) is.2))
-      (λ other. cond_both (b == 34) _ _ Fits
-      (λ same. (is.0, refl, more b (rw (eqb-true b 34 same) (append_assoc name (61 ∷ []) (34 ∷ []))) is.2)) (λ no. tt))
+  after_state (after_semicolon parts) is = grind (arith, cond_both, space_inside, token_more, behind, opened, nothing_after, eqb-true)
+  after_state (in_name parts name) is = grind (arith, cond_both, token_more, AreTokenBytes-from_token, more b is.1, eqb-true)
+  after_state (in_value parts name []) is = grind (arith, cond_both, token_more, more b is.2, append_assoc, eqb-true)
   after_state (in_value parts name (v ∷ value)) is =
-      cond_both (is_token_byte b) _ _ Fits (λ token. (is.0, token_more (v ∷ value) b is.1 token, more b (simp append_assoc) is.2))
-      (λ other. after_whole (parameter_after name (v ∷ value) (with_token name (v ∷ value) is.0 is.1) is.2))
+      let whole = parameter_after name (v ∷ value) (with_token name (v ∷ value) is.0 is.1) is.2 in
+      grind (arith, cond_both, token_more, more b is.2, append_assoc, after_whole, whole)
   after_state (in_string parts name content) is =
-      cond_both (continues content b) _ _ Fits (λ taken. (is.0, IsOpenContent-push content b is.1 taken, more b (simp append_assoc) is.2))
-      (λ stopped. cond_both (b == 34) _ _ Fits
-      (λ same. parameter_after name content (with_string name content is.0 (IsContent-closed content b is.1 stopped same))
-      (more b (rw (eqb-true b 34 same) (simp append_assoc)) is.2)) (λ no. tt))
+      cond_both (continues content b) _ _ Fits (λ taken. (is.0, IsOpenContent-push content b is.1 taken, rw append_assoc at (more b is.2)))
+      (λ stopped. cond_both (b == 34) _ _ Fits (λ same. rw (eqb-true b 34 same) (parameter_after name content
+      (with_string name content is.0 (IsContent-closed content b is.1 stopped same)) (rw append_assoc at (more 34 is.2)))) (λ no. tt))
 
 -- the bytes are what the next state says
 pub spelled_after : (state after : State) (b : ℕ) (front : List ℕ) → next state b ≡ Some after → Spells state front
