@@ -120,11 +120,9 @@ pub record Seen (value : List ℕ) (kind : ℕ) (left : List ℕ) : Type 0 where
 -- the kind seen so far, after one more block
 pub block_seen : {value : List ℕ} {kind : ℕ} {left : List ℕ} → Seen value kind left → (block rest : List ℕ) → left ≡ block ++ rest
     → Seen value (bit_and kind (kind_of block)) rest
-block_seen seen block rest is = record {
-  bytes = seen.bytes ++ block;
-  split = append_assoc seen.bytes block rest ∙ ap (λ left. seen.bytes ++ left) (sym is) ∙ seen.split;
-  is = ap (λ kind. bit_and kind (kind_of block)) seen.is ∙ sym (kind_of-append seen.bytes block);
-}
+block_seen {value} seen block rest is =
+    let whole : (seen.bytes ++ block) ++ rest ≡ value = grind (arith, append_assoc, seen.split) in
+    rw (← whole) (grind (arith, kind_of-append, seen.is))
 
 -- a byte whose kind says that it needs no backslash is plain
 pub plain_from_kind : (b : ℕ) → kind_of (b ∷ []) ≢ 1 → is_plain b ≡ true

@@ -40,12 +40,7 @@ pub record IsRun (class : ℕ → Bool) (value : List ℕ) (from to : ℕ) : Typ
 
 -- which is up to the end of a run
 pub run_is : (class : ℕ → Bool) (value : List ℕ) (from to : ℕ) → to ≡ run_end class value from → IsRun class value from to
-run_is class value from to is =
-    let long : to - from ≡ prefix_len class (drop from value) = omega (arith, is) in record {
-      least = omega (arith, is);
-      all = rw long (run_all class (drop from value));
-      stops = grind (arith, get_or-drop from value, prefix_len_stops class (drop from value) 0, length-drop from value);
-    }
+run_is class value from to is = grind (arith, run_all class (drop from value), get_or-drop from value, prefix_len_stops class (drop from value) 0, length-drop from value)
 
 -- a run of a class goes on over one of a narrower class
 wider_run : (narrow class : ℕ → Bool) → ((b : ℕ) → narrow b ≡ true → class b ≡ true) → (bytes : List ℕ)
