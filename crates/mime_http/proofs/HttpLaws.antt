@@ -93,9 +93,7 @@ module _ (value : List ℕ) (media : MediaType) (parts : Parts) (reads : Reads (
 
   -- If that is the essence alone, it is the same,
   essence_alone : length (text_of_parts parts) ≤ length media.essence → media_of parts ≡ media
-  essence_alone all =
-      let none = nil_from_length media.pairs (omega (arith, all, length-anew, pairs_within_text media.pairs)) in
-      anew_is ∙ grind (arith, none, reads.valued, append-nil media.essence)
+  essence_alone all = grind (arith, nil_from_length, length-anew, pairs_within_text, anew_is, append-nil)
 
   -- and if it is more, or is long, a long value is printed with many bytes.
   many_kept : 40 < length (trimmed value) → (40 < length (text_of_parts parts)) ⊎ (length media.essence < length (text_of_parts parts))

@@ -26,9 +26,7 @@ IsExplained value (rejected fault) = IsHttpFault value fault
 -- a value that is read with more bytes after it lacks them, and is viable
 lacking : (value more : List ℕ) (state : State) {parts : Parts} {Last : Type 0} → Spells state value
     → answer_from state 0 more ≡ read parts → Last → IsHttpViable value × (IsHttpMediaType (value ++ more) × Last)
-lacking value more state {parts} is reads last =
-    let http : IsHttpMediaType (value ++ more) = (media_of parts, subst (IsRead (value ++ more)) reads (read_from more state 0 value is)) in
-    ((more, http), (http, last))
+lacking value more state {parts} is reads last = grind (arith, read_from)
 
 -- so it is at the end, where the fault is its own
 at_end : (state : State) (value : List ℕ) → Spells state value → IsHttpViable value × IsExplained value (answer_at_end state)
@@ -114,8 +112,7 @@ has_fault : (fault : ParseError) (state : State) (at : ℕ) (parts : Parts)
     → answer_from state at (last_of fault ++ more_of fault) ≡ read parts → answer_from state at (last_of fault) ≡ rejected fault
 unfolding is_token_byte is_quoted_byte
 has_fault MissingQuote (in_string _ name content) at parts is = refl
-has_fault fault (in_string before name content) at parts is =
-    absurd (no_quote before name content (last_of fault ++ more_of fault) at parts refl is)
+has_fault fault (in_string before name content) at parts is = grind (arith, no_quote)
 has_fault fault (in_subtype top []) at parts is = absurd cc
 has_fault fault (in_value _ name []) at parts is = absurd cc
 has_fault fault state at parts is = grind arith
@@ -127,10 +124,6 @@ completed value fault front same is =
     let whole = ap (λ bytes. bytes ++ more_of fault) same ∙ append_assoc front (last_of fault) (more_of fault) in
     let answered = ap answer_of (sym whole) ∙ (http_is_answered _ is.0 is.1).1 in
     ap answer_of same ∙ sole_from (last_of fault) (more_of fault) fault (has_fault fault) front before_type 0 _ answered
-
--- the longest prefix is one
-prefix_unique : (value : List ℕ) (m n : ℕ) → IsHttpLongestPrefix value m → IsHttpLongestPrefix value n → m ≡ n
-prefix_unique value m n first second = grind (arith, first.longest n, second.longest m)
 
 -- a fault of a value is the answer,
 pub fault_answered : (value : List ℕ) (fault : ParseError) → IsHttpFault value fault → answer_of value ≡ rejected fault
@@ -144,7 +137,7 @@ fault_answered value (InvalidToken pos byte) dead = by_answer (answer_of value)
 
     found : (fault : ParseError) → IsHttpFault value fault → rejected fault ≡ rejected (InvalidToken pos byte)
     found (InvalidToken place other) is =
-        let same : place ≡ pos = prefix_unique value place pos is.prefix dead.prefix in cc (same, is.there, dead.there)
+        let same : place ≡ pos = grind (arith, is.prefix.longest pos, dead.prefix.longest place) in cc (same, is.there, dead.there)
     found NoMemory lacks = absurd lacks.0
     found fault lacks = absurd (not_viable (_, lacks.0))
 fault_answered value NoMemory lacks = absurd lacks.0
