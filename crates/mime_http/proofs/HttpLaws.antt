@@ -69,10 +69,6 @@ length_list (final n (quoted name content m)) = simp lengths
 length_list (more n (plain name value) rest) = simp (lengths, length_list rest)
 length_list (more n (quoted name content m) rest) = simp (lengths, length_list rest)
 
--- so one with parameters is kept with all its bytes
-kept_with : (text : List ℕ) (media : MediaType) → Reads text media → (media.pairs ≡ []) ⊎ (length media.kept ≡ length text)
-kept_with text media reads = grind (arith, lengths, length_list)
-
 -- ---- what is written anew
 
 -- what the library reads without the white space around it is read and printed as it stands,
@@ -98,7 +94,7 @@ module _ (value : List ℕ) (media : MediaType) (parts : Parts) (reads : Reads (
   -- and if it is more, or is long, a long value is printed with many bytes.
   many_kept : 40 < length (trimmed value) → (40 < length (text_of_parts parts)) ⊎ (length media.essence < length (text_of_parts parts))
       → 40 < length media.kept
-  many_kept long either = grind (arith, length-anew, kept_with (trimmed value) media, reads.valued)
+  many_kept long either = grind (arith, length-anew, lengths, length_list, reads.valued, reads.spelled)
 
 -- ---- what is read of it
 

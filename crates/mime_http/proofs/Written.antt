@@ -81,9 +81,8 @@ parts_are_read parts is_top is_sub safe = go parts.pairs safe
 -- what holds of all pairs holds of those of other names, and of one more
 all_others : (P : List ℕ × List ℕ → Type 0) (name : List ℕ) (pairs : List (List ℕ × List ℕ)) (pair : List ℕ × List ℕ)
     → AllByRecursion P pairs → P pair → AllByRecursion P (others name pairs ++ (pair ∷ []))
-all_others P name pairs pair all last =
-    recursion_from_All P _ (All-push P (others name pairs) pair
-    (All-filter (λ pair. not (bytes_eq (lowered pair.0) (lowered name))) P pairs (All-from_recursion P pairs all)) last)
+all_others P name [] pair all last = (last, tt)
+all_others P name (first ∷ pairs) pair all last = grind (arith, all_others P name pairs pair)
 
 -- pairs of other names stay as they are, before the new one
 others_stay : (name : List ℕ) (pairs : List (List ℕ × List ℕ)) (pair : List ℕ × List ℕ)
@@ -139,16 +138,11 @@ pub all_left : (name essence : List ℕ) (pairs : List (List ℕ × List ℕ)) {
     → text ≡ essence → Left name (essence ++ text_of_pairs (others name pairs)) text (length (others name pairs)) 0 items
 all_left name essence pairs are is = grind (arith, others_of)
 
-module _ {name whole text : List ℕ} {total count : ℕ} {items next : List Item} {item : Item}
-    (left : Left name whole text total count items) (is : items ≡ item ∷ next) where
-  -- an item of this name is left out,
-  pub named_skipped : NameIs item.name item.name_ignores_case name → Left name whole text total count next
-  named_skipped named = grind (arith, name_decides)
-
-  -- one of another is written,
-  pub copied : ¬ (NameIs item.name item.name_ignores_case name)
-      → Left name whole (text ++ text_of_pair (item.name, item.value)) total (count + 1) next
-  copied other = grind (arith, false_from_ne_true, name_decides, append_assoc)
+-- an item of another name is written,
+pub copied : {name whole text : List ℕ} {total count : ℕ} {items next : List Item} {item : Item} → Left name whole text total count items
+    → items ≡ item ∷ next → ¬ (NameIs item.name item.name_ignores_case name)
+    → Left name whole (text ++ text_of_pair (item.name, item.value)) total (count + 1) next
+copied left is other = grind (arith, false_from_ne_true, name_decides, append_assoc)
 
 -- and at last all is written and counted
 pub none_left : {name whole text : List ℕ} {total count : ℕ} {items : List Item} → Left name whole text total count items → items ≡ []
