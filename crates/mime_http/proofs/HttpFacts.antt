@@ -2,7 +2,7 @@
 -- media types, values that aren't, their faults, and what is printed of a value.
 use Rattle.mime_http.proofs.Common.{Parameter, SyntaxTree, IsUtf8-nil, HttpExplains, HttpReads, InvalidToken, IsBoundary, IsBoundaryOf, IsContent-taken, IsHttpFault, IsHttpMediaType, IsPrinted, List, MediaType, MissingQuote, MissingSubtype, MissingValue, NeedsMemory, None, Parts, [], anew, ap, arith, as_it_stands, bytes_eq, bytes_eq-Decides, codes, escaped, false, final, is_quoted_byte, is_token_byte, is_token_value, length, listed, media_of, others, quoted, refl, same_Some, stopped-from_walk, sym, text_of_pair, text_of_pairs, trimmed, true, true≢false, unescaped, with_pair, with_pairs, ℕ, ◌++◌, ◌∙◌, ◌∷◌, ◌≡◌, ◌≢◌}
 use Rattle.mime_http.specs.declared.value.FieldError.TheVariants.{Invalid, NoMemory as OutOfMemory}
-use Rattle.mime_http.proofs.{Around.white_more, Around.put_ascii, HttpLaws.one_printed_text, HttpLaws.short_needs_none, ReadBack.answered_is_http, ReadFaults.answered_fault, ReadFaults.fault_answered, ReadFaults.rejected_is_none as none}
+use Rattle.mime_http.proofs.{Around.white_more, Around.put_ascii, HttpLaws.one_printed_text, HttpLaws.short_needs_none, HttpLaws.anew_needs, HttpLaws.printed_anew as anew_printed, ReadBack.answered_is_http, ReadFaults.answered_fault, ReadFaults.fault_answered, ReadFaults.rejected_is_none as none}
 
 -- ` text/HTML ;; charset="UTF-8" `
 abbrev value : List ℕ
@@ -73,7 +73,8 @@ printed_as_it_stands =
     let pair : Parameter = quoted (codes "charset") (codes "UTF-8") [] in
     let tree : SyntaxTree = record { top = codes "text"; sub = codes "HTML"; tail = listed (final [] pair) } in
     let content = IsContent-taken (codes "UTF-8") refl refl in
-    as_it_stands plain_value _ (record { tree = tree; well_formed = (refl, refl, (refl, (refl, content, refl))); spelled = refl; valued = refl })
+    as_it_stands plain_value _
+    (record { tree = tree; well_formed = (refl, refl, (refl, (refl, content, refl))); spelled = refl; valued = refl })
 
 -- of the first nothing with quotes is printed, since a token needs none; of the second nothing anew, and no white space
 not_printed : ¬ (IsPrinted value (html_type (codes "text/html; charset=\"utf-8\"")))
@@ -98,17 +99,14 @@ letter_parts letters = record { top = codes "a"; sub = codes "b"; pairs = (codes
 memory : NeedsMemory (lettered (codes "abcdefghijklmnopqrstuvwxyzabcdefgh"))
     × ¬ (NeedsMemory (lettered (codes "abcdefghijklmnopqrstuvwxyzabcdefg"))) × ¬ (NeedsMemory (codes "a b"))
 unfolding is_token_byte is_quoted_byte
-memory = (
-  record {
-    media = _;
-    is = answered_is_http _ (letter_parts (codes "abcdefghijklmnopqrstuvwxyzabcdefgh")) refl;
-    printed = anew _ _ (stopped-from_walk (codes "a/b;;p=abcdefghijklmnopqrstuvwxyzabcdefgh") refl) refl;
-    long = omega arith;
-  },
-  short_needs_none _ _ (answered_is_http _ (letter_parts (codes "abcdefghijklmnopqrstuvwxyzabcdefg")) refl)
-      (anew _ _ (stopped-from_walk (codes "a/b;;p=abcdefghijklmnopqrstuvwxyzabcdefg") refl) refl) (omega arith),
-  λ needs. none (codes "a b") _ refl (needs.media, needs.is),
-)
+memory =
+    let (reads, printed) = anew_printed (letter_parts (codes "abcdefghijklmnopqrstuvwxyzabcdefg")) refl refl
+    (stopped-from_walk (codes "a/b;;p=abcdefghijklmnopqrstuvwxyzabcdefg") refl) refl in (
+      anew_needs (letter_parts (codes "abcdefghijklmnopqrstuvwxyzabcdefgh")) refl refl
+          (stopped-from_walk (codes "a/b;;p=abcdefghijklmnopqrstuvwxyzabcdefgh") refl) (omega arith),
+      short_needs_none _ _ reads printed (omega arith),
+      λ needs. none (codes "a b") _ refl (needs.media, needs.is),
+    )
 
 -- so memory runs out for neither; that `a b` is rejected is explained by its fault
 reasons : ¬ (HttpExplains (codes "a b") OutOfMemory) × HttpExplains (codes "a b") (Invalid (InvalidToken 1 32))

@@ -23,7 +23,7 @@ written_is_utf8 value parts utf8 is =
 
 -- and takes as many bytes as are kept.
 pub written_length : (parts : Parts) → length (media_of parts).kept ≡ length (text_of_parts parts)
-written_length parts = simp (lengths, length-pairs parts.pairs) (omega arith)
+written_length parts = grind (arith, lengths, length-pairs)
 
 -- ---- the laws
 
@@ -64,10 +64,10 @@ printed_is_read value media is (anew _ _ isnt same) =
 -- in lowercase a list takes as many bytes,
 length_list : (list : Parameters) → length (text_of_list (lowered_list list)) ≡ length (text_of_list list)
 length_list (blank n) = refl
-length_list (final n (plain name value)) = simp lengths
-length_list (final n (quoted name content m)) = simp lengths
-length_list (more n (plain name value) rest) = simp (lengths, length_list rest)
-length_list (more n (quoted name content m) rest) = simp (lengths, length_list rest)
+length_list (final n (plain name value)) = grind (arith, lengths)
+length_list (final n (quoted name content m)) = grind (arith, lengths)
+length_list (more n (plain name value) rest) = grind (arith, lengths, length_list rest)
+length_list (more n (quoted name content m) rest) = grind (arith, lengths, length_list rest)
 
 -- ---- what is written anew
 

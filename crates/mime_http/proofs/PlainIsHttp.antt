@@ -52,7 +52,8 @@ over_front [] begun last goes at bytes = grind (arith, same_Some begun last goes
 over_front (b ∷ front) begun last goes at bytes = by_option (grow begun b)
     (λ stops. absurd (none-some last (rw stops at goes)))
     (λ more grown.
-    let step = side_by_side b begun (rw grown refl) in grind (arith, step, grown, over_front front more last (rw grown at goes) (at + 1) bytes))
+    let step = side_by_side b begun (rw grown refl) in
+    grind (arith, step, grown, over_front front more last (rw grown at goes) (at + 1) bytes))
 
 -- ---- what the library reads
 

@@ -40,7 +40,9 @@ pub record IsRun (class : ℕ → Bool) (value : List ℕ) (from to : ℕ) : Typ
 
 -- which is up to the end of a run
 pub run_is : (class : ℕ → Bool) (value : List ℕ) (from to : ℕ) → to ≡ run_end class value from → IsRun class value from to
-run_is class value from to is = grind (arith, run_all class (drop from value), get_or-drop from value, prefix_len_stops class (drop from value) 0, length-drop from value)
+run_is class value from to is =
+    let stops = prefix_len_stops class (drop from value) 0 in
+    grind (arith, run_all class (drop from value), get_or-drop from value, stops, length-drop from value)
 
 -- a run of a class goes on over one of a narrower class
 wider_run : (narrow class : ℕ → Bool) → ((b : ℕ) → narrow b ≡ true → class b ≡ true) → (bytes : List ℕ)

@@ -57,9 +57,9 @@ more b (behind front is) = simp append_assoc (behind front is)
 parameters_more : {bytes more : List ℕ} {pairs others : List (List ℕ × List ℕ)} → AreHttpParameters bytes pairs
     → AreHttpParameters more others → AreHttpParameters (bytes ++ more) (pairs ++ others)
 parameters_more no_more are = are
-parameters_more {more = more} {others = others} (semicolon before after rest pairs white space all) are =
+parameters_more (semicolon before after _ _ white space all) are =
     simp append_assoc (semicolon before after _ _ white space (parameters_more all are))
-parameters_more {more = more} {others = others} (semicolon_and before after parameter rest pair pairs white space is all) are =
+parameters_more (semicolon_and before after parameter _ pair _ white space is all) are =
     simp append_assoc (semicolon_and before after parameter _ pair _ white space is (parameters_more all are))
 
 -- a type and a subtype,
@@ -152,7 +152,8 @@ pub read_from : (bytes : List ℕ) (state : State) (at : ℕ) (front : List ℕ)
 read_from [] state at front is = rw (append-nil front) (read_at_end state front is)
 read_from (b ∷ bytes) state at front is = by_option (next state b)
     (λ stops. rw stops tt)
-    (λ after goes. rw goes (rw append_assoc at (read_from bytes after (at + 1) (front ++ (b ∷ [])) (spelled_after state after b front goes is))))
+    (λ after goes.
+    let is = spelled_after state after b front goes is in rw goes (rw append_assoc at (read_from bytes after (at + 1) (front ++ (b ∷ [])) is)))
 
 -- so what is read of a value is what HTTP writes
 pub answered_is_http : (value : List ℕ) (parts : Parts) → answer_of value ≡ read parts → HttpReads value (media_of parts)

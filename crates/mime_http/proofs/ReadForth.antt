@@ -36,7 +36,8 @@ reads_one (with_token name value named valued) bytes ends = record {
       (simp regroup (name_begins parts name named at (61 ∷ (value ++ bytes))))
       ∙ on_value parts name value (AreTokenBytes-from_token value valued) [] (at + length name + 1) bytes
       ∙ value_ends parts name value valued _ bytes ends
-      ∙ ap (λ to. answer_from (before_semicolon (with_parameter parts name value)) to bytes) (omega (arith, length-append name (61 ∷ value)));
+      ∙ ap (λ to. answer_from (before_semicolon (with_parameter parts name value)) to bytes)
+      (omega (arith, length-append name (61 ∷ value)));
 }
 reads_one (with_string name content named is) bytes ends = record {
   found = (name, content);

@@ -20,17 +20,14 @@ test-either name value = lowered_value-either (λ v. is_token_value v ≡ is_tok
 pub length-lowered_value : (name value : List ℕ) → length (lowered_value name value) ≡ length value
 length-lowered_value name value = lowered_value-either (λ v. length v ≡ length value) name value refl (length-lowered value)
 
--- so lengths are compared by `simp`, which doesn't compute a list with a first byte
-pub length-cons : (b : ℕ) (xs : List ℕ) → length (b ∷ xs) ≡ suc (length xs)
-length-cons b xs = refl
-
-pub ruleset lengths = (length-append, length-cons, length-lowered, length-lowered_value)
+-- so lengths are compared by these
+pub ruleset lengths = (length-append, length-lowered, length-lowered_value)
 
 -- pairs take as many,
 pub length-pairs : (pairs : List (List ℕ × List ℕ)) → length (text_of_pairs (map lowered_pair pairs)) ≡ length (text_of_pairs pairs)
 length-pairs [] = refl
 length-pairs ((name, value) ∷ pairs) =
-    grind (arith, length-pairs pairs, test-either name value, length-append {A = ℕ}, length-lowered name, length-lowered_value name value)
+    grind (arith, length-pairs pairs, test-either, lengths)
 
 -- the parameter of a pair: its value is a token, or in quotes
 abbrev parameter_of : List ℕ × List ℕ → Parameter
