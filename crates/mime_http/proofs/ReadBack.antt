@@ -1,5 +1,5 @@
 -- What is read of a value is what HTTP writes: each state says what the bytes so far are.
-use Rattle.mime_http.proofs.Common.{Answer, arith, AreHttpParameters, AreSpaces, AreTokenBytes, AreTokenBytes-from_token, Bool, HttpReads, IsContent, IsHttpParameter, IsToken, List, MatchOption, MatchOption-at_some, Option, Parts, Some, State, [], after_semicolon, answer_at_end, answer_from, answer_of, ap, append-nil, append_assoc, before_semicolon, before_type, by_option, cond_both, eqb-true, in_name, in_string, in_subtype, in_type, in_value, is_space, is_token_byte, list_all, list_all-append, map, map-append, media_of, next, next_after, no_byte, no_more, quoted_pair, read, refl, rejected, semicolon, semicolon_and, subst, text_byte, true, with_parameter, with_string, with_token, ℕ, ⊤, ◌++◌, ◌+◌, ◌==◌, ◌∷◌, ◌≡◌, IsOpenContent, continues, lowered_pair, IsContent-closed, IsOpenContent-push}
+use Rattle.mime_http.proofs.Common.{Answer, arith, AreHttpParameters, AreSpaces, AreTokenBytes, AreTokenBytes-from_token, Bool, HttpReads, IsContent, IsHttpParameter, IsToken, List, MatchOption, MatchOption-at_some, Option, Parts, Some, State, [], after_semicolon, answer_at_end, answer_from, answer_of, append-nil, append_assoc, before_semicolon, before_type, by_option, cond_both, eqb-true, in_name, in_string, in_subtype, in_type, in_value, is_space, is_token_byte, list_all, list_all-append, map, map-append, media_of, next, no_byte, no_more, quoted_pair, read, refl, rejected, semicolon, semicolon_and, subst, text_byte, true, with_parameter, with_string, with_token, ℕ, ⊤, ◌++◌, ◌+◌, ◌==◌, ◌∷◌, ◌≡◌, IsOpenContent, continues, lowered_pair, IsContent-closed, IsOpenContent-push}
 
 -- ---- what the bytes are in each state
 
@@ -153,7 +153,8 @@ read_from [] state at front is = rw (append-nil front) (read_at_end state front 
 read_from (b ∷ bytes) state at front is = by_option (next state b)
     (λ stops. rw stops tt)
     (λ after goes.
-    let is = spelled_after state after b front goes is in rw goes (rw append_assoc at (read_from bytes after (at + 1) (front ++ (b ∷ [])) is)))
+    let is = spelled_after state after b front goes is in
+    rw goes (rw append_assoc at (read_from bytes after (at + 1) (front ++ (b ∷ [])) is)))
 
 -- so what is read of a value is what HTTP writes
 pub answered_is_http : (value : List ℕ) (parts : Parts) → answer_of value ≡ read parts → HttpReads value (media_of parts)
