@@ -28,11 +28,12 @@ ascii_is_utf8 = IsUtf8-from_ascii
 pub put_one : (b : ℕ) (bytes : List ℕ) → b < 128 → IsUtf8 bytes → IsUtf8 (b ∷ bytes)
 put_one b bytes ascii is = IsUtf8-append (b ∷ []) bytes (IsUtf8-from_ascii (b ∷ []) (IsAscii-cons b [] ascii IsAscii-nil)) is
 
--- and so may more of them
+-- and so may more of them,
 pub put_ascii : (xs ys : List ℕ) → AreAscii xs → IsUtf8 ys → IsUtf8 (xs ++ ys)
 put_ascii [] ys all is = is
 put_ascii (b ∷ xs) ys all is = put_one b (xs ++ ys) all.0 (put_ascii xs ys all.1 is)
 
+-- such as a token,
 pub put_token : (token bytes : List ℕ) → IsToken token → IsUtf8 bytes → IsUtf8 (token ++ bytes)
 put_token token bytes is = put_ascii token bytes (token_bytes_ascii token (AreTokenBytes-from_token token is))
 

@@ -61,15 +61,13 @@ printed_is_read value media is (anew _ _ isnt same) =
 
 -- ---- what the library keeps
 
--- in lowercase a list takes as many bytes,
+-- in lowercase a list takes as many bytes
 length_list : (list : Parameters) → length (text_of_list (lowered_list list)) ≡ length (text_of_list list)
 length_list (blank n) = refl
 length_list (final n (plain name value)) = grind (arith, lengths)
 length_list (final n (quoted name content m)) = grind (arith, lengths)
 length_list (more n (plain name value) rest) = grind (arith, lengths, length_list rest)
 length_list (more n (quoted name content m) rest) = grind (arith, lengths, length_list rest)
-
--- ---- what is written anew
 
 -- what the library reads without the white space around it is read and printed as it stands,
 pub stands : (value : List ℕ) (media : MediaType) → Reads (trimmed value) media → HttpReads value media × IsPrinted value media

@@ -32,15 +32,14 @@ abbrev Follows : ℕ → Option State → Option Begun → Type 0
 Follows b after grown = (is_some grown || not (is_space b || b == 59)) ≡ true → after ≡ option_map state_of grown
 
 -- within a list,
-in_list : (b : ℕ) (top sub : List ℕ) (closed : ClosedParameters) (position : ListState) → (parts : Parts)
-    → parts ≡ record { top = top; sub = sub; pairs = closed_pairs closed }
-    → Follows b (next (state_in parts position) b) (option_map (walked.in_list top sub) (grow_state closed position b))
-in_list b top sub closed (walked.in_value n name []) parts is = grind (arith, nat_tests)
-in_list b top sub closed position parts is = grind (arith, nat_tests)
+in_list : (b : ℕ) (top sub : List ℕ) (closed : ClosedParameters) (position : ListState)
+    → let begun = walked.in_list top sub (list_at closed position) in Follows b (next (state_of begun) b) (grow begun b)
+in_list b top sub closed (walked.in_value n name []) = grind (arith, nat_tests)
+in_list b top sub closed position = grind (arith, nat_tests)
 
 -- and in each state
 side_by_side : (b : ℕ) (begun : Begun) → Follows b (next (state_of begun) b) (grow begun b)
-side_by_side b (walked.in_list top sub list) = in_list b top sub list.closed list.position _ refl
+side_by_side b (walked.in_list top sub list) = in_list b top sub list.closed list.position
 side_by_side b (walked.in_type []) = grind (arith, nat_tests)
 side_by_side b (walked.in_subtype top []) = grind (arith, nat_tests)
 side_by_side b begun = grind (arith, nat_tests)

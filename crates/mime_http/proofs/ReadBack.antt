@@ -104,14 +104,12 @@ module _ (b : ℕ) (front : List ℕ) where
   after_state : (state : State) → Spells state front → Fits (next state b)
   after_state before_type is = grind (arith, cond_both, token_more, behind, one_more)
   after_state (in_type top) is = grind (arith, cond_both, token_more, AreTokenBytes-from_token, more b is.1, eqb-true)
-  after_state (in_subtype top []) is = grind (arith, cond_both, token_more, more b is.2, append_assoc)
   after_state (in_subtype top (s ∷ sub)) is =
       let whole = essence_read is.0 is.1 is.2 in
       grind (arith, cond_both, token_more, more b is.2, append_assoc, space_after, opened, eqb-true, whole)
   after_state (before_semicolon parts) is = grind (arith, cond_both, space_after, opened, eqb-true)
   after_state (after_semicolon parts) is = grind (arith, cond_both, space_inside, token_more, behind, opened, nothing_after, eqb-true)
   after_state (in_name parts name) is = grind (arith, cond_both, token_more, AreTokenBytes-from_token, more b is.1, eqb-true)
-  after_state (in_value parts name []) is = grind (arith, cond_both, token_more, more b is.2, append_assoc, eqb-true)
   after_state (in_value parts name (v ∷ value)) is =
       let whole = parameter_after name (v ∷ value) (with_token name (v ∷ value) is.0 is.1) is.2 in
       grind (arith, cond_both, token_more, more b is.2, append_assoc, space_after, opened, eqb-true, whole)
@@ -119,6 +117,7 @@ module _ (b : ℕ) (front : List ℕ) where
       cond_both (continues content b) _ _ Fits (λ taken. (is.0, IsOpenContent-push content b is.1 taken, rw append_assoc at (more b is.2)))
       (λ stopped. cond_both (b == 34) _ _ Fits (λ same. rw (eqb-true b 34 same) (parameter_after name content
       (with_string name content is.0 (IsContent-closed content b is.1 stopped same)) (rw append_assoc at (more 34 is.2)))) (λ no. tt))
+  after_state begun is = grind (arith, cond_both, token_more, more b is.2, append_assoc, eqb-true)
 
 -- the bytes are what the next state says
 pub spelled_after : (state after : State) (b : ℕ) (front : List ℕ) → next state b ≡ Some after → Spells state front

@@ -40,9 +40,9 @@ at_end (in_string parts name content) value is =
     lacking value (codes "x\"") (in_string parts name content) is (letter_closes parts name content 0) tt
 at_end state value is = (([], rw (append-nil value) (_, read_at_end state value is)), tt)
 
--- ---- a byte that leads nowhere
+-- ---- the fault
 
--- is at fault after bytes that are viable, if reading goes on from a state after them, whatever follows
+-- a byte that leads nowhere is at fault after bytes that are viable, if reading goes on from a state after them, whatever follows,
 dead_at : (state : State) (front : List ℕ) (b : ℕ) (bytes : List ℕ) → next state b ≡ None → IsHttpViable front
     → ((more : List ℕ) → answer_of (front ++ more) ≡ answer_from state (length front) more)
     → IsHttpFault (front ++ (b ∷ bytes)) (InvalidToken (length front) b)
@@ -59,8 +59,6 @@ dead_at state front b bytes stops viable goes = record {
   };
   there = slice_get-prefix front b bytes (length front) refl;
 }
-
--- ---- the fault
 
 -- so the fault is the value's, from a state on
 explained_from : (bytes : List ℕ) (state : State) (at : ℕ) (front : List ℕ) → at ≡ length front → Spells state front
@@ -121,9 +119,9 @@ has_fault fault state at parts is = grind arith
 completed : (value : List ℕ) (fault : ParseError) (front : List ℕ) → value ≡ front ++ last_of fault
     → IsHttpMediaType (value ++ more_of fault) → answer_of value ≡ rejected fault
 completed value fault front same is =
-    let whole = ap (λ bytes. bytes ++ more_of fault) same ∙ append_assoc front (last_of fault) (more_of fault) in
-    let answered = ap answer_of (sym whole) ∙ (http_is_answered _ is.0 is.1).1 in
-    ap answer_of same ∙ sole_from (last_of fault) (more_of fault) fault (has_fault fault) front before_type 0 _ answered
+    let answered = (http_is_answered _ is.0 is.1).1 in
+    let sole = sole_from (last_of fault) (more_of fault) fault (has_fault fault) front before_type 0 in
+    grind (arith, answered, append_assoc, sole)
 
 -- a fault of a value is the answer,
 pub fault_answered : (value : List ℕ) (fault : ParseError) → IsHttpFault value fault → answer_of value ≡ rejected fault
