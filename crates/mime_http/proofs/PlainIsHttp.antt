@@ -84,8 +84,7 @@ ends begun tree is = absurd (none-some tree is)
 pub plain_is_http : PlainIsHttp
 plain_is_http value media reads =
     let (begun, tree, (goes, is)) = walk-accepted value (media, reads) in
-    let found = accepted-from_walk value begun tree goes is in
-    let own : Reads value (value_of tree) = record { tree = tree; well_formed = found.0; spelled = found.1; valued = refl } in
+    let own : Reads value (value_of tree) = grind (arith, accepted-from_walk value begun tree goes is) in
     let answered = ap answer_of (sym (append-nil value)) ∙ over_front value (walked.in_type []) begun goes 0 [] ∙ ends begun tree is in
     let same : media_of (parts_of tree) ≡ with_pairs (value_of tree) (value_of tree).pairs = rw (pairs_of_tail-lowered tree.tail) refl in
     subst (HttpReads value) (one_reading value (value_of tree) media own reads)
@@ -101,15 +100,11 @@ same_byte before text after pos byte white dead space other = by_option (walk te
     let stop = stop-from_walk (walked.in_type []) text none in
     let one = one_fault text (stopped-from_walk text none) in
     let same = one.2 (InvalidToken (length stop.prefix) stop.byte) (dead-from_stop text stop) ∙ sym (one.2 (InvalidToken pos byte) dead) in
-    let there : length stop.prefix ≡ pos = cc same in
-    let here : stop.byte ≡ byte = cc same in
-    let stops = side_by_side stop.byte stop.begun (rw (stop.dead, here, space, ne_eqb byte 59 other) refl) in
-    let whole : before ++ (text ++ after) ≡ before ++ (stop.prefix ++ (stop.byte ∷ (stop.rest ++ after))) =
-    grind (arith, stop.spelled, append_assoc) in
+    let stops = side_by_side stop.byte stop.begun (grind (arith, nat_tests, stop.dead, same, space, other)) in
     let over = over_front stop.prefix (walked.in_type []) stop.begun stop.walked in
     let last = no_way (state_of stop.begun) (0 + length before + pos) stop.byte in
     let answer : answer_of (before ++ (text ++ after)) ≡ rejected (InvalidToken (length before + pos) byte) =
-    grind (arith, stop.dead, over_white before_type keeps_before before white 0, over, last) in
+    grind (arith, stop.dead, stop.spelled, append_assoc, over_white before_type keeps_before before white 0, over, last) in
     answered_fault _ _ answer)
     (λ begun goes. absurd (not_viable-at_dead text pos byte dead (viable-from_walk text begun goes)))
 

@@ -114,9 +114,9 @@ module _ (b : ℕ) (front : List ℕ) where
       let whole = parameter_after name (v ∷ value) (with_token name (v ∷ value) is.0 is.1) is.2 in
       grind (arith, cond_both, token_more, more b is.2, append_assoc, space_after, opened, eqb-true, whole)
   after_state (in_string parts name content) is =
-      cond_both (continues content b) _ _ Fits (λ taken. (is.0, IsOpenContent-push content b is.1 taken, rw append_assoc at (more b is.2)))
-      (λ stopped. cond_both (b == 34) _ _ Fits (λ same. rw (eqb-true b 34 same) (parameter_after name content
-      (with_string name content is.0 (IsContent-closed content b is.1 stopped same)) (rw append_assoc at (more 34 is.2)))) (λ no. tt))
+      let whole = λ (closed : IsContent content).
+      parameter_after {parts = parts} {front = front ++ (b ∷ [])} name content (with_string name content is.0 closed) in
+      grind (arith, cond_both, IsOpenContent-push, more b is.2, append_assoc, IsContent-closed, eqb-true, whole)
   after_state begun is = grind (arith, cond_both, token_more, more b is.2, append_assoc, eqb-true)
 
 -- the bytes are what the next state says
