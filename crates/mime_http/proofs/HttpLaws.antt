@@ -7,9 +7,7 @@ use Rattle.mime_http.specs.declared.value.FieldError.TheVariants as field
 
 -- what is found of the parts
 are_found : (value : List ℕ) (parts : Parts) → answer_of value ≡ read parts → AreFound value parts
-are_found value parts is =
-    let found = http_is_answered value (media_of parts) (answered_is_http value parts is) in
-    subst (AreFound value) (cc (found.1, is)) found.3
+are_found value parts is = grind (arith, http_is_answered value (media_of parts) (answered_is_http value parts is))
 
 -- What is written is read,
 pub written_reads : (value : List ℕ) (parts : Parts) → answer_of value ≡ read parts → Reads (text_of_parts parts) (media_of parts)
@@ -56,7 +54,7 @@ printed_is_read value media is (as_it_stands _ _ reads) =
     let kept = kept_is_read (trimmed value) media reads in (kept, plain_is_http media.kept media kept)
 printed_is_read value media is (anew _ _ isnt same) =
     let (parts, answered, media_is, found) = http_is_answered value media is in
-    let kept = kept_is_read _ media (subst (Reads (text_of_parts parts)) (media_is ∙ sym same) (written_reads value parts answered)) in
+    let kept = kept_is_read (text_of_parts parts) media (grind (arith, media_is, same, written_reads value parts answered)) in
     (kept, plain_is_http media.kept media kept)
 
 -- ---- what the library keeps

@@ -48,11 +48,9 @@ side_by_side b begun = grind (arith, nat_tests)
 over_front : (front : List ℕ) (begun last : Begun) → walk_from begun front ≡ Some last → (at : ℕ) (bytes : List ℕ)
     → answer_from (state_of begun) at (front ++ bytes) ≡ answer_from (state_of last) (at + length front) bytes
 over_front [] begun last goes at bytes = grind (arith, same_Some begun last goes)
-over_front (b ∷ front) begun last goes at bytes = by_option (grow begun b)
-    (λ stops. absurd (none-some last (rw stops at goes)))
-    (λ more grown.
-    let step = side_by_side b begun (rw grown refl) in
-    grind (arith, step, grown, over_front front more last (rw grown at goes) (at + 1) bytes))
+over_front (b ∷ front) begun last goes at bytes =
+    let rest = λ (more : Begun) (goes : walk_from more front ≡ Some last). over_front front more last goes (at + 1) bytes in
+    grind (arith, side_by_side b begun, rest)
 
 -- ---- what the library reads
 
