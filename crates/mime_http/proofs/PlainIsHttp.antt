@@ -83,10 +83,11 @@ pub plain_is_http : PlainIsHttp
 plain_is_http value media reads =
     let (begun, tree, (goes, is)) = walk-accepted value (media, reads) in
     let own : Reads value (value_of tree) = grind (arith, accepted-from_walk value begun tree goes is) in
-    let answered = ap answer_of (sym (append-nil value)) ∙ over_front value (walked.in_type []) begun goes 0 [] ∙ ends begun tree is in
-    let same : media_of (parts_of tree) ≡ with_pairs (value_of tree) (value_of tree).pairs = rw (pairs_of_tail-lowered tree.tail) refl in
-    subst (HttpReads value) (one_reading value (value_of tree) media own reads)
-    (white_more _ [] [] refl refl (subst (HttpReads value) same (answered_is_http value (parts_of tree) answered)) (append-nil value))
+    let answered : answer_of value ≡ read (parts_of tree) =
+    grind (arith, append-nil value, over_front value (walked.in_type []) begun goes 0 [], ends begun tree is) in
+    let same : media_of (parts_of tree) ≡ with_pairs media media.pairs =
+    grind (arith, pairs_of_tail-lowered tree.tail, one_reading value (value_of tree) media own reads) in
+    white_more _ [] [] refl refl (rw same at (answered_is_http value (parts_of tree) answered)) (append-nil value)
 
 -- ---- where it stops
 

@@ -149,11 +149,10 @@ read_at_end other value is = tt
 pub read_from : (bytes : List ℕ) (state : State) (at : ℕ) (front : List ℕ) → Spells state front
     → IsRead (front ++ bytes) (answer_from state at bytes)
 read_from [] state at front is = rw (append-nil front) (read_at_end state front is)
-read_from (b ∷ bytes) state at front is = by_option (next state b)
-    (λ stops. rw stops tt)
-    (λ after goes.
-    let is = spelled_after state after b front goes is in
-    rw goes (rw append_assoc at (read_from bytes after (at + 1) (front ++ (b ∷ [])) is)))
+read_from (b ∷ bytes) state at front is =
+    let rest = λ (after : State) (goes : next state b ≡ Some after).
+    read_from bytes after (at + 1) (front ++ (b ∷ [])) (spelled_after state after b front goes is) in
+    grind (arith, rest, append_assoc)
 
 -- so what is read of a value is what HTTP writes
 pub answered_is_http : (value : List ℕ) (parts : Parts) → answer_of value ≡ read parts → HttpReads value (media_of parts)
