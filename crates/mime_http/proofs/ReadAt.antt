@@ -97,7 +97,7 @@ at_end value at state past = ap (answer_from state at) (drop_of_length-le value 
 -- a byte that is neither of two kinds goes nowhere
 pub neither : {X : Type 0} (one other : Bool) (x y : X) → one ≡ false → other ≡ false
     → (if one then Some x else (if other then Some y else None)) ≡ None
-neither one other x y isnt nor = grind (arith)
+neither one other x y isnt nor = grind arith
 
 -- so where nothing goes on there is a fault
 pub stuck : (value : List ℕ) (at : ℕ) (state : State) (missing : ParseError) → at ≤ length value
