@@ -1,5 +1,5 @@
 -- White space around a text, and ASCII bytes in a text in UTF-8.
-use Rattle.mime_http.proofs.Common.{AreSpaces, AreTokenBytes, IsAscii, IsAscii-cons, IsAscii-nil, IsCharBoundary-after_ascii, IsCharBoundary-before_ascii, IsUtf8, IsUtf8-append, IsUtf8-drop, IsUtf8-from_ascii, IsUtf8-take, List, [], and_parts, append-nil, arith, drop-append-add, get_or, get_or_from_slice_get, is_space, is_token_byte, length, length-append, nat_tests, refl, slice_get-prefix, subst, take-append_seam, ℕ, ⊤, ◌++◌, ◌+◌, ◌<◌, ◌∷◌, and_from, ap, cond_both, false, if◌then◌else◌, list_all-append, suc, take, take_all, take_more, trim_end, trim_start, trimmed, ◌-◌, ◌≡◌, ◌≤◌, HttpReads, MediaType, append_assoc, list_all, sym, ◌∙◌, IsUtf8-nil}
+use Rattle.mime_http.proofs.Common.{AreSpaces, IsToken, AreTokenBytes-from_token, AreTokenBytes, IsAscii, IsAscii-cons, IsAscii-nil, IsCharBoundary-after_ascii, IsCharBoundary-before_ascii, IsUtf8, IsUtf8-append, IsUtf8-drop, IsUtf8-from_ascii, IsUtf8-take, List, [], and_parts, append-nil, arith, drop-append-add, get_or, get_or_from_slice_get, is_space, is_token_byte, length, length-append, nat_tests, refl, slice_get-prefix, take-append_seam, ℕ, ⊤, ◌++◌, ◌+◌, ◌<◌, ◌∷◌, and_from, ap, cond_both, false, if◌then◌else◌, list_all-append, suc, take, take_all, take_more, trim_end, trim_start, trimmed, ◌-◌, ◌≡◌, ◌≤◌, HttpReads, MediaType, append_assoc, list_all, sym, ◌∙◌, IsUtf8-nil}
 use Rattle.mime_http.proofs.{Runs.spaces-append}
 
 -- ---- ASCII bytes
@@ -13,14 +13,12 @@ AreAscii (b ∷ bytes) = (b < 128) × AreAscii bytes
 pub token_bytes_ascii : (bytes : List ℕ) → AreTokenBytes bytes → AreAscii bytes
 unfolding is_token_byte
 token_bytes_ascii [] all = tt
-token_bytes_ascii (b ∷ bytes) all =
-    let parts = and_parts (is_token_byte b) _ all in (grind (arith, nat_tests, parts.0), token_bytes_ascii bytes parts.1)
+token_bytes_ascii (b ∷ bytes) all = grind (arith, token_bytes_ascii bytes, and_parts, nat_tests)
 
 -- and so is white space
 pub spaces_ascii : (bytes : List ℕ) → AreSpaces bytes → AreAscii bytes
 spaces_ascii [] all = tt
-spaces_ascii (b ∷ bytes) all =
-    let parts = and_parts (is_space b) _ all in (grind (arith, nat_tests, parts.0), spaces_ascii bytes parts.1)
+spaces_ascii (b ∷ bytes) all = grind (arith, spaces_ascii bytes, and_parts, nat_tests)
 
 -- such a text is in UTF-8
 pub ascii_is_utf8 : (bytes : List ℕ) → IsAscii bytes → IsUtf8 bytes
@@ -30,22 +28,24 @@ ascii_is_utf8 = IsUtf8-from_ascii
 pub put_one : (b : ℕ) (bytes : List ℕ) → b < 128 → IsUtf8 bytes → IsUtf8 (b ∷ bytes)
 put_one b bytes ascii is = IsUtf8-append (b ∷ []) bytes (IsUtf8-from_ascii (b ∷ []) (IsAscii-cons b [] ascii IsAscii-nil)) is
 
--- and so may more of them
+-- and so may more of them,
 pub put_ascii : (xs ys : List ℕ) → AreAscii xs → IsUtf8 ys → IsUtf8 (xs ++ ys)
 put_ascii [] ys all is = is
 put_ascii (b ∷ xs) ys all is = put_one b (xs ++ ys) all.0 (put_ascii xs ys all.1 is)
+
+-- such as a token,
+pub put_token : (token bytes : List ℕ) → IsToken token → IsUtf8 bytes → IsUtf8 (token ++ bytes)
+put_token token bytes is = put_ascii token bytes (token_bytes_ascii token (AreTokenBytes-from_token token is))
 
 -- a text in UTF-8 is so before and after one,
 pub around : (run : List ℕ) (b : ℕ) (bytes : List ℕ) → b < 128 → IsUtf8 (run ++ (b ∷ bytes)) → IsUtf8 run × IsUtf8 bytes
 around run b bytes ascii is =
     let whole : List ℕ = run ++ (b ∷ bytes) in
     let within : length run < length whole = omega (arith, length-append run (b ∷ bytes)) in
-    let there = get_or_from_slice_get whole (length run) b 0 (slice_get-prefix run b bytes (length run) refl) in
-    let below : get_or whole (length run) 0 < 128 = omega (arith, there, ascii) in (
-      subst IsUtf8 (take-append_seam run (b ∷ bytes))
-          (IsUtf8-take whole (length run) is (IsCharBoundary-before_ascii whole (length run) within below)),
-      subst IsUtf8 (drop-append-add run (b ∷ bytes) 1)
-          (IsUtf8-drop whole (length run + 1) is (IsCharBoundary-after_ascii whole (length run) is within below)),
+    let below : get_or whole (length run) 0 < 128 =
+    grind (arith, get_or_from_slice_get whole (length run) b 0, slice_get-prefix run b bytes) in (
+      rw take-append_seam at (IsUtf8-take whole (length run) is (IsCharBoundary-before_ascii whole (length run) within below)),
+      rw drop-append-add at (IsUtf8-drop whole (length run + 1) is (IsCharBoundary-after_ascii whole (length run) is within below)),
     )
 
 -- after more of them,
@@ -53,9 +53,15 @@ pub past_ascii : (xs ys : List ℕ) → AreAscii xs → IsUtf8 (xs ++ ys) → Is
 past_ascii [] ys all is = is
 past_ascii (b ∷ xs) ys all is = past_ascii xs ys all.1 (around [] b (xs ++ ys) all.0 is).1
 
+-- after a token, which is in UTF-8 as well,
+pub past_token : (token bytes : List ℕ) → IsToken token → IsUtf8 (token ++ bytes) → IsUtf8 token × IsUtf8 bytes
+past_token token bytes is utf8 =
+    let ascii = token_bytes_ascii token (AreTokenBytes-from_token token is) in
+    (rw append-nil at (put_ascii token [] ascii IsUtf8-nil), past_ascii token bytes ascii utf8)
+
 -- and before them
 pub before_ascii : (xs ys : List ℕ) → AreAscii ys → IsUtf8 (xs ++ ys) → IsUtf8 xs
-before_ascii xs [] all is = subst IsUtf8 (append-nil xs) is
+before_ascii xs [] all is = rw append-nil at is
 before_ascii xs (b ∷ ys) all is = (around xs b ys all.0 is).0
 
 -- ---- a piece without the white space around it
@@ -71,7 +77,7 @@ split_white (b ∷ bytes) =
 -- nothing is left of white space,
 trimmed_start : (piece : List ℕ) → AreSpaces piece → trim_start piece ≡ []
 trimmed_start [] all = refl
-trimmed_start (b ∷ piece) all = let parts = and_parts (is_space b) _ all in rw parts.0 (trimmed_start piece parts.1)
+trimmed_start (b ∷ piece) all = grind (arith, trimmed_start piece)
 
 -- on neither side
 pub trimmed_from_blank : (piece : List ℕ) → AreSpaces piece → trimmed piece ≡ []
@@ -85,15 +91,12 @@ trim_end-last (c ∷ bytes) b = grind (arith, trim_end-last bytes b, list_all-ap
 -- the same, counted to the end
 pub last_trimmed : (piece : List ℕ) (end : ℕ) → 0 < end → end ≤ length piece → trim_end (take end piece)
     ≡ (if is_space (get_or piece (end - 1) 0) then trim_end (take (end - 1) piece) else take end piece)
-last_trimmed piece end some within =
-    grind (arith, take_more piece (end - 1) 0, trim_end-last (take (end - 1) piece) (get_or piece (end - 1) 0))
+last_trimmed piece end some within = grind (arith, take_more piece (end - 1) 0, trim_end-last (take (end - 1) piece))
 
 -- so nothing is left out of bytes of which the last is no white space
 pub nothing_after : (piece : List ℕ) → (0 < length piece → is_space (get_or piece (length piece - 1) 0) ≡ false) → trim_end piece ≡ piece
 nothing_after [] other = refl
-nothing_after (b ∷ bytes) other =
-    rw (take_all (length bytes) bytes (omega arith), other (omega arith))
-    at (last_trimmed (b ∷ bytes) (suc (length bytes)) (omega arith) (omega arith))
+nothing_after (b ∷ bytes) other = grind (arith, take_all (length bytes) bytes, last_trimmed (b ∷ bytes) (suc (length bytes)))
 
 -- ---- the white space around a value
 
@@ -117,43 +120,29 @@ white_around value =
 pub utf8_trimmed : (value : List ℕ) → IsUtf8 value → IsUtf8 (trimmed value)
 utf8_trimmed value utf8 =
     let (before, after, first, last, same) = white_around value in
-    before_ascii (trimmed value) after (spaces_ascii after last)
-    (past_ascii before _ (spaces_ascii before first) (subst IsUtf8 same utf8))
+    before_ascii _ after (spaces_ascii after last) (past_ascii before _ (spaces_ascii before first) (rw same at utf8))
 
 -- and the other way.
 pub utf8_around : (value : List ℕ) → IsUtf8 (trimmed value) → IsUtf8 value
 utf8_around value utf8 =
     let (before, after, first, last, same) = white_around value in
-    let ended = subst IsUtf8 (append-nil after) (put_ascii after [] (spaces_ascii after last) IsUtf8-nil) in
-    subst IsUtf8 (sym same) (put_ascii before _ (spaces_ascii before first) (IsUtf8-append (trimmed value) after utf8 ended))
+    let ended = rw append-nil at (put_ascii after [] (spaces_ascii after last) IsUtf8-nil) in
+    rw same (put_ascii before _ (spaces_ascii before first) (IsUtf8-append (trimmed value) after utf8 ended))
 
 -- If nothing is left of it, it is white space.
 pub blank_from_trimmed : (value : List ℕ) → trimmed value ≡ [] → AreSpaces value
 blank_from_trimmed value none =
-    let (before, after, first, last, same) = white_around value in
-    subst AreSpaces (sym (same ∙ ap (λ left. before ++ (left ++ after)) none)) (spaces-append before after first last)
+    let (before, after, first, last, same) = white_around value in rw (same, none) (spaces-append before after first last)
 
 -- ---- HTTP's reading
 
 -- what is read stays with more white space around it, and with another kept text
 pub white_more : {text value : List ℕ} {media : MediaType} (kept before after : List ℕ) → AreSpaces before → AreSpaces after
     → HttpReads text (record media { kept = kept }) → before ++ (text ++ after) ≡ value → HttpReads value media
-white_more kept before after first last reads same = record {
-  before = before ++ reads.before;
-  top = reads.top;
-  sub = reads.sub;
-  parameters = reads.parameters;
-  after = reads.after ++ after;
-  spelled = (simp append_assoc) ∙ (ap (λ bytes. before ++ (bytes ++ after)) reads.spelled ∙ same);
-  white_before = spaces-append before reads.before first reads.white_before;
-  is_top = reads.is_top;
-  is_sub = reads.is_sub;
-  are_parameters = reads.are_parameters;
-  white_after = spaces-append reads.after after reads.white_after last;
-  essence = reads.essence;
-  slash = reads.slash;
-  plus = reads.plus;
-}
+white_more {value = value} kept before after first last reads same =
+    let whole : (before ++ reads.before) ++ (reads.top ++ (47 ∷ (reads.sub ++ (reads.parameters ++ (reads.after ++ after))))) ≡ value =
+    (simp append_assoc) ∙ (ap (λ bytes. before ++ (bytes ++ after)) reads.spelled ∙ same) in
+    rw (← whole) (grind (arith, spaces-append))
 
 -- so a value is a media type if it is one without the white space around it
 pub reads_around : (value : List ℕ) (media : MediaType) → HttpReads (trimmed value) media → HttpReads value media

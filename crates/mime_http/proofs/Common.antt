@@ -20,8 +20,7 @@ pub use Rattle.mime_http.specs.Reader.{Answer, Holds, IsClosedAt, IsEssenceAt, I
 pub use Rattle.mime_http.specs.Written.{WrittenIsMeant, escaped, is_token_value, others, quote_of, text_of_pair, text_of_pairs, with_pair, with_pairs}
 pub use Rattle.mime_http.specs.{Boundary.IsBoundary, Boundary.IsBoundaryOf, Boundary.is_bchar, Digits.read_number, Digits.worth, HttpPrinted.field_error_text, Unescaped.unescaped, Weight.thousandths_of, declared.quoted.Form.Form, declared.quoted.Form.TheVariants.Token}
 pub use Rattle.std.proofs.Common.{Bool, Bor, Err, List, None, Ok, Option, Some, [], ap, append-nil, append_assoc, ap₂, arith, cond, drop, false, get_or, inl, inr, is_some, length, length-append, length-drop, map, refl, replicate, rules, string_bytes, subst, suc, sym, take, true, w8, zero, ℕ, ⊎_elim, ◌%◌, ◌*◌, ◌++◌, ◌+◌, ◌-◌, ◌/◌, ◌<◌, ◌==◌, ◌^◌, ◌||◌, ◌∙◌, ◌∷◌, ◌≡◌, ◌≢◌, ◌≤◌, ◌⊎◌}
-pub use Rattle.std.proofs.Math.ListN.{drop_of_length-le}
-pub use Rattle.std.proofs.Math.Seq.{drop-append-add, drop-append_seam, drop-cons, drop-length, take-add, take-append-add, take-append_seam, take-length}
+pub use Rattle.std.proofs.Math.{ListN.drop_of_length-le, Nat.mul-le-mul_left, Numerals.one-add, Seq.drop-append-add, Seq.drop-append_seam, Seq.drop-cons, Seq.drop-length, Seq.take-add, Seq.take-append-add, Seq.take-append_seam, Seq.take-length}
 pub use Rattle.std.proofs.lemmas.Bool.{not-true, and_from, and_parts, cases_Bool, cases_lt, cond_both, eqb-true, false_from_ne_true, ne_eqb, true≢false}
 pub use Rattle.std.proofs.lemmas.Cmp.{back_total, nat_cmp_total, on_total, then_total}
 pub use Rattle.std.proofs.lemmas.List.Elements.{All-from_recursion, recursion_from_All, All-contains, Contains-get_or, All-filter, All-map, All-push, Contains-append_left, Contains-append_right}
@@ -40,4 +39,3 @@ pub use Rattle.std.specs.Prelude.{IsOk, Contains, IfErr, IfOk, IfSome, IsUtf8, M
 pub use Rattle.std.specs.{Char.is_ascii_uppercase, Simd.Lanes.zip2, Char.is_ascii_digit, Char.to_ascii_lowercase, Cmp.IsTotalOrder, Cmp.Lexicographic.same_text, Str.IsAscii, Vec.vec_items, declared.cmp.Ordering.Ordering, declared.cmp.Ordering.TheVariants.Equal, declared.cmp.Reverse.Reverse}
 pub use lib.Lanes.{chunk, mask_l, top}
 pub use Rattle.mime_search.specs.Classes.{is_stop}
-pub use Rattle.std.proofs.Math.Nat.{mul-le-mul_left}

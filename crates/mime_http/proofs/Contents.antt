@@ -1,16 +1,11 @@
 -- The content of quoted strings: what is written for a value and in which form, what needs no backslash, and what it means.
-use Rattle.mime_http.proofs.Common.{AreHeaderBytes, AreTokenBytes-from_token, Bool, IsBoundary, IsContent, IsToken, List, WrittenIsMeant, [], and_parts, ap, append-nil, append_assoc, arith, cases_Bool, cond, drop, drop-append-add, drop-length, drop_of_length-le, eqb-true, escaped, false, false_from_ne_true, get_or, if◌then◌else◌, is_bchar, is_charset, is_quoted_byte, is_quoted_text_byte, is_token_byte, length, list_all, list_all-wider, lowered, lowered_value, lowered_value-either, nat_tests, no_byte, not, quoted_pair, refl, suc, sym, take, take-append-add, take-length, text_byte, to_ascii_lowercase, true, unescaped, zero, ℕ, ⊎_elim, ◌&&◌, ◌*◌, ◌++◌, ◌+◌, ◌<◌, ◌==◌, ◌||◌, ◌∙◌, ◌∷◌, ◌≡◌, ◌≢◌, ◌≤◌, Form, flat_map-append, text_of_pairs, Token, bit_and, drop-cons, form_of, is_plain, is_token_value, kind_of, list_all-append, prefix_len, prefix_len-le-length, prefix_len_stops, take_more, text_in, text_of_pair, is_ascii_uppercase}
+use Rattle.mime_http.proofs.Common.{AreHeaderBytes, one-add, AreTokenBytes-from_token, Bool, IsBoundary, IsContent, IsToken, List, WrittenIsMeant, [], and_parts, ap, append-nil, append_assoc, arith, cases_Bool, cond, drop, drop-append-add, drop-length, drop_of_length-le, eqb-true, escaped, false, false_from_ne_true, get_or, if◌then◌else◌, is_bchar, is_charset, is_quoted_byte, is_quoted_text_byte, is_token_byte, length, list_all, list_all-wider, lowered, lowered_value, lowered_value-either, nat_tests, no_byte, not, quoted_pair, refl, suc, sym, take, take-append-add, take-length, text_byte, to_ascii_lowercase, true, unescaped, zero, ℕ, ⊎_elim, ◌&&◌, ◌*◌, ◌++◌, ◌+◌, ◌<◌, ◌==◌, ◌||◌, ◌∙◌, ◌∷◌, ◌≡◌, ◌≢◌, ◌≤◌, Form, flat_map-append, text_of_pairs, Token, bit_and, drop-cons, form_of, is_plain, is_token_value, kind_of, list_all-append, prefix_len, prefix_len-le-length, prefix_len_stops, take_more, text_in, text_of_pair, is_ascii_uppercase}
 use Rattle.mime_http.{specs.declared.quoted.Form.TheVariants.Quoted, proofs.Written.token_from_test}
-
--- whether a byte is written after a backslash
-abbrev pub is_special : ℕ → Bool
-is_special b = b == 34 || b == 92
 
 -- bytes that stand in quotes as they are need no backslash,
 pub plain_text : (bytes : List ℕ) → list_all is_quoted_text_byte bytes ≡ true → escaped bytes ≡ bytes
 plain_text [] all = refl
-plain_text (b ∷ bytes) all =
-    grind (arith, nat_tests, all, plain_text bytes)
+plain_text (b ∷ bytes) all = grind (arith, nat_tests, plain_text bytes)
 
 -- and may stand in a header
 pub safe_text : (bytes : List ℕ) → list_all is_quoted_text_byte bytes ≡ true → AreHeaderBytes bytes
@@ -32,11 +27,6 @@ boundary_text bytes is = list_all-wider is_bchar is_quoted_text_byte (λ b is. g
 
 -- ---- bytes before the first backslash
 
--- a byte other than a backslash means itself
-plain_first : (b : ℕ) (bytes : List ℕ) → (b == 92) ≡ false → unescaped (b ∷ bytes) ≡ b ∷ unescaped bytes
-plain_first b [] other = rw other refl
-plain_first b (c ∷ bytes) other = rw other refl
-
 -- what the rest of a value means byte by byte, after a backslash that begins a pair, or not
 abbrev pub unescaped_from : Bool → List ℕ → List ℕ
 unescaped_from paired [] = []
@@ -56,23 +46,17 @@ pub unescaped_before : (bytes : List ℕ) (at : ℕ) → at ≤ length bytes →
     → unescaped bytes ≡ take at bytes ++ unescaped (drop at bytes)
 unescaped_before bytes zero within none = refl
 unescaped_before [] (suc at) within none = refl
-unescaped_before (b ∷ bytes) (suc at) within none =
-    let other : (b == 92) ≡ false = false_from_ne_true _ (λ is. none 0 (omega arith) (eqb-true b 92 is)) in
-    plain_first b bytes other
-    ∙ ap (λ rest. b ∷ rest) (unescaped_before bytes at (omega (arith, within)) (λ i below. none (suc i) (omega (arith, below))))
+unescaped_before (b ∷ bytes) (suc at) within none = grind (arith, nat_tests, none 0, unescaped_before bytes at, λ (i : ℕ). none (suc i))
 
 -- without a backslash all do
 pub unescaped_same : (bytes : List ℕ) → ((i : ℕ) → i < length bytes → get_or bytes i 0 ≢ 92) → unescaped bytes ≡ bytes
-unescaped_same bytes none =
-    rw (unescaped_before bytes (length bytes) (omega arith) none, drop-length bytes, take-length bytes) (append-nil bytes)
+unescaped_same bytes none = grind (arith, unescaped_before bytes (length bytes), drop-length, take-length, append-nil)
 
 -- so do those at the end of a buffer
 pub unescaped_end : (front value : List ℕ) (start at : ℕ) → start ≡ length front → at ≤ length value
     → ((i : ℕ) → i < at → get_or value i 0 ≢ 92)
     → take (start + at) (front ++ value) ++ unescaped (drop (start + at) (front ++ value)) ≡ front ++ unescaped value
-unescaped_end front value start at long within none =
-    rw (long, drop-append-add front value at, take-append-add front value at, append_assoc front (take at value) _)
-    (ap (λ rest. front ++ rest) (sym (unescaped_before value at within none)))
+unescaped_end front value start at long within none = grind (arith, drop-append-add, take-append-add, append_assoc, unescaped_before)
 
 -- two bytes stand for each at most, and a backslash at the end for none
 pub length-unescaped : (bytes : List ℕ) → length bytes ≤ 2 * length (unescaped bytes) + 1
@@ -85,16 +69,12 @@ length-unescaped (b ∷ c ∷ bytes) = grind (arith, length-unescaped bytes, len
 -- it is quoted content
 pub content_of_escaped : (value : List ℕ) → AreHeaderBytes value → IsContent (escaped value)
 content_of_escaped [] all = no_byte
-content_of_escaped (b ∷ value) all =
-    let parts = and_parts (is_quoted_byte b) (list_all is_quoted_byte value) all in
-    let rest = content_of_escaped value parts.1 in
-    ⊎_elim (λ special. rw special (quoted_pair b (escaped value) parts.0 rest))
-    (λ plain. rw plain (text_byte b (escaped value) (rw (parts.0, plain) refl) rest)) (cases_Bool (is_special b))
+content_of_escaped (b ∷ value) all = grind (arith, nat_tests, content_of_escaped value, text_byte, quoted_pair)
 
 -- it means the value
 meant : (value : List ℕ) → unescaped (escaped value) ≡ value
 meant [] = refl
-meant (b ∷ value) = grind (arith, meant value, plain_first b (escaped value))
+meant (b ∷ value) = grind (arith, meant value, unescaped_is (escaped (b ∷ value)), unescaped_is (escaped value))
 
 -- so a boundary means itself
 pub boundary_means_itself : (bytes : List ℕ) → IsBoundary bytes → unescaped bytes ≡ bytes
@@ -103,8 +83,7 @@ boundary_means_itself bytes is = ap unescaped (sym (plain_text bytes (boundary_t
 -- lowercasing it is writing the value in lowercase
 lowered_escaped : (value : List ℕ) → lowered (escaped value) ≡ escaped (lowered value)
 lowered_escaped [] = refl
-lowered_escaped (b ∷ value) =
-    grind (arith, nat_tests, lowered_escaped value)
+lowered_escaped (b ∷ value) = grind (arith, nat_tests, lowered_escaped value)
 
 -- a text without capitals is in lowercase,
 pub no_capital : (bytes : List ℕ) → list_all (λ b. not (is_ascii_uppercase b)) bytes ≡ true → lowered bytes ≡ bytes
@@ -113,23 +92,17 @@ no_capital (b ∷ bytes) all = grind (arith, nat_tests, all, no_capital bytes)
 
 -- so a value without capitals stays as it is written where it is read in lowercase
 pub kept_low : (name value : List ℕ) → lowered value ≡ value → lowered_value name (escaped value) ≡ escaped value
-kept_low name value low =
-    lowered_value-either (λ bytes. bytes ≡ escaped value) name (escaped value) refl (lowered_escaped value ∙ ap escaped low)
+kept_low name value low = grind (arith, lowered_escaped, low)
 
 -- what is written for a value means the value
 pub written_is_meant : WrittenIsMeant
-written_is_meant name value =
-    elim (is_charset name) as (λ low. unescaped (cond low (lowered (escaped value)) (escaped value)) ≡ cond low (lowered value) value) [
-      | true ↦ ap unescaped (lowered_escaped value) ∙ meant (lowered value)
-      | false ↦ meant value
-    ]
+written_is_meant name value = grind (arith, lowered_escaped, meant)
 
 -- ---- the kinds of bytes
 
 -- the kind of joined bytes
 pub kind_of-append : (xs ys : List ℕ) → kind_of (xs ++ ys) ≡ bit_and (kind_of xs) (kind_of ys)
-kind_of-append xs ys =
-    grind (arith, list_all-append is_token_byte xs ys, list_all-append is_quoted_text_byte xs ys, list_all-append is_quoted_byte xs ys)
+kind_of-append xs ys = grind (arith, list_all-append)
 
 -- the kind of the bytes so far and one more
 pub kind_of_more : (xs : List ℕ) (i : ℕ) → i < length xs
@@ -147,11 +120,9 @@ pub record Seen (value : List ℕ) (kind : ℕ) (left : List ℕ) : Type 0 where
 -- the kind seen so far, after one more block
 pub block_seen : {value : List ℕ} {kind : ℕ} {left : List ℕ} → Seen value kind left → (block rest : List ℕ) → left ≡ block ++ rest
     → Seen value (bit_and kind (kind_of block)) rest
-block_seen seen block rest is = record {
-  bytes = seen.bytes ++ block;
-  split = append_assoc seen.bytes block rest ∙ ap (λ left. seen.bytes ++ left) (sym is) ∙ seen.split;
-  is = ap (λ kind. bit_and kind (kind_of block)) seen.is ∙ sym (kind_of-append seen.bytes block);
-}
+block_seen {value} seen block rest is =
+    let whole : (seen.bytes ++ block) ++ rest ≡ value = grind (arith, append_assoc, seen.split) in
+    rw (← whole) (grind (arith, kind_of-append, seen.is))
 
 -- a byte whose kind says that it needs no backslash is plain
 pub plain_from_kind : (b : ℕ) → kind_of (b ∷ []) ≢ 1 → is_plain b ≡ true
@@ -161,8 +132,7 @@ plain_from_kind b other = grind (arith, nat_tests)
 -- one more
 pub plain_more : (bytes : List ℕ) (n : ℕ) → n < length bytes → is_plain (get_or bytes n 0) ≡ true
     → n + prefix_len is_plain (drop n bytes) ≡ (n + 1) + prefix_len is_plain (drop (n + 1) bytes)
-plain_more bytes n within plain =
-    grind (arith, drop-cons bytes n 0 within)
+plain_more bytes n within plain = grind (arith, drop-cons)
 
 -- ---- what is written, run by run
 
@@ -170,41 +140,32 @@ plain_more bytes n within plain =
 pub run_written : (bytes : List ℕ)
     → take (prefix_len is_plain bytes) bytes ++ escaped (drop (prefix_len is_plain bytes) bytes) ≡ escaped bytes
 run_written [] = refl
-run_written (b ∷ bytes) =
-    let longer : 1 + prefix_len is_plain bytes ≡ suc (prefix_len is_plain bytes) = omega arith in grind (arith, longer, run_written bytes)
+run_written (b ∷ bytes) = grind (arith, one-add (prefix_len is_plain bytes), run_written bytes)
 
 -- a backslash is written before a byte that needs it, and both before the next run
 byte_written : (bytes : List ℕ) (end : ℕ) → 0 < length bytes → is_plain (get_or bytes 0 0) ≡ false
     → end ≡ 1 + prefix_len is_plain (drop 1 bytes) → escaped bytes ≡ 92 ∷ (take end bytes ++ escaped (drop end bytes))
 byte_written [] end some special is = absurd (omega (arith, some))
-byte_written (b ∷ bytes) end some special is =
-    let longer : end ≡ suc (prefix_len is_plain bytes) = omega (arith, is) in grind (arith, longer, special, run_written bytes)
+byte_written (b ∷ bytes) end some special is = grind (arith, one-add (prefix_len is_plain bytes), run_written bytes)
 
 -- what is written after a special byte, up to the next, and what is left
 pub more_written : (text left bytes whole : List ℕ) (run end : ℕ) → bytes ≡ drop run left → 0 < length bytes
     → is_plain (get_or bytes 0 0) ≡ false → end ≡ 1 + prefix_len is_plain (drop 1 bytes)
     → text ++ (take run left ++ escaped (drop run left)) ≡ whole
     → ((text ++ take run left) ++ (92 ∷ [])) ++ (take end bytes ++ escaped (drop end bytes)) ≡ whole
-more_written text left bytes whole run end are some special is_end is =
-    append_assoc (text ++ take run left) (92 ∷ []) _
-    ∙ append_assoc text (take run left) _
-    ∙ ap (λ rest. text ++ (take run left ++ rest)) (sym (byte_written bytes end some special is_end) ∙ ap escaped are)
-    ∙ is
+more_written text left bytes whole run end are some special is_end is = grind (arith, append_assoc, byte_written)
 
 -- the next run ends at the end or before a byte that needs a backslash
 pub next_end : (bytes : List ℕ) (end : ℕ) → 0 < length bytes → end ≡ 1 + prefix_len is_plain (drop 1 bytes)
     → (end ≤ length bytes) × (end < length bytes → is_plain (get_or bytes end 0) ≡ false)
 next_end [] end some is = absurd (omega (arith, some))
-next_end (b ∷ bytes) end some is =
-    (omega (arith, is, prefix_len-le-length is_plain bytes), λ within. grind (arith, prefix_len_stops is_plain bytes 0))
+next_end (b ∷ bytes) end some is = grind (arith, prefix_len-le-length, prefix_len_stops is_plain bytes 0)
 
 -- a value of the last kind is a token
 pub token_from_kind : (value : List ℕ) → 0 < length value → kind_of value ≢ 0 → kind_of value ≢ 1 → kind_of value ≢ 3
     → (is_token_value value ≡ true) × (list_all is_quoted_byte value ≡ true)
 token_from_kind [] some no_bits quoted text = absurd (omega (arith, some))
-token_from_kind (b ∷ bytes) some no_bits quoted text =
-    let plain = list_all-wider is_token_byte is_quoted_text_byte token_byte_text (b ∷ bytes) in
-    grind (arith, no_bits, quoted, text, plain, safe_text (b ∷ bytes))
+token_from_kind (b ∷ bytes) some no_bits quoted text = grind (arith, token_text (b ∷ bytes), safe_text (b ∷ bytes))
 
 -- ---- what is written in a form
 
@@ -218,29 +179,15 @@ unfolding is_token_byte
 all_tokens [] = refl
 all_tokens (b ∷ value) = grind (arith, nat_tests, all_tokens value)
 
-same_test : (value : List ℕ) → is_token_value (escaped value) ≡ is_token_value value
-unfolding is_token_byte
-same_test [] = refl
-same_test (b ∷ value) = grind (arith, nat_tests, all_tokens value)
-
 -- a value is written in its form
 pub form_text : (name value : List ℕ) → text_in (form_of value) name value ≡ text_of_pair (name, escaped value)
-form_text name value =
-    let token : is_token_value value ≡ true → escaped value ≡ value =
-    λ is. plain_text value (token_text value (token_from_test value is)) in
-    grind (arith, same_test value, plain_text value)
+form_text name [] = refl
+form_text name (b ∷ value) = grind (arith, all_tokens (b ∷ value), plain_text (b ∷ value), token_text (b ∷ value))
 
 -- so one more is written after all
 pub last_written : (name value essence text : List ℕ) (pairs : List (List ℕ × List ℕ)) (form : Form) → text ≡ essence ++ text_of_pairs pairs
     → form ≡ form_of value → text ++ text_in form name value ≡ essence ++ text_of_pairs (pairs ++ ((name, escaped value) ∷ []))
-last_written name value essence text pairs form is fits =
-    rw (
-      is,
-      fits,
-      form_text name value,
-      flat_map-append text_of_pair pairs ((name, escaped value) ∷ []),
-      append-nil (text_of_pair (name, escaped value)),
-    ) (append_assoc essence (text_of_pairs pairs) (text_of_pair (name, escaped value)))
+last_written name value essence text pairs form is fits = grind (arith, form_text, flat_map-append, append-nil, append_assoc)
 
 -- how a token and a boundary are written
 pub ruleset token_written = (safe_text, plain_text, token_text, token_from_test)

@@ -6,8 +6,6 @@ pub use Rattle.mime_http.proofs.Contents.{content_of_escaped, unescaped_same, un
 -- Lines are cut in one way, and each line is; a search finds the first of two marks.
 pub use Rattle.mime_http.proofs.Cuts.{one_cut, only_cut, mark_found}
 pub use Rattle.mime_http.specs.LineCut.{is_mark}
--- The highest of ranks and its first place, and which of all is the best.
-pub use Rattle.mime_http.proofs.Highest.{one_rank}
 -- The laws of a header's value: it is one media type, of which one text is printed, which is read as it, also what is written anew.
 pub use Rattle.mime_http.proofs.HttpLaws.{one_printed_text, printed_is_read, same_anew, written_reads}
 -- Lists as HTTP writes them are read as their elements, and what is read with nothing bad are such lists.

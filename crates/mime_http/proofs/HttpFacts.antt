@@ -1,8 +1,8 @@
 -- Worked facts of the pages `HttpMediaType`, `HttpFaults` and `HttpList`, and of `Unescaped`, `Written` and `Boundary`: values that are
 -- media types, values that aren't, their faults, and what is printed of a value.
-use Rattle.mime_http.proofs.Common.{IsUtf8-nil, HttpExplains, HttpReads, InvalidToken, IsBoundary, IsBoundaryOf, IsContent-taken, IsHttpFault, IsHttpMediaType, IsPrinted, List, MediaType, MissingQuote, MissingSubtype, MissingValue, NeedsMemory, None, Parts, [], anew, ap, arith, as_it_stands, bytes_eq, bytes_eq-Decides, codes, escaped, false, final, is_quoted_byte, is_token_byte, is_token_value, length, listed, media_of, others, quoted, refl, same_Some, stopped-from_walk, sym, text_of_pair, text_of_pairs, trimmed, true, true≢false, unescaped, with_pair, with_pairs, ℕ, ◌++◌, ◌∙◌, ◌∷◌, ◌≡◌, ◌≢◌}
+use Rattle.mime_http.proofs.Common.{Parameter, SyntaxTree, IsUtf8-nil, HttpExplains, HttpReads, InvalidToken, IsBoundary, IsBoundaryOf, IsContent-taken, IsHttpFault, IsHttpMediaType, IsPrinted, List, MediaType, MissingQuote, MissingSubtype, MissingValue, NeedsMemory, None, Parts, [], anew, ap, arith, as_it_stands, bytes_eq, bytes_eq-Decides, codes, escaped, false, final, is_quoted_byte, is_token_byte, is_token_value, length, listed, others, quoted, refl, same_Some, stopped-from_walk, sym, text_of_pair, text_of_pairs, trimmed, true, true≢false, unescaped, with_pair, with_pairs, ℕ, ◌++◌, ◌∙◌, ◌∷◌, ◌≡◌, ◌≢◌}
 use Rattle.mime_http.specs.declared.value.FieldError.TheVariants.{Invalid, NoMemory as OutOfMemory}
-use Rattle.mime_http.proofs.{Around.white_more, Around.put_ascii, HttpLaws.one_printed_text, ReadBack.answered_is_http, ReadFaults.answered_fault, ReadFaults.fault_answered, ReadFaults.rejected_is_none as none}
+use Rattle.mime_http.proofs.{Around.white_more, Around.put_ascii, HttpLaws.one_printed_text, HttpLaws.short_needs_none, HttpLaws.anew_needs, HttpLaws.printed_anew as anew_printed, ReadBack.answered_is_http, ReadFaults.answered_fault, ReadFaults.fault_answered, ReadFaults.rejected_is_none as none}
 
 -- ` text/HTML ;; charset="UTF-8" `
 abbrev value : List ℕ
@@ -16,10 +16,17 @@ html_type kept = record { essence = codes "text/html"; slash = 4; plus = None; p
 parts : Parts
 parts = record { top = codes "text"; sub = codes "HTML"; pairs = (codes "charset", codes "UTF-8") ∷ [] }
 
--- it is read so, whatever is kept
-read : (kept : List ℕ) → HttpReads value (html_type kept)
+-- the same without a space before the semicolon, which the library accepts without the white space around it
+abbrev plain_value : List ℕ
+plain_value = codes "\ttext/HTML;charset=\"UTF-8\" "
+
+-- both are read so, whatever is kept
+read : (kept : List ℕ) → HttpReads value (html_type kept) × HttpReads plain_value (html_type kept)
 unfolding parts is_token_byte is_quoted_byte
-read kept = white_more (media_of parts).kept [] [] refl refl (answered_is_http value parts refl) refl
+read kept = (
+  white_more _ [] [] refl refl (answered_is_http value parts refl) refl,
+  white_more _ [] [] refl refl (answered_is_http plain_value parts refl) refl,
+)
 
 -- no white space stands at the slash, nor before an equals sign or after it; no parameter is without a semicolon before it, or a value; and
 -- each quoted string is closed
@@ -30,18 +37,17 @@ not_allowed = (none _ _ refl, none _ _ refl, none _ _ refl, none _ _ refl, none 
 
 -- ---- faults
 
--- `   a/b c`: the `c`, since white space may follow a media type; `text `: the space, since nothing goes on so; ` text/`: its subtype
-faults : IsHttpFault (codes "   a/b c") (InvalidToken 7 99) × IsHttpFault (codes "text ") (InvalidToken 4 32)
-    × IsHttpFault (codes " text/") MissingSubtype
+-- `   a/b c`: the `c` and not the white space, which may follow a media type; `text `: the space, since nothing goes on so; ` text/`: its
+-- subtype, and neither a value nor a quote
+faults : IsHttpFault (codes "   a/b c") (InvalidToken 7 99) × ¬ (IsHttpFault (codes "   a/b c") (InvalidToken 6 32))
+    × IsHttpFault (codes "text ") (InvalidToken 4 32) × IsHttpFault (codes " text/") MissingSubtype
+    × ¬ (IsHttpFault (codes " text/") MissingValue) × ¬ (IsHttpFault (codes " text/") MissingQuote)
 unfolding is_token_byte
-faults = (answered_fault (codes "   a/b c") _ refl, answered_fault (codes "text ") _ refl, answered_fault (codes " text/") _ refl)
-
--- and neither the white space, nor a value or a quote that would be missing
-no_faults : ¬ (IsHttpFault (codes "   a/b c") (InvalidToken 6 32)) × ¬ (IsHttpFault (codes " text/") MissingValue)
-    × ¬ (IsHttpFault (codes " text/") MissingQuote)
-unfolding is_token_byte
-no_faults = (
+faults = (
+  answered_fault (codes "   a/b c") _ refl,
   (λ fault. absurd (cc (fault_answered (codes "   a/b c") (InvalidToken 6 32) fault))),
+  answered_fault (codes "text ") _ refl,
+  answered_fault (codes " text/") _ refl,
   (λ fault. absurd (cc (fault_answered (codes " text/") MissingValue fault))),
   λ fault. absurd (cc (fault_answered (codes " text/") MissingQuote fault)),
 )
@@ -60,32 +66,24 @@ printed_anew : IsPrinted value (html_type (codes "text/html; charset=utf-8"))
 unfolding is_token_byte is_quoted_byte
 printed_anew = anew value _ (stopped-from_walk (trimmed value) refl) refl
 
--- and one that it accepts without the white space around it
-abbrev plain_value : List ℕ
-plain_value = codes "\ttext/HTML;charset=\"UTF-8\" "
-
-plain_read : (kept : List ℕ) → HttpReads plain_value (html_type kept)
-unfolding parts is_token_byte is_quoted_byte
-plain_read kept = white_more (media_of parts).kept [] [] refl refl (answered_is_http plain_value parts refl) refl
-
--- as it stands,
+-- and one that it accepts as it stands,
 printed_as_it_stands : IsPrinted plain_value (html_type (codes "text/html;charset=\"utf-8\""))
 unfolding is_token_byte is_quoted_byte
-printed_as_it_stands = as_it_stands plain_value _ (record {
-  tree = record { top = codes "text"; sub = codes "HTML"; tail = listed (final [] (quoted (codes "charset") (codes "UTF-8") [])) };
-  well_formed = (refl, refl, (refl, (refl, IsContent-taken (codes "UTF-8") refl refl, refl)));
-  spelled = refl;
-  valued = refl;
-})
+printed_as_it_stands =
+    let pair : Parameter = quoted (codes "charset") (codes "UTF-8") [] in
+    let tree : SyntaxTree = record { top = codes "text"; sub = codes "HTML"; tail = listed (final [] pair) } in
+    let content = IsContent-taken (codes "UTF-8") refl refl in
+    as_it_stands plain_value _
+    (record { tree = tree; well_formed = (refl, refl, (refl, (refl, content, refl))); spelled = refl; valued = refl })
 
 -- of the first nothing with quotes is printed, since a token needs none; of the second nothing anew, and no white space
 not_printed : ¬ (IsPrinted value (html_type (codes "text/html; charset=\"utf-8\"")))
     × ¬ (IsPrinted plain_value (html_type (codes "text/html; charset=utf-8")))
     × ¬ (IsPrinted plain_value (html_type (codes "text/html;charset=\"utf-8\" ")))
 not_printed = (
-  no_other_text _ read printed_anew (λ same. absurd (omega (arith, same))),
-  no_other_text _ plain_read printed_as_it_stands (λ same. absurd (omega (arith, same))),
-  no_other_text _ plain_read printed_as_it_stands (λ same. absurd (omega (arith, same))),
+  no_other_text _ (λ kept. (read kept).0) printed_anew (omega arith),
+  no_other_text _ (λ kept. (read kept).1) printed_as_it_stands (omega arith),
+  no_other_text _ (λ kept. (read kept).1) printed_as_it_stands (omega arith),
 )
 
 -- ---- memory
@@ -97,35 +95,23 @@ lettered letters = codes " a/b;;p=" ++ letters
 abbrev letter_parts : List ℕ → Parts
 letter_parts letters = record { top = codes "a"; sub = codes "b"; pairs = (codes "p", letters) ∷ [] }
 
--- with 34 letters these are 41 bytes, which need memory;
-needs_memory : NeedsMemory (lettered (codes "abcdefghijklmnopqrstuvwxyzabcdefgh"))
+-- with 34 letters these are 41 bytes, which need memory; with 33 they are 40, which need none, nor does what is no media type
+memory : NeedsMemory (lettered (codes "abcdefghijklmnopqrstuvwxyzabcdefgh"))
+    × ¬ (NeedsMemory (lettered (codes "abcdefghijklmnopqrstuvwxyzabcdefg"))) × ¬ (NeedsMemory (codes "a b"))
 unfolding is_token_byte is_quoted_byte
-needs_memory = record {
-  media = _;
-  is = answered_is_http _ (letter_parts (codes "abcdefghijklmnopqrstuvwxyzabcdefgh")) refl;
-  printed = anew _ _ (stopped-from_walk (codes "a/b;;p=abcdefghijklmnopqrstuvwxyzabcdefgh") refl) refl;
-  long = omega arith;
-}
-
--- with 33 they are 40, which need none, nor does what is no media type
-needs_none : ¬ (NeedsMemory (lettered (codes "abcdefghijklmnopqrstuvwxyzabcdefg"))) × ¬ (NeedsMemory (codes "a b"))
-unfolding is_token_byte is_quoted_byte
-needs_none = (
-  λ needs.
-      let reads = answered_is_http _ (letter_parts (codes "abcdefghijklmnopqrstuvwxyzabcdefg")) refl in
-      let printed = anew _ _ (stopped-from_walk (codes "a/b;;p=abcdefghijklmnopqrstuvwxyzabcdefg") refl) refl in
-      let same = one_printed_text _ needs.media _ needs.is needs.printed reads printed in
-      absurd (omega (arith, needs.long, ap (λ (media : MediaType). length media.kept) same)),
-  λ needs. none (codes "a b") _ refl (needs.media, needs.is),
-)
+memory =
+    let (reads, printed) = anew_printed (letter_parts (codes "abcdefghijklmnopqrstuvwxyzabcdefg")) refl refl
+    (stopped-from_walk (codes "a/b;;p=abcdefghijklmnopqrstuvwxyzabcdefg") refl) refl in (
+      anew_needs (letter_parts (codes "abcdefghijklmnopqrstuvwxyzabcdefgh")) refl refl
+          (stopped-from_walk (codes "a/b;;p=abcdefghijklmnopqrstuvwxyzabcdefgh") refl) (omega arith),
+      short_needs_none _ _ reads printed (omega arith),
+      λ needs. none (codes "a b") _ refl (needs.media, needs.is),
+    )
 
 -- so memory runs out for neither; that `a b` is rejected is explained by its fault
 reasons : ¬ (HttpExplains (codes "a b") OutOfMemory) × HttpExplains (codes "a b") (Invalid (InvalidToken 1 32))
 unfolding is_token_byte
-reasons = (
-  λ why. needs_none.1 why.1,
-  (put_ascii (codes "a b") [] (omega arith) IsUtf8-nil, answered_fault (codes "a b") _ refl),
-)
+reasons = (λ why. memory.2 why.1, (put_ascii (codes "a b") [] (omega arith) IsUtf8-nil, answered_fault (codes "a b") _ refl))
 
 -- ---- quoted content
 
@@ -140,35 +126,28 @@ contents = (refl, differ _ _ refl, refl, differ _ _ refl)
 
 -- ---- parameters
 
--- `utf-8` is a token; `a b` and nothing aren't
-tokens : (is_token_value (codes "utf-8") ≡ true) × (is_token_value (codes "a b") ≡ false) × (is_token_value [] ≡ false)
-unfolding is_token_byte
-tokens = (refl, refl, refl)
-
--- a token is written as it is, and any other value in quotes, with the backslashes that it has
-written : (text_of_pair (codes "charset", codes "utf-8") ≡ codes "; charset=utf-8")
+-- `utf-8` is a token; `a b` and nothing aren't. A token is written as it is, and any other value in quotes, with its backslashes
+written : (is_token_value (codes "utf-8") ≡ true) × (is_token_value (codes "a b") ≡ false) × (is_token_value [] ≡ false)
+    × (text_of_pair (codes "charset", codes "utf-8") ≡ codes "; charset=utf-8")
     × (text_of_pair (codes "charset", codes "utf-8") ≢ codes "; charset=\"utf-8\"")
     × (text_of_pair (codes "p", codes "a\\\"b") ≡ codes "; p=\"a\\\"b\"") × (text_of_pair (codes "p", []) ≡ codes "; p=\"\"")
 unfolding is_token_byte
-written = (refl, differ _ _ refl, refl, refl)
+written = (refl, refl, refl, refl, differ _ _ refl, refl, refl)
 
 -- `text/html; charset=utf-8; p=1; q="a b"; p=2`
 page : MediaType
 page = with_pairs (record { essence = codes "text/html"; slash = 4; plus = None; pairs = []; kept = [] })
     ((codes "charset", codes "utf-8") ∷ (codes "p", codes "1") ∷ (codes "q", codes "a b") ∷ (codes "p", codes "2") ∷ [])
 
--- the page is written with all its pairs, and no pair as nothing
-all_written : (page.kept ≡ codes "text/html; charset=utf-8; p=1; q=\"a b\"; p=2") × (text_of_pairs [] ≡ [])
-unfolding is_token_byte page
-all_written = (refl, refl)
-
--- both values of `p` go, whatever the name's case, and the others stay in their order
-put : (others (codes "P") page.pairs ≡ (codes "charset", codes "utf-8") ∷ (codes "q", codes "a b") ∷ [])
+-- the page is written with all its pairs, and no pair as nothing; both values of `p` go, whatever the name's case, and the others stay in
+-- their order
+put : (page.kept ≡ codes "text/html; charset=utf-8; p=1; q=\"a b\"; p=2") × (text_of_pairs [] ≡ [])
+    × (others (codes "P") page.pairs ≡ (codes "charset", codes "utf-8") ∷ (codes "q", codes "a b") ∷ [])
     × ((with_pair page (codes "p") (codes "3")).kept ≡ codes "text/html; charset=utf-8; q=\"a b\"; p=3")
     × ((with_pair page (codes "p") (codes "3")).kept ≢ codes "text/html; charset=utf-8; p=3; q=\"a b\"")
     × ((with_pair page (codes "p") (codes "3")).slash ≡ 4)
 unfolding is_token_byte page
-put = (refl, refl, differ _ _ refl, refl)
+put = (refl, refl, refl, refl, differ _ _ refl, refl)
 
 -- ---- boundaries
 

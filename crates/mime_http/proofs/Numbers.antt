@@ -1,5 +1,5 @@
 -- A weight that is read digit by digit is the number that its text begins with.
-use Rattle.mime_http.proofs.Common.{List, WeightIsNumber, [], arith, codes, drop, fold, if◌then◌else◌, is_ascii_digit, length, nat_tests, one_digit, one_dot, read_number, refl, replicate, slice_index, sym, take, take_while, take_while-cons, thousandths_of, three_digits, two_digits, worth, zero_dot, ℕ, ◌*◌, ◌++◌, ◌+◌, ◌-◌, ◌==◌, ◌∙◌, ◌∷◌, ◌≡◌, ◌≤◌, ◌/◌, mul-le-mul_left}
+use Rattle.mime_http.proofs.Common.{List, WeightIsNumber, [], arith, codes, drop, fold, if◌then◌else◌, is_ascii_digit, length, nat_tests, one_digit, one_dot, read_number, refl, replicate, slice_index, sym, take, take_while, take_while-cons, thousandths_of, three_digits, two_digits, worth, zero_dot, ℕ, ◌*◌, ◌++◌, ◌+◌, ◌-◌, ◌==◌, ◌∷◌, ◌≡◌, ◌≤◌, ◌/◌, mul-le-mul_left}
 use Rattle.mime_http.specs.RangesLaws.{zero, one}
 
 -- a number with one more digit
@@ -22,12 +22,7 @@ three_digits_more : (n : ℕ) (bytes : List ℕ) → fold step n (take 3 (digits
 three_digits_more n [] = omega arith
 three_digits_more n (a ∷ []) = grind (arith, nat_tests)
 three_digits_more n (a ∷ b ∷ []) = grind (arith, nat_tests)
-three_digits_more n (a ∷ b ∷ c ∷ bytes) =
-    rw (
-      take_while-cons is_ascii_digit a (b ∷ c ∷ bytes),
-      take_while-cons is_ascii_digit b (c ∷ bytes),
-      take_while-cons is_ascii_digit c bytes,
-    ) (grind (arith, nat_tests, no_unit bytes))
+three_digits_more n (a ∷ b ∷ c ∷ bytes) = simp take_while-cons (grind (arith, nat_tests, no_unit bytes))
 
 -- digits are worth at most ten of the first one's unit
 worth_most : (unit : ℕ) (bytes : List ℕ) → worth unit bytes ≤ 10 * unit
@@ -47,20 +42,17 @@ number_from n bytes = fold step n (digits bytes ++ take 3 (decimals (drop (lengt
 -- a number goes on with a digit, and else with its decimals
 number_goes_on : (n b : ℕ) (bytes : List ℕ) → number_from n (b ∷ bytes)
     ≡ (if is_ascii_digit b then number_from (step n b) bytes else fold step n (take 3 (decimals (b ∷ bytes) ++ codes "000")))
-number_goes_on n b bytes =
-    rw (take_while-cons is_ascii_digit b bytes) (grind arith)
+number_goes_on n b bytes = rw (take_while-cons is_ascii_digit b bytes) (grind arith)
 
 -- what stands after a dot makes it no less
 no_less : (n : ℕ) (bytes : List ℕ) → 1000 * n ≤ number_from n bytes
 no_less n [] = omega arith
-no_less n (b ∷ bytes) = rw (number_goes_on n b bytes) (grind (arith, nat_tests, no_less (step n b) bytes, three_digits_more n bytes))
+no_less n (b ∷ bytes) = grind (arith, nat_tests, number_goes_on, no_less (step n b) bytes, three_digits_more)
 
 -- so the number of thousandths is read
 pub read_is : (text : List ℕ) → read_number text ≡ thousandths_of text
 read_is [] = refl
-read_is (b ∷ bytes) =
-    rw (number_goes_on 0 b bytes)
-    (grind (arith, nat_tests, read_is bytes, no_less (step 0 b) bytes, three_digits_more 0 bytes, worth_most 100 bytes))
+read_is (b ∷ bytes) = grind (arith, nat_tests, number_goes_on, read_is bytes, no_less, three_digits_more, worth_most)
 
 -- ---- what RFC 9110 allows
 
@@ -68,10 +60,8 @@ read_is (b ∷ bytes) =
 pub weight_is_number : WeightIsNumber
 weight_is_number text thousandths zero = refl
 weight_is_number text thousandths zero_dot = refl
-weight_is_number text thousandths (one_digit a first) = sym (read_is (codes "0." ++ ((48 + a) ∷ []))) ∙ grind (arith, nat_tests)
-weight_is_number text thousandths (two_digits a b first second) =
-    sym (read_is (codes "0." ++ ((48 + a) ∷ (48 + b) ∷ []))) ∙ grind (arith, nat_tests)
-weight_is_number text thousandths (three_digits a b c first second third) =
-    sym (read_is (codes "0." ++ ((48 + a) ∷ (48 + b) ∷ (48 + c) ∷ []))) ∙ grind (arith, nat_tests)
+weight_is_number text thousandths (one_digit a first) = grind (arith, nat_tests, read_is)
+weight_is_number text thousandths (two_digits a b first second) = grind (arith, nat_tests, read_is)
+weight_is_number text thousandths (three_digits a b c first second third) = grind (arith, nat_tests, read_is)
 weight_is_number text thousandths one = refl
 weight_is_number text thousandths (one_dot zeros few) = sym (read_is (codes "1." ++ replicate zeros 48))

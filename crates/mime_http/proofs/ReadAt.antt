@@ -1,6 +1,6 @@
 -- Reading on from a position of a value: over a byte, a run, and quoted content; and where nothing goes on.
-use Rattle.mime_http.proofs.Common.{Bool, InvalidToken, IsClosedAt, IsContent, List, None, ParseError, Some, State, [], IsStringFault, IsToken, Parts, after_semicolon, and_from, and_parts, answer_at, answer_at_end, answer_from, ap, append-nil, append_assoc, ap₂, arith, awaits_after, awaits_after-append, before_semicolon, cases_lt, drop, drop-drop, drop_more, drop_of_length-le, drop_split, false, fault_at, flat_map-append, get_or-drop, if◌then◌else◌, in_name, in_ranges, in_string, in_subtype, in_value, is_quoted_byte, is_quoted_text_byte, is_space, is_token_byte, is_token_value, length, length-drop, length-take-le, nat_tests, list_all, list_all-append, list_all-wider, next, no_byte, not, prefix_len, option_map, prefix_len_stops, quoted_pair, refl, rejected, slice_index, slice_range, subst, suc, sym, take, take-add, text_byte, text_of_pair, text_of_pairs, text_of_parts, true, unwrap_or, with_parameter, ℕ, ⊎_elim, ◌++◌, ◌+◌, ◌-◌, ◌<◌, ◌∙◌, ◌∷◌, ◌≡◌, ◌≢◌, ◌≤◌, not-true, content-awaits, is_stop}
-use Rattle.mime_http.{specs.declared.reader.TheConstants.TOKEN_STOPS, specs.declared.reader.TheConstants.TEXT_STOPS, proofs.ReadBack.content_more, proofs.Runs.EndsToken, proofs.Runs.KeepsSpace, proofs.Runs.content_ends, proofs.Runs.name_begins, proofs.Runs.no_way, proofs.Runs.on_content, proofs.Runs.on_subtype, proofs.Runs.on_value, proofs.Runs.one_byte, proofs.Runs.over_white, proofs.Runs.subtype_ends, proofs.Runs.value_ends}
+use Rattle.mime_http.proofs.Common.{Bool, one-add, InvalidToken, IsClosedAt, IsContent, List, None, ParseError, Some, State, [], IsStringFault, IsToken, Parts, after_semicolon, answer_at, answer_at_end, answer_from, ap, append-nil, append_assoc, arith, awaits_after, awaits_after-append, before_semicolon, cases_lt, drop, drop-drop, drop_more, drop_of_length-le, drop_split, false, fault_at, flat_map-append, get_or-drop, if◌then◌else◌, in_name, in_ranges, in_string, in_subtype, in_value, is_quoted_byte, is_quoted_text_byte, is_space, is_token_byte, is_token_value, length, length-drop, length-take-le, nat_tests, list_all, list_all-append, list_all-wider, next, no_byte, not, prefix_len, prefix_len_stops, quoted_pair, refl, rejected, slice_index, slice_range, take, take-add, text_byte, text_of_pair, text_of_parts, true, with_parameter, ℕ, ◌++◌, ◌+◌, ◌-◌, ◌<◌, ◌∙◌, ◌∷◌, ◌≡◌, ◌≢◌, ◌≤◌, not-true, content-awaits, is_stop}
+use Rattle.mime_http.{proofs.Written.token_from_test, specs.declared.reader.TheConstants.TOKEN_STOPS, specs.declared.reader.TheConstants.TEXT_STOPS, proofs.ReadBack.content_more, proofs.Runs.EndsToken, proofs.Runs.KeepsSpace, proofs.Runs.content_ends, proofs.Runs.name_begins, proofs.Runs.no_way, proofs.Runs.on_content, proofs.Runs.on_subtype, proofs.Runs.on_value, proofs.Runs.one_byte, proofs.Runs.over_white, proofs.Runs.subtype_ends, proofs.Runs.value_ends}
 
 -- ---- a part of a value
 
@@ -14,17 +14,12 @@ no_part value at = let none : at - at ≡ 0 = omega arith in rw none refl
 
 -- one to the next,
 pub one_part : (value : List ℕ) (at : ℕ) → at < length value → slice_range value at (at + 1) ≡ slice_index value at ∷ []
-one_part value at within =
-    let one : at + 1 - at ≡ 1 = omega arith in ap (λ n. take n (drop at value)) one ∙ ap (take 1) (drop_more value at 0 within)
+one_part value at within = grind (arith, drop_more)
 
 -- and is the part up to a position between and the part from there on
 pub parts_joined : (value : List ℕ) (from at to : ℕ) → from ≤ at → at ≤ to
     → slice_range value from to ≡ slice_range value from at ++ slice_range value at to
-parts_joined value from at to least most =
-    let sum : to - from ≡ (at - from) + (to - at) = omega (arith, least, most) in
-    let there : from + (at - from) ≡ at = omega (arith, least) in
-    ap (λ n. take n (drop from value)) sum ∙ take-add (at - from) (to - at) (drop from value)
-    ∙ ap (λ rest. slice_range value from at ++ take (to - at) rest) (drop-drop (at - from) from value ∙ ap (λ n. drop n value) there)
+parts_joined value from at to least most = grind (arith, take-add (at - from) (to - at) (drop from value), drop-drop (at - from) from value)
 
 -- ---- runs
 
@@ -32,15 +27,10 @@ parts_joined value from at to least most =
 abbrev pub run_end : (ℕ → Bool) → List ℕ → ℕ → ℕ
 run_end class value from = from + prefix_len class (drop from value)
 
--- one more, counted in front
-one_more : (n : ℕ) → suc n ≡ 1 + n
-one_more n = omega arith
-
 -- the bytes of a run are of its class
 run_all : (class : ℕ → Bool) (bytes : List ℕ) → list_all class (take (prefix_len class bytes) bytes) ≡ true
 run_all class [] = refl
-run_all class (b ∷ bytes) =
-    grind (arith, one_more (prefix_len class bytes), run_all class bytes)
+run_all class (b ∷ bytes) = grind (arith, one-add (prefix_len class bytes), run_all class bytes)
 
 -- a part of a value whose bytes are of a class, and which ends before a byte of another or at the end
 pub record IsRun (class : ℕ → Bool) (value : List ℕ) (from to : ℕ) : Type 0 where
@@ -51,31 +41,20 @@ pub record IsRun (class : ℕ → Bool) (value : List ℕ) (from to : ℕ) : Typ
 -- which is up to the end of a run
 pub run_is : (class : ℕ → Bool) (value : List ℕ) (from to : ℕ) → to ≡ run_end class value from → IsRun class value from to
 run_is class value from to is =
-    let n : ℕ = prefix_len class (drop from value) in
-    let long : to - from ≡ n = omega (arith, is) in record {
-      least = omega (arith, is);
-      all = ap (λ k. list_all class (take k (drop from value))) long ∙ run_all class (drop from value);
-      stops = λ more.
-          ap (λ k. class (slice_index value k)) is ∙ ap class (sym (get_or-drop from value n 0))
-          ∙ prefix_len_stops class (drop from value) 0 (omega (arith, is, more, length-drop from value));
-    }
+    let stops = prefix_len_stops class (drop from value) 0 in
+    grind (arith, run_all class (drop from value), get_or-drop from value, stops, length-drop from value)
 
 -- a run of a class goes on over one of a narrower class
 wider_run : (narrow class : ℕ → Bool) → ((b : ℕ) → narrow b ≡ true → class b ≡ true) → (bytes : List ℕ)
     → prefix_len class bytes ≡ prefix_len narrow bytes + prefix_len class (drop (prefix_len narrow bytes) bytes)
 wider_run narrow class wider [] = refl
-wider_run narrow class wider (b ∷ bytes) =
-    grind (arith, one_more (prefix_len narrow bytes), wider b, wider_run narrow class wider bytes)
+wider_run narrow class wider (b ∷ bytes) = grind (arith, one-add (prefix_len narrow bytes), wider b, wider_run narrow class wider bytes)
 
 -- so its end stays the same
 pub run_goes_on : (narrow class : ℕ → Bool) → ((b : ℕ) → narrow b ≡ true → class b ≡ true) → (value : List ℕ) (from to : ℕ)
     → to ≡ run_end narrow value from → run_end class value to ≡ run_end class value from
 run_goes_on narrow class wider value from to is =
-    let bytes : List ℕ = drop from value in
-    let n : ℕ = prefix_len narrow bytes in
-    let there : drop to value ≡ drop n bytes = ap (λ k. drop k value) is ∙ sym (drop-drop n from value) in
-    let here : prefix_len class (drop to value) ≡ prefix_len class (drop n bytes) = ap (prefix_len class) there in
-    omega (arith, is, here, wider_run narrow class wider bytes)
+    grind (arith, drop-drop (prefix_len narrow (drop from value)) from value, wider_run narrow class wider (drop from value))
 
 -- the bytes that a search passes may stand in a token,
 pub are_token_bytes : (b : ℕ) → not (is_stop TOKEN_STOPS b) ≡ true → is_token_byte b ≡ true
@@ -90,8 +69,7 @@ are_text_bytes b go = in_ranges TEXT_STOPS is_quoted_text_byte (omega arith) (om
 -- bytes of quoted text are content
 pub text_content : (bytes : List ℕ) → list_all is_quoted_text_byte bytes ≡ true → IsContent bytes
 text_content [] all = no_byte
-text_content (b ∷ bytes) all =
-    let parts = and_parts (is_quoted_text_byte b) _ all in text_byte b bytes parts.0 (text_content bytes parts.1)
+text_content (b ∷ bytes) all = grind (arith, text_content bytes, text_byte)
 
 -- ---- reading on
 
@@ -100,21 +78,17 @@ pub over : (value : List ℕ) (from to : ℕ) (state after : State) → from ≤
     → answer_from state from (slice_range value from to ++ drop to value)
     ≡ answer_from after (from + length (slice_range value from to)) (drop to value)
     → answer_at value state from ≡ answer_at value after to
-over value from to state after least within goes =
-    ap (answer_from state from) (drop_split value from to least) ∙ goes
-    ∙ ap (λ n. answer_from after n (drop to value)) (omega (arith, least, length-part value from to within))
+over value from to state after least within goes = grind (arith, drop_split, length-part)
 
 -- over a byte,
 pub over_byte : (value : List ℕ) (at : ℕ) (state after : State) → at < length value → next state (slice_index value at) ≡ Some after
     → answer_at value state at ≡ answer_at value after (at + 1)
-over_byte value at state after within goes =
-    ap (answer_from state at) (drop_more value at 0 within) ∙ one_byte state after at _ (drop (at + 1) value) goes
+over_byte value at state after within goes = grind (arith, drop_more, one_byte)
 
 -- not over one that is at fault,
 pub at_byte : (value : List ℕ) (at : ℕ) (state : State) → at < length value → next state (slice_index value at) ≡ None
     → answer_at value state at ≡ rejected (InvalidToken at (slice_index value at))
-at_byte value at state within none =
-    ap (answer_from state at) (drop_more value at 0 within) ∙ no_way state at _ (drop (at + 1) value) none
+at_byte value at state within none = grind (arith, drop_more, no_way)
 
 -- nor over the end
 pub at_end : (value : List ℕ) (at : ℕ) (state : State) → length value ≤ at → answer_at value state at ≡ answer_at_end state
@@ -123,22 +97,17 @@ at_end value at state past = ap (answer_from state at) (drop_of_length-le value 
 -- a byte that is neither of two kinds goes nowhere
 pub neither : {X : Type 0} (one other : Bool) (x y : X) → one ≡ false → other ≡ false
     → (if one then Some x else (if other then Some y else None)) ≡ None
-neither one other x y isnt nor =
-    grind (arith, isnt, nor)
+neither one other x y isnt nor = grind arith
 
 -- so where nothing goes on there is a fault
 pub stuck : (value : List ℕ) (at : ℕ) (state : State) (missing : ParseError) → at ≤ length value
     → answer_at_end state ≡ rejected missing → (at < length value → next state (slice_index value at) ≡ None)
     → answer_at value state at ≡ rejected (fault_at value at missing)
-stuck value at state missing within ends none =
-    ⊎_elim (λ more. at_byte value at state more (none more) ∙ grind (arith, nat_tests, more))
-    (λ past. at_end value at state past ∙ ends ∙ grind (arith, nat_tests, past, within)) (cases_lt at (length value))
+stuck value at state missing within ends none = grind (arith, at_byte, nat_tests, at_end, cases_lt)
 
 -- a token ends where a run of its bytes does
 pub token_ends : (value : List ℕ) (to : ℕ) → (to < length value → is_token_byte (slice_index value to) ≡ false) → EndsToken (drop to value)
-token_ends value to stops =
-    ⊎_elim (λ more. subst EndsToken (sym (drop_more value to 0 more)) (stops more))
-    (λ past. subst EndsToken (sym (drop_of_length-le value past)) tt) (cases_lt to (length value))
+token_ends value to stops = grind (arith, drop_more, drop_of_length-le, cases_lt)
 
 -- ---- quoted content
 
@@ -148,26 +117,21 @@ pub text_after : (value : List ℕ) (at to : ℕ) → at < length value → is_q
     → list_all is_quoted_text_byte (slice_range value at to) ≡ true
 text_after value at to within text is =
     let run = run_is (λ b. not (is_stop TEXT_STOPS b)) value (at + 1) to is in
-    let rest = list_all-wider (λ b. not (is_stop TEXT_STOPS b)) is_quoted_text_byte are_text_bytes _ run.all in
-    ap (list_all is_quoted_text_byte) (parts_joined value at (at + 1) to (omega arith) run.least
-    ∙ ap (λ first. first ++ slice_range value (at + 1) to) (one_part value at within))
-    ∙ and_from (is_quoted_text_byte (slice_index value at)) _ text rest
+    let rest = list_all-wider _ is_quoted_text_byte are_text_bytes (slice_range value (at + 1) to) run.all in
+    grind (arith, parts_joined value at (at + 1) to, run.least, one_part value at within, rest)
 
 -- a part of two bytes of which the first is a backslash
 pub pair_content : (value : List ℕ) (at end : ℕ) → end ≡ at + 2 → end ≤ length value → slice_index value at ≡ 92
     → is_quoted_byte (slice_index value (at + 1)) ≡ true → IsContent (slice_range value at end)
 pair_content value at end is within first fits =
-    let two : at + 1 + 1 ≡ end = omega (arith, is) in
-    let one = one_part value at (omega (arith, is, within)) ∙ ap (λ b. b ∷ []) first in
-    let other = ap (slice_range value (at + 1)) (sym two) ∙ one_part value (at + 1) (omega (arith, is, within)) in
-    let joined = parts_joined value at (at + 1) end (omega arith) (omega (arith, is)) in
-    subst IsContent (sym (joined ∙ ap₂ (λ xs ys. xs ++ ys) one other)) (quoted_pair (slice_index value (at + 1)) [] fits no_byte)
+    let whole : slice_range value at end ≡ 92 ∷ slice_index value (at + 1) ∷ [] =
+    grind (arith, parts_joined value at (at + 1) end, one_part value at, one_part value (at + 1)) in
+    rw whole (quoted_pair (slice_index value (at + 1)) [] fits no_byte)
 
 -- content before content is content
 pub content_on : (value : List ℕ) (from at to : ℕ) → from ≤ at → at ≤ to → IsContent (slice_range value from at)
     → IsContent (slice_range value at to) → IsContent (slice_range value from to)
-content_on value from at to least most before after =
-    subst IsContent (sym (parts_joined value from at to least most)) (content_more before after)
+content_on value from at to least most before after = grind (arith, parts_joined, content_more)
 
 -- it is read as a parameter's value, up to after the quote that closes it,
 pub over_content : (parts : Parts) (name value : List ℕ) (from close : ℕ) → IsClosedAt value from close
@@ -176,38 +140,31 @@ pub over_content : (parts : Parts) (name value : List ℕ) (from close : ℕ) �
 unfolding is_quoted_byte
 over_content parts name value from close closed =
     let content : List ℕ = slice_range value from close in
-    over value from close (in_string parts name []) (in_string parts name content) closed.least (omega (arith, closed.within))
-    (on_content closed.content parts name [] refl from (drop close value))
-    ∙ over_byte value close (in_string parts name content) (before_semicolon (with_parameter parts name content)) closed.within
-    (ap (next (in_string parts name content)) closed.quote ∙ content_ends closed.content parts name)
+    let within : close ≤ length value = omega (arith, closed.within) in
+    let first = over value from close (in_string parts name []) (in_string parts name content) closed.least within in
+    let last = over_byte value close (in_string parts name content) (before_semicolon (with_parameter parts name content)) closed.within in
+    grind (arith, first, on_content closed.content parts name [] refl, last, closed.quote, content_ends closed.content)
 
 -- and a fault after content is the string's
 pub fault_after : (value : List ℕ) (from at : ℕ) (fault : ParseError) → from ≤ at → at ≤ length value
     → IsContent (slice_range value from at) → IsStringFault value at fault → IsStringFault value from fault
 fault_after value from at fault least within content is = λ name done none parts.
     let more : List ℕ = done ++ slice_range value from at in
-    let awaits : awaits_after false more ≡ false = awaits_after-append false done _
-    ∙ ap (λ awaiting. awaits_after awaiting (slice_range value from at)) none ∙ content-awaits _ content in
+    let awaits : awaits_after false more ≡ false = grind (arith, awaits_after-append false done, content-awaits, content, none) in
     over value from at (in_string parts name done) (in_string parts name more) least within
     (on_content content parts name done none from (drop at value)) ∙ is name more awaits parts
 
 -- a byte that isn't quoted text, a quote or a backslash goes nowhere
 pub no_text : (parts : Parts) (name content : List ℕ) (b : ℕ) → awaits_after false content ≡ false → is_quoted_text_byte b ≡ false → b ≢ 34
     → b ≢ 92 → next (in_string parts name content) b ≡ None
-no_text parts name content b none text quote backslash =
-    rw none (grind (arith, nat_tests, text, quote, backslash))
+no_text parts name content b none text quote backslash = grind (arith, nat_tests)
 
 -- ---- tokens
 
--- bytes that may stand in a token are one, if there are any
-pub token_from : (bytes : List ℕ) → 0 < length bytes → list_all is_token_byte bytes ≡ true → IsToken bytes
-token_from [] some all = absurd (omega (arith, some))
-token_from (b ∷ bytes) some all = all
-
--- so a run of them is
+-- a run of bytes that may stand in a token is one, if there are any
 pub token_part : (value : List ℕ) (from to : ℕ) → from < to → to ≤ length value → IsRun is_token_byte value from to
     → IsToken (slice_range value from to)
-token_part value from to some within run = token_from _ (omega (arith, some, length-part value from to within)) run.all
+token_part value from to some within run = token_from_test (slice_range value from to) (grind (arith, length-part value from to, run.all))
 
 -- a token is a token's value
 pub token_value : (bytes : List ℕ) → IsToken bytes → is_token_value bytes ≡ true
@@ -222,78 +179,43 @@ no_token_with (c ∷ before) b bytes isnt = grind (arith, list_all-append is_tok
 -- so bytes after a run, or no bytes, are no token's value
 pub no_token_value : (value : List ℕ) (from plain to : ℕ) → IsRun is_token_byte value from plain → plain ≤ to → to < length value
     → (from < plain → plain ≢ to) → is_token_value (slice_range value from to) ≡ false
-no_token_value value from plain to run most within other = ⊎_elim
-    (λ more.
-    let first : slice_range value plain to ≡ slice_index value plain ∷ slice_range value (plain + 1) to =
-    parts_joined value plain (plain + 1) to (omega arith) (omega (arith, more))
-    ∙ ap (λ xs. xs ++ slice_range value (plain + 1) to) (one_part value plain (omega (arith, more, within))) in
-    ap is_token_value (parts_joined value from plain to run.least most ∙ ap (λ xs. slice_range value from plain ++ xs) first)
-    ∙ no_token_with (slice_range value from plain) _ _ (run.stops (omega (arith, more, within))))
-    (λ past. ⊎_elim (λ some. absurd (other some (omega (arith, past, most))))
-    (λ none.
-    let here : from ≡ to = omega (arith, none, run.least, past, most) in
-    ap (λ n. is_token_value (slice_range value n to)) here ∙ ap is_token_value (no_part value to)) (cases_lt from plain))
-    (cases_lt plain to)
+no_token_value value from plain to run most within other =
+    let after = parts_joined value plain (plain + 1) to in
+    grind (arith, parts_joined value from plain to, after, one_part value plain, run.stops, no_token_with, no_part, cases_lt)
 
 -- reading goes on over a subtype,
 pub over_subtype : (value top : List ℕ) (from to : ℕ) → from < to → to ≤ length value → IsRun is_token_byte value from to
     → answer_at value (in_subtype top []) from
     ≡ answer_at value (before_semicolon (record { top = top; sub = slice_range value from to; pairs = [] })) to
-over_subtype value top from to some within run =
-    let sub : List ℕ = slice_range value from to in
-    over value from to (in_subtype top []) (in_subtype top sub) run.least within (on_subtype top sub run.all [] from (drop to value))
-    ∙ subtype_ends top sub (token_part value from to some within run) to (drop to value) (token_ends value to run.stops)
+over_subtype value top from to some within run = grind (arith, over, on_subtype, subtype_ends, token_part, token_ends)
 
 -- a parameter's name,
 pub over_name : (parts : Parts) (value : List ℕ) (from to : ℕ) → from < to → to ≤ length value → IsRun is_token_byte value from to
     → answer_at value (after_semicolon parts) from ≡ answer_at value (in_name parts (slice_range value from to)) to
-over_name parts value from to some within run =
-    over value from to (after_semicolon parts) (in_name parts (slice_range value from to)) run.least within
-    (name_begins parts _ (token_part value from to some within run) from (drop to value))
+over_name parts value from to some within run = grind (arith, over, name_begins, token_part)
 
 -- and its value
 pub over_value : (parts : Parts) (name value : List ℕ) (from to : ℕ) → from < to → to ≤ length value → IsRun is_token_byte value from to
     → answer_at value (in_value parts name []) from
     ≡ answer_at value (before_semicolon (with_parameter parts name (slice_range value from to))) to
-over_value parts name value from to some within run =
-    let content : List ℕ = slice_range value from to in
-    over value from to (in_value parts name []) (in_value parts name content) run.least within
-    (on_value parts name content run.all [] from (drop to value))
-    ∙ value_ends parts name content (token_part value from to some within run) to (drop to value) (token_ends value to run.stops)
+over_value parts name value from to some within run = grind (arith, over, on_value, value_ends, token_part, token_ends)
 
 -- ---- white space
 
 -- where it changes nothing
 pub over_white_at : (state : State) → KeepsSpace state → (value : List ℕ) (from to : ℕ) → IsRun is_space value from to → to ≤ length value
     → answer_at value state from ≡ answer_at value state to
-over_white_at state keeps value from to run within =
-    over value from to state state run.least within (over_white state keeps _ run.all from (drop to value))
+over_white_at state keeps value from to run within = grind (arith, over, over_white)
 
 -- where no parameter begins after a semicolon, reading goes on as before one
 pub nothing_between : (parts : Parts) (value : List ℕ) (at : ℕ) → (at < length value → is_space (slice_index value at) ≡ false)
     → (at < length value → is_token_byte (slice_index value at) ≡ false)
     → answer_at value (after_semicolon parts) at ≡ answer_at value (before_semicolon parts) at
-nothing_between parts value at space token =
-    ⊎_elim (λ more.
-    let rest : List ℕ = drop (at + 1) value in
-    let b : ℕ = slice_index value at in
-    let here = drop_more value at 0 more in
-    ap (answer_from (after_semicolon parts) at) here ∙ same_next (after_semicolon parts) (before_semicolon parts) at b rest
-    (rw (token more, space more) refl) ∙ sym (ap (answer_from (before_semicolon parts) at) here))
-    (λ past. at_end value at (after_semicolon parts) past ∙ sym (at_end value at (before_semicolon parts) past))
-    (cases_lt at (length value))
-  where
-    same_next : (state other : State) (at b : ℕ) (bytes : List ℕ) → next state b ≡ next other b
-        → answer_from state at (b ∷ bytes) ≡ answer_from other at (b ∷ bytes)
-    same_next state other at b bytes same =
-        ap (λ after. unwrap_or (option_map (λ state. answer_from state (at + 1) bytes) after) (rejected (InvalidToken at b))) same
+nothing_between parts value at space token = grind (arith, drop_more, at_end, cases_lt)
 
 -- ---- what is written
 
 -- one parameter more is written after the others
 pub one_written : (parts : Parts) (name content : List ℕ)
     → text_of_parts parts ++ text_of_pair (name, content) ≡ text_of_parts (with_parameter parts name content)
-one_written parts name content =
-    rw (flat_map-append text_of_pair parts.pairs ((name, content) ∷ []), append-nil (text_of_pair (name, content)))
-    (append_assoc parts.top (47 ∷ (parts.sub ++ text_of_pairs parts.pairs)) (text_of_pair (name, content))
-    ∙ ap (λ rest. parts.top ++ (47 ∷ rest)) (append_assoc parts.sub (text_of_pairs parts.pairs) (text_of_pair (name, content))))
+one_written parts name content = grind (arith, flat_map-append, append-nil, append_assoc)

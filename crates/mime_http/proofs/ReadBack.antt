@@ -1,11 +1,7 @@
 -- What is read of a value is what HTTP writes: each state says what the bytes so far are.
-use Rattle.mime_http.proofs.Common.{Answer, AreHttpParameters, AreSpaces, AreTokenBytes, AreTokenBytes-from_token, Bool, HttpReads, IsContent, IsHttpParameter, IsToken, List, MatchOption, MatchOption-at_some, Option, Parts, Some, State, [], after_semicolon, and_from, answer_at_end, answer_from, answer_of, ap, append-nil, append_assoc, before_semicolon, before_type, by_option, cond_both, eqb-true, if◌then◌else◌, in_name, in_string, in_subtype, in_type, in_value, is_space, is_token_byte, list_all, list_all-append, map, map-append, media_of, next, next_after, no_byte, no_more, quoted_pair, read, refl, rejected, semicolon, semicolon_and, subst, sym, text_byte, true, false, with_parameter, with_string, with_token, ℕ, ⊤, ◌++◌, ◌+◌, ◌==◌, ◌∙◌, ◌∷◌, ◌≡◌, IsOpenContent, continues, lowered_pair, IsContent-closed, IsOpenContent-push}
+use Rattle.mime_http.proofs.Common.{Answer, arith, AreHttpParameters, AreSpaces, AreTokenBytes, AreTokenBytes-from_token, Bool, HttpReads, IsContent, IsHttpParameter, IsToken, List, MatchOption, MatchOption-at_some, Option, Parts, Some, State, [], after_semicolon, answer_at_end, answer_from, answer_of, append-nil, append_assoc, before_semicolon, before_type, cond_both, eqb-true, in_name, in_string, in_subtype, in_type, in_value, is_space, is_token_byte, list_all, list_all-append, map, map-append, media_of, next, no_byte, no_more, quoted_pair, read, refl, rejected, semicolon, semicolon_and, subst, text_byte, true, with_parameter, with_string, with_token, ℕ, ⊤, ◌++◌, ◌+◌, ◌∷◌, ◌≡◌, IsOpenContent, lowered_pair, IsContent-closed, IsOpenContent-push}
 
 -- ---- what the bytes are in each state
-
--- white space, and then these bytes,
-pub data Indented (bytes : List ℕ) : List ℕ → Type 0 where
-  indented : (before : List ℕ) → AreSpaces before → Indented bytes (before ++ bytes)
 
 -- a media type of these parts, with white space around it,
 pub data Whole (parts : Parts) : List ℕ → Type 0 where
@@ -13,27 +9,31 @@ pub data Whole (parts : Parts) : List ℕ → Type 0 where
       → AreHttpParameters parameters (map lowered_pair parts.pairs) → AreSpaces after
       → Whole parts (before ++ (parts.top ++ (47 ∷ (parts.sub ++ (parameters ++ after)))))
 
--- and one, a semicolon, white space, and then these bytes
-pub data Follows (parts : Parts) (bytes : List ℕ) : List ℕ → Type 0 where
-  follows : (first after : List ℕ) → Whole parts first → AreSpaces after → Follows parts bytes (first ++ (59 ∷ (after ++ bytes)))
+-- one, a semicolon and white space,
+pub data Opened (parts : Parts) : List ℕ → Type 0 where
+  opened : (first after : List ℕ) → Whole parts first → AreSpaces after → Opened parts (first ++ (59 ∷ after))
+
+-- and these bytes behind others
+pub data Behind (Front : List ℕ → Type 0) (bytes : List ℕ) : List ℕ → Type 0 where
+  behind : (front : List ℕ) → Front front → Behind Front bytes (front ++ bytes)
 
 abbrev pub Spells : State → List ℕ → Type 0
 Spells before_type front = AreSpaces front
-Spells (in_type top) front = IsToken top × Indented top front
-Spells (in_subtype top sub) front = IsToken top × AreTokenBytes sub × Indented (top ++ (47 ∷ sub)) front
+Spells (in_type top) front = IsToken top × Behind AreSpaces top front
+Spells (in_subtype top sub) front = IsToken top × AreTokenBytes sub × Behind AreSpaces (top ++ (47 ∷ sub)) front
 Spells (before_semicolon parts) front = Whole parts front
-Spells (after_semicolon parts) front = Follows parts [] front
-Spells (in_name parts name) front = IsToken name × Follows parts name front
-Spells (in_value parts name value) front = IsToken name × AreTokenBytes value × Follows parts (name ++ (61 ∷ value)) front
-Spells (in_string parts name content) front = IsToken name × IsOpenContent content × Follows parts (name ++ (61 ∷ 34 ∷ content)) front
+Spells (after_semicolon parts) front = Opened parts front
+Spells (in_name parts name) front = IsToken name × Behind (Opened parts) name front
+Spells (in_value parts name value) front = IsToken name × AreTokenBytes value × Behind (Opened parts) (name ++ (61 ∷ value)) front
+Spells (in_string parts name content) front =
+    IsToken name × IsOpenContent content × Behind (Opened parts) (name ++ (61 ∷ 34 ∷ content)) front
 
 -- ---- a byte more
 
 -- after bytes of a class,
 one_more : (class : ℕ → Bool) (bytes : List ℕ) (b : ℕ) → list_all class bytes ≡ true → class b ≡ true
     → list_all class (bytes ++ (b ∷ [])) ≡ true
-one_more class bytes b all is =
-    list_all-append class bytes (b ∷ []) ∙ and_from (list_all class bytes) _ all (and_from (class b) true is refl)
+one_more class bytes b all is = grind (arith, list_all-append)
 
 -- token bytes,
 token_more : (token : List ℕ) (b : ℕ) → AreTokenBytes token → is_token_byte b ≡ true → IsToken (token ++ (b ∷ []))
@@ -46,15 +46,10 @@ content_more no_byte is = is
 content_more (text_byte b content text rest) is = text_byte b _ text (content_more rest is)
 content_more (quoted_pair b content fits rest) is = quoted_pair b _ fits (content_more rest is)
 
--- what has white space before it, and a media type before it
-indented_more : {bytes all front : List ℕ} (b : ℕ) → bytes ++ (b ∷ []) ≡ all → Indented bytes front → Indented all (front ++ (b ∷ []))
-indented_more {bytes} {all} b same (indented before white) =
-    subst (Indented all) (rw (← same) (sym (append_assoc before bytes (b ∷ [])))) (indented before white)
-
-follows_more : {parts : Parts} {bytes all front : List ℕ} (b : ℕ) → bytes ++ (b ∷ []) ≡ all → Follows parts bytes front
-    → Follows parts all (front ++ (b ∷ []))
-follows_more {parts} {bytes} {all} b same (follows first after is white) =
-    subst (Follows parts all) (rw (← same) (simp append_assoc)) (follows first after is white)
+-- and bytes behind others
+more : {Front : List ℕ → Type 0} {bytes front : List ℕ} (b : ℕ) → Behind Front bytes front
+    → Behind Front (bytes ++ (b ∷ [])) (front ++ (b ∷ []))
+more b (behind front is) = simp append_assoc (behind front is)
 
 -- ---- a media type
 
@@ -62,48 +57,41 @@ follows_more {parts} {bytes} {all} b same (follows first after is white) =
 parameters_more : {bytes more : List ℕ} {pairs others : List (List ℕ × List ℕ)} → AreHttpParameters bytes pairs
     → AreHttpParameters more others → AreHttpParameters (bytes ++ more) (pairs ++ others)
 parameters_more no_more are = are
-parameters_more {more = more} {others = others} (semicolon before after rest pairs white space all) are =
-    subst (λ bytes. AreHttpParameters bytes (pairs ++ others)) (simp append_assoc)
-    (semicolon before after (rest ++ more) (pairs ++ others) white space (parameters_more all are))
-parameters_more {more = more} {others = others} (semicolon_and before after parameter rest pair pairs white space is all) are =
-    subst (λ bytes. AreHttpParameters bytes (pair ∷ (pairs ++ others))) (simp append_assoc)
-    (semicolon_and before after parameter (rest ++ more) pair (pairs ++ others) white space is (parameters_more all are))
+parameters_more (semicolon before after _ _ white space all) are =
+    simp append_assoc (semicolon before after _ _ white space (parameters_more all are))
+parameters_more (semicolon_and before after parameter _ pair _ white space is all) are =
+    simp append_assoc (semicolon_and before after parameter _ pair _ white space is (parameters_more all are))
 
 -- a type and a subtype,
-essence_read : {top sub front : List ℕ} → IsToken top → IsToken sub → Indented (top ++ (47 ∷ sub)) front
+essence_read : {top sub front : List ℕ} → IsToken top → IsToken sub → Behind AreSpaces (top ++ (47 ∷ sub)) front
     → Whole (record { top = top; sub = sub; pairs = [] }) front
-essence_read {top} {sub} is_top is_sub (indented before white) =
+essence_read {top} {sub} is_top is_sub (behind before white) =
     subst (λ x. Whole (record { top = top; sub = sub; pairs = [] }) (before ++ (top ++ (47 ∷ x)))) (append-nil sub)
     (whole before [] [] white is_top is_sub no_more refl)
 
 -- with white space after it,
 space_after : {parts : Parts} {front : List ℕ} (b : ℕ) → is_space b ≡ true → Whole parts front → Whole parts (front ++ (b ∷ []))
-space_after {parts} b space (whole before parameters after first top sub are last) =
-    subst (Whole parts) (simp append_assoc)
-    (whole before parameters (after ++ (b ∷ [])) first top sub are (one_more is_space after b last space))
+space_after b space (whole before parameters after first top sub are last) =
+    simp append_assoc (whole before parameters _ first top sub are (one_more is_space after b last space))
 
 -- with a parameter after a semicolon,
 parameter_after : {parts : Parts} {bytes front : List ℕ} (name value : List ℕ) → IsHttpParameter bytes (lowered_pair (name, value))
-    → Follows parts bytes front → Whole (with_parameter parts name value) front
-parameter_after {parts} {bytes} name value is (follows _ space (whole before parameters after first top sub are last) white) =
+    → Behind (Opened parts) bytes front → Whole (with_parameter parts name value) front
+parameter_after {parts} {bytes} name value is (behind _ (opened _ space (whole before parameters after first top sub are last) white)) =
     subst (Whole (with_parameter parts name value)) (simp (append_assoc, append-nil))
     (whole before (parameters ++ (after ++ (59 ∷ (space ++ (bytes ++ []))))) [] first top sub
-    (subst (AreHttpParameters _) (sym (map-append lowered_pair parts.pairs ((name, value) ∷ [])))
+    (rw (map-append lowered_pair parts.pairs ((name, value) ∷ []))
     (parameters_more are (semicolon_and after space bytes [] (lowered_pair (name, value)) [] last white is no_more))) refl)
 
--- and with none
-nothing_after : {parts : Parts} {front : List ℕ} → Follows parts [] front → Whole parts front
-nothing_after {parts} (follows _ space (whole before parameters after first top sub are last) white) =
-    subst (Whole parts) (simp (append_assoc, append-nil))
-    (whole before (parameters ++ (after ++ (59 ∷ (space ++ [])))) [] first top sub
-    (subst (AreHttpParameters _) (append-nil _) (parameters_more are (semicolon after space [] [] last white no_more))) refl)
+-- and with none,
+nothing_after : {parts : Parts} {front : List ℕ} → Opened parts front → Whole parts front
+nothing_after {parts} (opened _ space (whole before parameters after first top sub are last) white) =
+    let more = rw (append-nil (map lowered_pair parts.pairs)) at (parameters_more are (semicolon after space [] [] last white no_more)) in
+    subst (Whole parts) (simp (append_assoc, append-nil)) (whole before _ [] first top sub more refl)
 
--- what may go on with white space
-space_inside : {parts : Parts} {front : List ℕ} (b : ℕ) → is_space b ≡ true → Follows parts [] front
-    → Follows parts [] (front ++ (b ∷ []))
-space_inside {parts} b space (follows first after is white) =
-    subst (Follows parts []) (simp (append_assoc, append-nil))
-    (follows first (after ++ (b ∷ [])) is (one_more is_space after b white space))
+-- which may go on with white space
+space_inside : {parts : Parts} {front : List ℕ} (b : ℕ) → is_space b ≡ true → Opened parts front → Opened parts (front ++ (b ∷ []))
+space_inside b space (opened first after is white) = simp append_assoc (opened first _ is (one_more is_space after b white space))
 
 -- ---- the state after a byte
 
@@ -112,55 +100,24 @@ module _ (b : ℕ) (front : List ℕ) where
   abbrev Fits : Option State → Type 0
   Fits after = MatchOption after ⊤ (λ next. Spells next (front ++ (b ∷ [])))
 
-  either : (test : Bool) (one other : Option State) → (test ≡ true → Fits one) → (test ≡ false → Fits other)
-      → Fits (if test then one else other)
-  either test one other = cond_both test one other Fits
-
-  -- after a media type,
-  semicolon_after : {parts : Parts} → (b == 59) ≡ true → Whole parts front → Follows parts [] (front ++ (b ∷ []))
-  semicolon_after {parts} same is =
-      subst (λ x. Follows parts [] (front ++ (x ∷ []))) (sym (eqb-true b 59 same)) (follows front [] is refl)
-
-  after_whole : {parts : Parts} → Whole parts front → Fits (next_after parts b)
-  after_whole is =
-      either (is_space b) _ _ (λ space. space_after b space is)
-      (λ other. either (b == 59) _ _ (λ same. semicolon_after same is) (λ no. tt))
-
-  -- and so in each state
+  -- so it is in each state
   after_state : (state : State) → Spells state front → Fits (next state b)
-  after_state before_type is =
-      either (is_token_byte b) _ _ (λ token. (token_more [] b refl token, indented front is))
-      (λ other. either (is_space b) _ _ (λ space. one_more is_space front b is space) (λ no. tt))
-  after_state (in_type top) is =
-      either (is_token_byte b) _ _ (λ token. (token_more top b (AreTokenBytes-from_token top is.0) token, indented_more b refl is.1))
-      (λ other. either (b == 47) _ _
-      (λ same. (is.0, refl, indented_more b (ap (λ x. top ++ (x ∷ [])) (eqb-true b 47 same)) is.1)) (λ no. tt))
-  after_state (in_subtype top []) is =
-      either (is_token_byte b) _ _ (λ token. (is.0, token_more [] b refl token, indented_more b (simp append_assoc) is.2)) (λ no. tt)
+  after_state before_type is = grind (arith, cond_both, token_more, behind, one_more)
+  after_state (in_type top) is = grind (arith, cond_both, token_more, AreTokenBytes-from_token, more b is.1, eqb-true)
   after_state (in_subtype top (s ∷ sub)) is =
-      either (is_token_byte b) _ _ (λ token. (is.0, token_more (s ∷ sub) b is.1 token, indented_more b (simp append_assoc) is.2))
-      (λ other. after_whole (essence_read is.0 is.1 is.2))
-  after_state (before_semicolon parts) is = after_whole is
-  after_state (after_semicolon parts) is =
-      either (is_space b) _ _ (λ space. space_inside b space is)
-      (λ other. either (is_token_byte b) _ _ (λ token. (token_more [] b refl token, follows_more b refl is))
-      (λ other. either (b == 59) _ _ (λ same. semicolon_after same (nothing_after is)) (λ no. tt)))
-  after_state (in_name parts name) is =
-      either (is_token_byte b) _ _ (λ token. (token_more name b (AreTokenBytes-from_token name is.0) token, follows_more b refl is.1))
-      (λ other. either (b == 61) _ _
-      (λ same. (is.0, refl, follows_more b (ap (λ x. name ++ (x ∷ [])) (eqb-true b 61 same)) is.1)) (λ no. tt))
-  after_state (in_value parts name []) is =
-      either (is_token_byte b) _ _ (λ token. (is.0, token_more [] b refl token, follows_more b (simp append_assoc) is.2))
-      (λ other. either (b == 34) _ _
-      (λ same. (is.0, refl, follows_more b (rw (eqb-true b 34 same) (append_assoc name (61 ∷ []) (34 ∷ []))) is.2)) (λ no. tt))
+      let whole = essence_read is.0 is.1 is.2 in
+      grind (arith, cond_both, token_more, more b is.2, append_assoc, space_after, opened, eqb-true, whole)
+  after_state (before_semicolon parts) is = grind (arith, cond_both, space_after, opened, eqb-true)
+  after_state (after_semicolon parts) is = grind (arith, cond_both, space_inside, token_more, behind, opened, nothing_after, eqb-true)
+  after_state (in_name parts name) is = grind (arith, cond_both, token_more, AreTokenBytes-from_token, more b is.1, eqb-true)
   after_state (in_value parts name (v ∷ value)) is =
-      either (is_token_byte b) _ _ (λ token. (is.0, token_more (v ∷ value) b is.1 token, follows_more b (simp append_assoc) is.2))
-      (λ other. after_whole (parameter_after name (v ∷ value) (with_token name (v ∷ value) is.0 is.1) is.2))
+      let whole = parameter_after name (v ∷ value) (with_token name (v ∷ value) is.0 is.1) is.2 in
+      grind (arith, cond_both, token_more, more b is.2, append_assoc, space_after, opened, eqb-true, whole)
   after_state (in_string parts name content) is =
-      either (continues content b) _ _ (λ more. (is.0, IsOpenContent-push content b is.1 more, follows_more b (simp append_assoc) is.2))
-      (λ stopped. either (b == 34) _ _
-      (λ same. parameter_after name content (with_string name content is.0 (IsContent-closed content b is.1 stopped same))
-      (follows_more b (rw (eqb-true b 34 same) (simp append_assoc)) is.2)) (λ no. tt))
+      let whole = λ (closed : IsContent content).
+      parameter_after {parts = parts} {front = front ++ (b ∷ [])} name content (with_string name content is.0 closed) in
+      grind (arith, cond_both, IsOpenContent-push, more b is.2, append_assoc, IsContent-closed, eqb-true, whole)
+  after_state begun is = grind (arith, cond_both, token_more, more b is.2, append_assoc, eqb-true)
 
 -- the bytes are what the next state says
 pub spelled_after : (state after : State) (b : ℕ) (front : List ℕ) → next state b ≡ Some after → Spells state front
@@ -172,22 +129,7 @@ spelled_after state after b front goes is =
 
 -- a media type of these parts is what HTTP writes
 whole_is_http : {parts : Parts} {value : List ℕ} → Whole parts value → HttpReads value (media_of parts)
-whole_is_http {parts} (whole before parameters after first top sub are last) = record {
-  before = before;
-  top = parts.top;
-  sub = parts.sub;
-  parameters = parameters;
-  after = after;
-  spelled = refl;
-  white_before = first;
-  is_top = top;
-  is_sub = sub;
-  are_parameters = are;
-  white_after = last;
-  essence = refl;
-  slash = refl;
-  plus = refl;
-}
+whole_is_http {parts} (whole before parameters after first top sub are last) = grind arith
 
 -- so are the parts that are an answer
 abbrev pub IsRead : List ℕ → Answer → Type 0
@@ -196,11 +138,9 @@ IsRead value (rejected fault) = ⊤
 
 -- at the end,
 pub read_at_end : (state : State) (value : List ℕ) → Spells state value → IsRead value (answer_at_end state)
-read_at_end (in_subtype top []) value is = tt
 read_at_end (in_subtype top (s ∷ sub)) value is = whole_is_http (essence_read is.0 is.1 is.2)
 read_at_end (before_semicolon parts) value is = whole_is_http is
 read_at_end (after_semicolon parts) value is = whole_is_http (nothing_after is)
-read_at_end (in_value parts name []) value is = tt
 read_at_end (in_value parts name (v ∷ value)) front is =
     whole_is_http (parameter_after name (v ∷ value) (with_token name (v ∷ value) is.0 is.1) is.2)
 read_at_end other value is = tt
@@ -209,10 +149,10 @@ read_at_end other value is = tt
 pub read_from : (bytes : List ℕ) (state : State) (at : ℕ) (front : List ℕ) → Spells state front
     → IsRead (front ++ bytes) (answer_from state at bytes)
 read_from [] state at front is = rw (append-nil front) (read_at_end state front is)
-read_from (b ∷ bytes) state at front is = by_option (next state b)
-    (λ stops. rw stops tt)
-    (λ after goes. rw goes (subst (λ x. IsRead x (answer_from after (at + 1) bytes)) (append_assoc front (b ∷ []) bytes)
-    (read_from bytes after (at + 1) (front ++ (b ∷ [])) (spelled_after state after b front goes is))))
+read_from (b ∷ bytes) state at front is =
+    let rest = λ (after : State) (goes : next state b ≡ Some after).
+    read_from bytes after (at + 1) (front ++ (b ∷ [])) (spelled_after state after b front goes is) in
+    grind (arith, rest, append_assoc)
 
 -- so what is read of a value is what HTTP writes
 pub answered_is_http : (value : List ℕ) (parts : Parts) → answer_of value ≡ read parts → HttpReads value (media_of parts)

@@ -1,6 +1,6 @@
 -- The fault of a value that isn't read is the answer: where reading stops nothing helps, and at each byte before that something does.
-use Rattle.mime_http.proofs.Common.{Answer, Bool, EndsIn, HttpLacks, HttpReads, InvalidToken, IsHttpFault, IsHttpLongestPrefix, IsHttpMediaType, IsHttpViable, List, MissingEqual, MissingQuote, MissingSlash, MissingSubtype, MissingValue, NoMemory, None, OneHttpFault, ParseError, Parts, State, [], awaits_after, before_semicolon, is_quoted_text_byte, list_all, true, with_parameter, answer_at_end, answer_from, answer_of, ap, append-nil, append_assoc, arith, before_type, by_option, false, codes, completion_of, cons_option, in_name, in_string, in_subtype, in_type, in_value, is_quoted_byte, is_token_byte, last_byte_of, length, length-append, media_of, next, read, refl, rejected, same_Some, slice_get, slice_get-prefix, slice_get_within, subst, suc, sym, take, take-append-add, take-append_seam, take-length, unwrap_or, ℕ, ⊤, ◌++◌, ◌+◌, ◌-◌, ◌<◌, ◌∙◌, ◌∷◌, ◌≡◌, ◌≢◌, closed-letter, takes_all-any}
-use Rattle.mime_http.proofs.{Runs.no_way, Runs.on_open, Runs.one_byte, ReadBack.Follows, ReadBack.IsRead, ReadBack.Indented, ReadBack.Spells, ReadBack.follows, ReadBack.indented, ReadBack.answered_is_http, ReadBack.read_at_end, ReadBack.read_from, ReadBack.spelled_after, ReadForth.http_is_answered}
+use Rattle.mime_http.proofs.Common.{Answer, not, ◌==◌, nat_tests, EndsIn, InvalidToken, IsHttpFault, IsHttpMediaType, IsHttpViable, List, MissingQuote, MissingSubtype, MissingValue, NoMemory, None, OneHttpFault, ParseError, Parts, State, [], awaits_after, list_all, true, with_parameter, answer_at_end, answer_from, answer_of, ap, append-nil, append_assoc, arith, before_type, by_option, false, codes, completion_of, cons_option, in_name, in_string, in_subtype, in_type, in_value, is_quoted_byte, is_token_byte, last_byte_of, length, length-append, media_of, next, read, refl, rejected, slice_get-prefix, slice_get_within, subst, suc, sym, take, take-append-add, take-append_seam, take-length, unwrap_or, ℕ, ⊤, ◌++◌, ◌+◌, ◌-◌, ◌∙◌, ◌∷◌, ◌≡◌, ◌≢◌, closed-letter, takes_all-any}
+use Rattle.mime_http.proofs.{Runs.no_way, Runs.one_byte, ReadBack.Behind, ReadBack.Spells, ReadBack.behind, ReadBack.answered_is_http, ReadBack.read_at_end, ReadBack.read_from, ReadBack.spelled_after, ReadForth.http_is_answered}
 
 -- what isn't read is no media type
 pub rejected_is_none : (value : List ℕ) (fault : ParseError) → answer_of value ≡ rejected fault → ¬ (IsHttpMediaType value)
@@ -8,112 +8,68 @@ rejected_is_none value fault e is = let answered = http_is_answered value is.0 i
 
 -- ---- the end
 
--- the last byte is the slash, and the equals sign
-after_slash : (top front : List ℕ) → Indented (top ++ (47 ∷ [])) front → EndsIn front 47
-after_slash top front (indented before white) = (before ++ top, sym (append_assoc before top (47 ∷ [])))
+-- the last byte of bytes behind others is the last of all
+ends_in : {Front : List ℕ → Type 0} (bytes front : List ℕ) (b : ℕ) → Behind Front (bytes ++ (b ∷ [])) front → EndsIn front b
+ends_in bytes front b (behind before is) = (before ++ bytes, simp append_assoc)
 
-after_equals : (parts : Parts) (name front : List ℕ) → Follows parts (name ++ (61 ∷ [])) front → EndsIn front 61
-after_equals parts name front (follows first after is white) = (first ++ (59 ∷ (after ++ name)), simp append_assoc)
-
--- letters go on in a quoted string, after a backslash, too,
-letters_go_on : (parts : Parts) (name content letters : List ℕ) (at : ℕ) (bytes : List ℕ) → list_all is_quoted_text_byte letters ≡ true
-    → answer_from (in_string parts name content) at (letters ++ bytes)
-    ≡ answer_from (in_string parts name (content ++ letters)) (at + length letters) bytes
-letters_go_on parts name content letters at bytes all =
-    on_open parts name letters content (takes_all-any (awaits_after false content) letters all) at bytes
-
--- so a letter and a quote close it
+-- a letter and a quote close a quoted string, after a backslash, too
 letter_closes : (parts : Parts) (name content : List ℕ) (at : ℕ)
     → answer_from (in_string parts name content) at (codes "x\"") ≡ read (with_parameter parts name (content ++ (120 ∷ [])))
 unfolding is_quoted_byte
-letter_closes parts name content at =
-    letters_go_on parts name content (120 ∷ []) at (34 ∷ []) refl
-    ∙ one_byte (in_string parts name (content ++ (120 ∷ []))) (before_semicolon (with_parameter parts name (content ++ (120 ∷ [])))) _ 34 []
-    (rw (closed-letter content) refl)
-
--- the value is the media type that is the answer, or lacks what it says
-abbrev IsAnswered : List ℕ → Answer → Type 0
-IsAnswered value (read parts) = HttpReads value (media_of parts)
-IsAnswered value (rejected fault) = HttpLacks value fault
-
--- so it is at the end
-answered_at_end : (state : State) (value : List ℕ) → Spells state value → IsAnswered value (answer_at_end state)
-unfolding is_token_byte is_quoted_byte
-answered_at_end before_type value is = ((_, read_from (codes "x/x") before_type 0 value is), tt)
-answered_at_end (in_type top) value is = ((_, read_from (codes "x/x") (in_type top) 0 value is), tt)
-answered_at_end (in_subtype top []) value is = ((_, read_from (codes "x") (in_subtype top []) 0 value is), after_slash top value is.2)
-answered_at_end (in_name parts name) value is = ((_, read_from (codes "=x") (in_name parts name) 0 value is), tt)
-answered_at_end (in_value parts name []) value is =
-    ((_, read_from (codes "x") (in_value parts name []) 0 value is), after_equals parts name value is.2)
-answered_at_end (in_string parts name content) value is = (
-  (
-    _,
-    subst (IsRead (value ++ codes "x\"")) (letter_closes parts name content 0)
-        (read_from (codes "x\"") (in_string parts name content) 0 value is),
-  ),
-  tt,
-)
-answered_at_end state value is = read_at_end state value is
+letter_closes parts name content at = grind (arith, takes_all-any (awaits_after false content) (120 ∷ []) refl, closed-letter content)
 
 -- the fault that is an answer is the value's
 abbrev IsExplained : List ℕ → Answer → Type 0
 IsExplained value (read parts) = ⊤
 IsExplained value (rejected fault) = IsHttpFault value fault
 
--- so it is if the value lacks what it says, and then the value is viable
-lacks_explains : (value : List ℕ) (fault : ParseError) → HttpLacks value fault → IsHttpViable value × IsHttpFault value fault
-lacks_explains value (InvalidToken pos byte) lacks = absurd lacks.0
-lacks_explains value NoMemory lacks = absurd lacks.0
-lacks_explains value fault lacks = ((_, lacks.0), lacks)
+-- a value that is read with more bytes after it lacks them, and is viable
+lacking : (value more : List ℕ) (state : State) {parts : Parts} {Last : Type 0} → Spells state value
+    → answer_from state 0 more ≡ read parts → Last → IsHttpViable value × (IsHttpMediaType (value ++ more) × Last)
+lacking value more state {parts} is reads last = grind (arith, read_from)
 
+-- so it is at the end, where the fault is its own
 at_end : (state : State) (value : List ℕ) → Spells state value → IsHttpViable value × IsExplained value (answer_at_end state)
-at_end state value is = go (answer_at_end state) (answered_at_end state value is)
-  where
-    go : (answer : Answer) → IsAnswered value answer → IsHttpViable value × IsExplained value answer
-    go (read parts) reads = (([], subst IsHttpMediaType (sym (append-nil value)) (media_of parts, reads)), tt)
-    go (rejected fault) lacks = lacks_explains value fault lacks
-
--- ---- a byte that leads nowhere
-
--- each prefix of a viable value is viable,
-prefix_of_http_viable : (front more : List ℕ) → IsHttpViable (front ++ more) → IsHttpViable front
-prefix_of_http_viable front more viable = (more ++ viable.0, subst IsHttpMediaType (append_assoc front more viable.0) viable.1)
-
--- so bytes that are viable and aren't with the next are the longest prefix
-longest_at : (front : List ℕ) (b : ℕ) (bytes : List ℕ) → IsHttpViable front → ¬ (IsHttpViable (front ++ (b ∷ [])))
-    → IsHttpLongestPrefix (front ++ (b ∷ bytes)) (length front)
-longest_at front b bytes viable dies = record {
-  within = omega (arith, length-append front (b ∷ bytes));
-  viable = subst IsHttpViable (sym (take-append_seam front (b ∷ bytes))) viable;
-  longest = λ n above within more.
-      let k = n - suc (length front) in
-      let is : n ≡ length front + suc k = omega arith in
-      dies (prefix_of_http_viable (front ++ (b ∷ [])) (take k bytes) (subst IsHttpViable (ap (λ n. take n (front ++ (b ∷ bytes))) is
-      ∙ take-append-add front (b ∷ bytes) (suc k) ∙ sym (append_assoc front (b ∷ []) (take k bytes))) more));
-}
-
--- bytes that lead to a state, of which reading goes on there with whatever follows, and one that leads nowhere aren't viable
-dies_there : (state : State) (front : List ℕ) (b : ℕ) → next state b ≡ None
-    → ((bytes : List ℕ) → answer_of (front ++ bytes) ≡ answer_from state (length front) bytes) → ¬ (IsHttpViable (front ++ (b ∷ [])))
-dies_there state front b stops goes viable =
-    rejected_is_none _ _ (ap answer_of (append_assoc front (b ∷ []) viable.0) ∙ goes (b ∷ viable.0)
-    ∙ no_way state (length front) b viable.0 stops) viable.1
+unfolding is_token_byte is_quoted_byte
+at_end before_type value is = lacking value (codes "x/x") before_type is refl tt
+at_end (in_type top) value is = lacking value (codes "x/x") (in_type top) is refl tt
+at_end (in_subtype top []) value is = lacking value (codes "x") (in_subtype top []) is refl (ends_in top value 47 is.2)
+at_end (in_name parts name) value is = lacking value (codes "=x") (in_name parts name) is refl tt
+at_end (in_value parts name []) value is = lacking value (codes "x") (in_value parts name []) is refl (ends_in name value 61 is.2)
+at_end (in_string parts name content) value is =
+    lacking value (codes "x\"") (in_string parts name content) is (letter_closes parts name content 0) tt
+at_end state value is = (([], rw (append-nil value) (_, read_at_end state value is)), tt)
 
 -- ---- the fault
+
+-- a byte that leads nowhere is at fault after bytes that are viable, if reading goes on from a state after them, whatever follows,
+dead_at : (state : State) (front : List ℕ) (b : ℕ) (bytes : List ℕ) → next state b ≡ None → IsHttpViable front
+    → ((more : List ℕ) → answer_of (front ++ more) ≡ answer_from state (length front) more)
+    → IsHttpFault (front ++ (b ∷ bytes)) (InvalidToken (length front) b)
+dead_at state front b bytes stops viable goes = record {
+  prefix = record {
+    within = omega (arith, length-append front (b ∷ bytes));
+    viable = rw take-append_seam viable;
+    longest = λ n above within viable.
+        let k = n - suc (length front) in
+        let is : n ≡ length front + suc k = omega arith in
+        let text : take n (front ++ (b ∷ bytes)) ++ viable.0 ≡ front ++ (b ∷ (take k bytes ++ viable.0)) =
+        grind (arith, take-append-add front (b ∷ bytes) (suc k), append_assoc) in
+        rejected_is_none _ _ (ap answer_of text ∙ goes _ ∙ no_way state (length front) b _ stops) viable.1;
+  };
+  there = slice_get-prefix front b bytes (length front) refl;
+}
 
 -- so the fault is the value's, from a state on
 explained_from : (bytes : List ℕ) (state : State) (at : ℕ) (front : List ℕ) → at ≡ length front → Spells state front
     → ((more : List ℕ) → answer_of (front ++ more) ≡ answer_from state at more) → IsExplained (front ++ bytes) (answer_from state at bytes)
 explained_from [] state at front there is goes = rw (append-nil front) (at_end state front is).1
 explained_from (b ∷ bytes) state at front there is goes = by_option (next state b)
-    (λ stops. rw (stops, there) (record {
-      prefix = longest_at front b bytes (at_end state front is).0 (dies_there state front b stops (rw there at goes));
-      there = slice_get-prefix front b bytes (length front) refl;
-    }))
-    (λ after leads. rw leads (subst (λ x. IsExplained x (answer_from after (at + 1) bytes)) (append_assoc front (b ∷ []) bytes)
-    (explained_from bytes after (at + 1) (front ++ (b ∷ [])) (omega (arith, there, length-append front (b ∷ [])))
-    (spelled_after state after b front leads is)
-    (λ more. ap answer_of (append_assoc front (b ∷ []) more) ∙ goes (b ∷ more) ∙ one_byte state after at b more leads))))
+    (λ stops. rw (stops, there) (dead_at state front b bytes stops (at_end state front is).0 (rw there at goes)))
+    (λ after leads.
+    let here : at + 1 ≡ length (front ++ (b ∷ [])) = omega (arith, there, length-append front (b ∷ [])) in
+    let on = λ (more : List ℕ). ap answer_of (append_assoc front (b ∷ []) more) ∙ goes (b ∷ more) ∙ one_byte state after at b more leads in
+    rw leads (rw append_assoc at (explained_from bytes after (at + 1) _ here (spelled_after state after b front leads is) on)))
 
 -- from the first on
 pub answered_fault : (value : List ℕ) (fault : ParseError) → answer_of value ≡ rejected fault → IsHttpFault value fault
@@ -121,15 +77,19 @@ answered_fault value fault e = subst (IsExplained value) e (explained_from value
 
 -- ---- one fault
 
+-- an answer is a media type or a fault
+by_answer : {P : Type 0} (answer : Answer) → ((parts : Parts) → answer ≡ read parts → P)
+    → ((fault : ParseError) → answer ≡ rejected fault → P) → P
+by_answer (read parts) is isnt = is parts refl
+by_answer (rejected fault) is isnt = isnt fault refl
+
 -- bytes that are read with others after them are rejected alone, if they are so from each state on
 sole_from : (last more : List ℕ) (fault : ParseError) → ((state : State) (at : ℕ) (parts : Parts)
     → answer_from state at (last ++ more) ≡ read parts → answer_from state at last ≡ rejected fault)
     → (front : List ℕ) (state : State) (at : ℕ) (parts : Parts) → answer_from state at (front ++ (last ++ more)) ≡ read parts
     → answer_from state at (front ++ last) ≡ rejected fault
 sole_from last more fault each [] state at parts is = each state at parts is
-sole_from last more fault each (b ∷ front) state at parts is = by_option (next state b)
-    (λ stops. absurd (cc (rw stops at is)))
-    (λ after goes. rw goes (sole_from last more fault each front after (at + 1) parts (rw goes at is)))
+sole_from last more fault each (b ∷ front) state at parts is = grind (arith, sole_from last more fault each front, by_option)
 
 -- the byte that a value with a fault ends in, if it must, and what completes it, if anything does
 abbrev last_of : ParseError → List ℕ
@@ -138,87 +98,50 @@ last_of fault = cons_option (last_byte_of fault) []
 abbrev more_of : ParseError → List ℕ
 more_of fault = unwrap_or (completion_of fault) (0 ∷ [])
 
--- letters alone end no quoted string,
-go_on : (before : Parts) (name content letters : List ℕ) (at : ℕ) (parts : Parts) → list_all is_quoted_text_byte letters ≡ true
-    → answer_from (in_string before name content) at letters ≢ read parts
-go_on before name content letters at parts all is =
-    let same = ap (answer_from (in_string before name content) at) (sym (append-nil letters)) in
-    absurd (cc (same, letters_go_on before name content letters at [] all, is))
-
--- and a zero byte stands in none,
-no_byte_0 : (awaiting : Bool) (before : Parts) (name content : List ℕ) (at : ℕ) (parts : Parts) → awaits_after false content ≡ awaiting
-    → answer_from (in_string before name content) at (0 ∷ []) ≢ read parts
-unfolding is_quoted_byte
-no_byte_0 true before name content at parts e is = absurd (cc (rw e at is))
-no_byte_0 false before name content at parts e is = absurd (cc (rw e at is))
+-- bytes without a quote end no quoted string
+no_quote : (before : Parts) (name content bytes : List ℕ) (at : ℕ) (parts : Parts) → list_all (λ b. not (b == 34)) bytes ≡ true
+    → answer_from (in_string before name content) at bytes ≢ read parts
+no_quote before name content [] at parts all is = absurd cc
+no_quote before name content (b ∷ bytes) at parts all is =
+    grind (arith, nat_tests, no_quote before name (content ++ (b ∷ [])) bytes (at + 1) parts)
 
 -- each state that is completed so has the fault
 has_fault : (fault : ParseError) (state : State) (at : ℕ) (parts : Parts)
     → answer_from state at (last_of fault ++ more_of fault) ≡ read parts → answer_from state at (last_of fault) ≡ rejected fault
 unfolding is_token_byte is_quoted_byte
-has_fault MissingSlash before_type at parts is = refl
-has_fault MissingSlash (in_type top) at parts is = refl
-has_fault MissingSubtype (in_type top) at parts is = refl
-has_fault MissingEqual (in_name _ name) at parts is = refl
-has_fault MissingValue (in_name _ name) at parts is = refl
 has_fault MissingQuote (in_string _ name content) at parts is = refl
-has_fault MissingSlash (in_string before name content) at parts is = absurd (go_on before name content (codes "x/x") at parts refl is)
-has_fault MissingSubtype (in_string before name content) at parts is = absurd (go_on before name content (codes "/x") at parts refl is)
-has_fault MissingEqual (in_string before name content) at parts is = absurd (go_on before name content (codes "=x") at parts refl is)
-has_fault MissingValue (in_string before name content) at parts is = absurd (go_on before name content (codes "=x") at parts refl is)
-has_fault fault (in_string before name content) at parts is =
-    absurd (no_byte_0 (awaits_after false content) before name content at parts refl is)
+has_fault fault (in_string before name content) at parts is = grind (arith, no_quote)
 has_fault fault (in_subtype top []) at parts is = absurd cc
 has_fault fault (in_value _ name []) at parts is = absurd cc
-has_fault fault state at parts is = absurd cc
+has_fault fault state at parts is = grind arith
 
 -- so what is missing is the answer
-lacks_answered : (value : List ℕ) (fault : ParseError) → HttpLacks value fault → answer_of value ≡ rejected fault
-lacks_answered value fault lacks = go fault lacks
-  where
-    by : (fault : ParseError) (front : List ℕ) → value ≡ front ++ last_of fault → IsHttpMediaType (value ++ more_of fault)
-        → answer_of value ≡ rejected fault
-    by fault front same is =
-        let whole = ap (λ bytes. bytes ++ more_of fault) same ∙ append_assoc front (last_of fault) (more_of fault) in
-        let answered = http_is_answered _ is.0 is.1 in
-        ap answer_of same
-        ∙ sole_from (last_of fault) (more_of fault) fault (has_fault fault) front before_type 0 _ (ap answer_of (sym whole) ∙ answered.1)
-
-    go : (fault : ParseError) → HttpLacks value fault → answer_of value ≡ rejected fault
-    go (InvalidToken pos byte) lacks = absurd lacks.0
-    go NoMemory lacks = absurd lacks.0
-    go MissingSubtype (is, (front, same)) = by MissingSubtype front same is
-    go MissingValue (is, (front, same)) = by MissingValue front same is
-    go fault lacks = by fault value (sym (append-nil value)) lacks.0
-
--- the longest prefix is one
-prefix_unique : (value : List ℕ) (m n : ℕ) → IsHttpLongestPrefix value m → IsHttpLongestPrefix value n → m ≡ n
-prefix_unique value m n first second =
-    let not_below : ¬ (m < n) = λ below. first.longest n below second.within second.viable in
-    let not_above : ¬ (n < m) = λ above. second.longest m above first.within first.viable in
-    omega arith
+completed : (value : List ℕ) (fault : ParseError) (front : List ℕ) → value ≡ front ++ last_of fault
+    → IsHttpMediaType (value ++ more_of fault) → answer_of value ≡ rejected fault
+completed value fault front same is =
+    let answered = (http_is_answered _ is.0 is.1).1 in
+    let sole = sole_from (last_of fault) (more_of fault) fault (has_fault fault) front before_type 0 in
+    grind (arith, answered, append_assoc, sole)
 
 -- a fault of a value is the answer,
 pub fault_answered : (value : List ℕ) (fault : ParseError) → IsHttpFault value fault → answer_of value ≡ rejected fault
-fault_answered value (InvalidToken pos byte) dead = go (answer_of value) refl
+fault_answered value (InvalidToken pos byte) dead = by_answer (answer_of value)
+    (λ parts e. absurd (not_viable ([], rw (append-nil value) (media_of parts, answered_is_http value parts e))))
+    (λ fault e. e ∙ found fault (answered_fault value fault e))
   where
     not_viable : ¬ (IsHttpViable value)
     not_viable viable =
-        dead.prefix.longest (length value) (slice_get_within value pos byte dead.there) (omega arith)
-        (subst IsHttpViable (sym (take-length value)) viable)
+        dead.prefix.longest (length value) (slice_get_within value pos byte dead.there) (omega arith) (rw (take-length value) viable)
 
     found : (fault : ParseError) → IsHttpFault value fault → rejected fault ≡ rejected (InvalidToken pos byte)
     found (InvalidToken place other) is =
-        let same : place ≡ pos = prefix_unique value place pos is.prefix dead.prefix in
-        let bytes : other ≡ byte = same_Some other byte (sym is.there ∙ (ap (slice_get value) same ∙ dead.there)) in
-        λ i. rejected (InvalidToken (same i) (bytes i))
-    found fault lacks = absurd (not_viable (lacks_explains value fault lacks).0)
-
-    go : (answer : Answer) → answer_of value ≡ answer → answer ≡ rejected (InvalidToken pos byte)
-    go (read parts) e =
-        absurd (not_viable ([], subst IsHttpMediaType (sym (append-nil value)) (media_of parts, answered_is_http value parts e)))
-    go (rejected fault) e = found fault (answered_fault value fault e)
-fault_answered value fault lacks = lacks_answered value fault lacks
+        let same : place ≡ pos = grind (arith, is.prefix.longest pos, dead.prefix.longest place) in cc (same, is.there, dead.there)
+    found NoMemory lacks = absurd lacks.0
+    found fault lacks = absurd (not_viable (_, lacks.0))
+fault_answered value NoMemory lacks = absurd lacks.0
+fault_answered value MissingSubtype (is, (front, same)) = completed value MissingSubtype front same is
+fault_answered value MissingValue (is, (front, same)) = completed value MissingValue front same is
+fault_answered value fault lacks = completed value fault value (sym (append-nil value)) lacks.0
 
 -- so a media type has none,
 pub no_fault : (value : List ℕ) (fault : ParseError) → IsHttpMediaType value → ¬ (IsHttpFault value fault)
@@ -226,9 +149,5 @@ no_fault value fault is has = rejected_is_none value fault (fault_answered value
 
 -- and a value that is none has exactly one
 pub one_http_fault : OneHttpFault
-one_http_fault value isnt = go (answer_of value) refl
-  where
-    go : (answer : Answer) → answer_of value ≡ answer
-        → (fault : ParseError) × IsHttpFault value fault × ((other : ParseError) → IsHttpFault value other → other ≡ fault)
-    go (read parts) e = absurd (isnt (media_of parts, answered_is_http value parts e))
-    go (rejected fault) e = (fault, answered_fault value fault e, λ other has. cc (fault_answered value other has, e))
+one_http_fault value isnt = by_answer (answer_of value) (λ parts e. absurd (isnt (media_of parts, answered_is_http value parts e)))
+    (λ fault e. (fault, answered_fault value fault e, λ other has. cc (fault_answered value other has, e)))

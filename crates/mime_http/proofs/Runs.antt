@@ -1,14 +1,9 @@
 -- How reading goes on over white space, over a token, and over quoted content.
-use Rattle.mime_http.proofs.Common.{AreSpaces, AreTokenBytes, Bool, InvalidToken, IsContent, IsToken, List, None, Parts, Some, State, [], after_semicolon, and_from, and_parts, ap, append-nil, awaits_after, awaits_after-append, continues, takes_all, append_assoc, ap₂, answer_from, arith, before_semicolon, before_type, in_name, in_string, in_subtype, in_type, in_value, is_space, is_token_byte, length, list_all, list_all-append, nat_tests, next, refl, rejected, subst, sym, true, false, with_parameter, ℕ, ⊤, ◌++◌, ◌+◌, ◌∙◌, ◌∷◌, ◌≡◌, content-closed, content-taken}
+use Rattle.mime_http.proofs.Common.{AreSpaces, AreTokenBytes, Bool, InvalidToken, IsContent, IsToken, List, None, Parts, Some, State, [], after_semicolon, append-nil, awaits_after, awaits_after-append, takes_all, append_assoc, answer_from, arith, before_semicolon, before_type, in_name, in_string, in_subtype, in_type, in_value, is_space, is_token_byte, length, list_all, list_all-append, nat_tests, next, refl, rejected, true, false, with_parameter, ℕ, ⊤, ◌++◌, ◌+◌, ◌∷◌, ◌≡◌, content-closed, content-taken}
 
 -- white space after white space is white space
 pub spaces-append : (n m : List ℕ) → AreSpaces n → AreSpaces m → AreSpaces (n ++ m)
-spaces-append n m first second = list_all-append is_space n m ∙ and_from _ _ first second
-
--- the same state at the same position
-pub same_from : (bytes : List ℕ) {state other : State} {at to : ℕ} → state ≡ other → at ≡ to
-    → answer_from state at bytes ≡ answer_from other to bytes
-same_from bytes same there = ap₂ (λ s n. answer_from s n bytes) same there
+spaces-append n m first second = grind (arith, list_all-append)
 
 -- a byte that leads to a state
 pub one_byte : (state after : State) (at b : ℕ) (bytes : List ℕ) → next state b ≡ Some after
@@ -25,12 +20,8 @@ goes_on : (class : ℕ → Bool) (state : List ℕ → State)
     → ((done : List ℕ) (b : ℕ) → class b ≡ true → next (state done) b ≡ Some (state (done ++ (b ∷ []))))
     → (run : List ℕ) → list_all class run ≡ true → (done : List ℕ) (at : ℕ) (bytes : List ℕ)
     → answer_from (state done) at (run ++ bytes) ≡ answer_from (state (done ++ run)) (at + length run) bytes
-goes_on class state goes [] all done at bytes = same_from bytes (ap state (sym (append-nil done))) (omega arith)
-goes_on class state goes (b ∷ run) all done at bytes =
-    let parts = and_parts (class b) _ all in
-    one_byte (state done) (state (done ++ (b ∷ []))) at b (run ++ bytes) (goes done b parts.0)
-    ∙ goes_on class state goes run parts.1 (done ++ (b ∷ [])) (at + 1) bytes
-    ∙ same_from bytes (ap state (append_assoc done (b ∷ []) run)) (omega arith)
+goes_on class state goes [] all done at bytes = grind (arith, append-nil)
+goes_on class state goes (b ∷ run) all done at bytes = grind (arith, goes_on class state goes run, append_assoc)
 
 -- ---- white space
 
@@ -38,11 +29,6 @@ goes_on class state goes (b ∷ run) all done at bytes =
 pub space_is_no_token : (b : ℕ) → is_space b ≡ true → is_token_byte b ≡ false
 unfolding is_token_byte
 space_is_no_token b is = grind (arith, nat_tests)
-
--- nor the other way
-token_is_no_space : (b : ℕ) → is_token_byte b ≡ true → is_space b ≡ false
-unfolding is_token_byte
-token_is_no_space b is = grind (arith, nat_tests)
 
 -- a space leads on from a state to itself: before the type,
 abbrev pub KeepsSpace : State → Type 0
@@ -68,39 +54,29 @@ over_white state keeps white all at bytes = goes_on is_space (λ done. state) (�
 -- Token bytes go on the subtype,
 pub on_subtype : (top run : List ℕ) → AreTokenBytes run → (sub : List ℕ) (at : ℕ) (bytes : List ℕ)
     → answer_from (in_subtype top sub) at (run ++ bytes) ≡ answer_from (in_subtype top (sub ++ run)) (at + length run) bytes
-on_subtype top = goes_on is_token_byte (in_subtype top) goes
-  where
-    goes : (done : List ℕ) (b : ℕ) → is_token_byte b ≡ true → next (in_subtype top done) b ≡ Some (in_subtype top (done ++ (b ∷ [])))
-    goes [] b is = rw is refl
-    goes (s ∷ sub) b is = rw is refl
+on_subtype top [] all sub at bytes = grind (arith, append-nil)
+on_subtype top (b ∷ run) all [] at bytes = grind (arith, on_subtype top run)
+on_subtype top (b ∷ run) all (s ∷ sub) at bytes = grind (arith, on_subtype top run, append_assoc)
 
 -- and a parameter's value.
 pub on_value : (parts : Parts) (name run : List ℕ) → AreTokenBytes run → (value : List ℕ) (at : ℕ) (bytes : List ℕ)
     → answer_from (in_value parts name value) at (run ++ bytes) ≡ answer_from (in_value parts name (value ++ run)) (at + length run) bytes
-on_value parts name = goes_on is_token_byte (in_value parts name) goes
-  where
-    goes : (done : List ℕ) (b : ℕ) → is_token_byte b ≡ true
-        → next (in_value parts name done) b ≡ Some (in_value parts name (done ++ (b ∷ [])))
-    goes [] b is = rw is refl
-    goes (v ∷ value) b is = rw is refl
+on_value parts name [] all value at bytes = grind (arith, append-nil)
+on_value parts name (b ∷ run) all [] at bytes = grind (arith, on_value parts name run)
+on_value parts name (b ∷ run) all (v ∷ value) at bytes = grind (arith, on_value parts name run, append_assoc)
 
 -- A token begins the type,
 pub type_begins : (token : List ℕ) → IsToken token → (at : ℕ) (bytes : List ℕ)
     → answer_from before_type at (token ++ bytes) ≡ answer_from (in_type token) (at + length token) bytes
 type_begins [] is at bytes = absurd is
-type_begins (b ∷ token) is at bytes =
-    let parts = and_parts (is_token_byte b) _ is in
-    one_byte before_type (in_type (b ∷ [])) at b (token ++ bytes) (rw parts.0 refl)
-    ∙ goes_on is_token_byte in_type (λ done b is. rw is refl) token parts.1 (b ∷ []) (at + 1) bytes ∙ same_from bytes refl (omega arith)
+type_begins (b ∷ token) is at bytes = grind (arith, goes_on is_token_byte in_type (λ done b is. rw is refl) token)
 
 -- and a parameter's name.
 pub name_begins : (parts : Parts) (token : List ℕ) → IsToken token → (at : ℕ) (bytes : List ℕ)
     → answer_from (after_semicolon parts) at (token ++ bytes) ≡ answer_from (in_name parts token) (at + length token) bytes
 name_begins parts [] is at bytes = absurd is
 name_begins parts (b ∷ token) is at bytes =
-    let here = and_parts (is_token_byte b) _ is in
-    one_byte (after_semicolon parts) (in_name parts (b ∷ [])) at b (token ++ bytes) (rw (token_is_no_space b here.0, here.0) refl)
-    ∙ goes_on is_token_byte (in_name parts) (λ done b is. rw is refl) token here.1 (b ∷ []) (at + 1) bytes ∙ same_from bytes refl (omega arith)
+    grind (arith, space_is_no_token b, goes_on is_token_byte (in_name parts) (λ done b is. rw is refl) token)
 
 -- ---- the end of a token
 
@@ -128,20 +104,14 @@ value_ends parts name (v ∷ value) is at (b ∷ bytes) ends = rw ends refl
 -- What may go on in a quoted string goes on what was read of one,
 pub on_open : (parts : Parts) (name run done : List ℕ) → takes_all (awaits_after false done) run ≡ true → (at : ℕ) (bytes : List ℕ)
     → answer_from (in_string parts name done) at (run ++ bytes) ≡ answer_from (in_string parts name (done ++ run)) (at + length run) bytes
-on_open parts name [] done all at bytes = same_from bytes (ap (in_string parts name) (sym (append-nil done))) (omega arith)
-on_open parts name (b ∷ run) done all at bytes =
-    let here = and_parts (continues done b) _ all in
-    one_byte (in_string parts name done) (in_string parts name (done ++ (b ∷ []))) at b (run ++ bytes) (rw here.0 refl)
-    ∙ on_open parts name run (done ++ (b ∷ []))
-    (subst (λ awaiting. takes_all awaiting run ≡ true) (sym (awaits_after-append false done (b ∷ []))) here.1) (at + 1) bytes
-    ∙ same_from bytes (ap (in_string parts name) (append_assoc done (b ∷ []) run)) (omega arith)
+on_open parts name [] done all at bytes = grind (arith, append-nil)
+on_open parts name (b ∷ run) done all at bytes = grind (arith, on_open parts name run (done ++ (b ∷ [])), awaits_after-append, append_assoc)
 
 -- and so does content, if no byte is paired before it.
 pub on_content : {content : List ℕ} → IsContent content → (parts : Parts) (name done : List ℕ) → awaits_after false done ≡ false
     → (at : ℕ) (bytes : List ℕ) → answer_from (in_string parts name done) at (content ++ bytes)
     ≡ answer_from (in_string parts name (done ++ content)) (at + length content) bytes
-on_content {content} is parts name done none at bytes =
-    on_open parts name content done (subst (λ awaiting. takes_all awaiting content ≡ true) (sym none) (content-taken content is)) at bytes
+on_content {content} is parts name done none at bytes = grind (arith, on_open, content-taken)
 
 -- A quote ends it.
 pub content_ends : {content : List ℕ} → IsContent content → (parts : Parts) (name : List ℕ)

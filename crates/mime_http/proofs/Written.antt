@@ -1,5 +1,5 @@
 -- What is written of parameters is read as them, and is written item by item.
-use Rattle.mime_http.proofs.Common.{All-push, All-filter, if◌then◌else◌, AllByRecursion, AreParameters, Bool, IsContent, IsParameter, IsSafe, IsSafePair, IsToken, IsToken-lowered, List, MediaType, Parameter, Parameters, Parts, Reads, [], ap, append-nil, append_assoc, ap₂, arith, bytes_eq, cond_both, false, final, is_token_byte, is_token_value, length, length-append, length-lowered, list_all-lowered, listed, lowered, lowered-lowered, lowered_list, lowered_parameter, lowered_value, lowered_value-either, lowered_value-lowered, map, media_of, more, nat_tests, no_list, not, others, pair_of, pairs_of_list, pairs_of_tail, pairs_of_tail-lowered, plain, quoted, refl, subst, suc, sym, text_of_list, text_of_pair, text_of_pairs, text_of_parameter, text_of_parts, true, value_of, with_pair, with_pairs, ℕ, ◌++◌, ◌∙◌, ◌∷◌, ◌≡◌, Item, NameIs, bytes_eq-Decides, false_from_ne_true, flat_map-append, items_of, ◌+◌, ◌≤◌, Decides, filter, All-from_recursion, recursion_from_All, lowered_pair}
+use Rattle.mime_http.proofs.Common.{SyntaxTree, All-push, All-filter, if◌then◌else◌, AllByRecursion, AreParameters, Bool, IsContent, IsParameter, IsSafe, IsSafePair, IsToken, IsToken-lowered, List, MediaType, Parameter, Parameters, Parts, Reads, [], ap, append-nil, append_assoc, ap₂, arith, bytes_eq, cond_both, false, final, is_token_byte, is_token_value, length, length-append, length-lowered, list_all-lowered, listed, lowered, lowered-lowered, lowered_list, lowered_parameter, lowered_value, lowered_value-either, lowered_value-lowered, map, media_of, more, nat_tests, no_list, not, others, pair_of, pairs_of_list, pairs_of_tail, pairs_of_tail-lowered, plain, quoted, refl, subst, suc, sym, text_of_list, text_of_pair, text_of_pairs, text_of_parameter, text_of_parts, true, value_of, with_pair, with_pairs, ℕ, ◌++◌, ◌∙◌, ◌∷◌, ◌≡◌, Item, NameIs, bytes_eq-Decides, false_from_ne_true, flat_map-append, items_of, ◌+◌, ◌≤◌, Decides, filter, All-from_recursion, recursion_from_All, lowered_pair}
 
 -- the test for a token holds for tokens alone
 pub token_from_test : (value : List ℕ) → is_token_value value ≡ true → IsToken value
@@ -20,23 +20,14 @@ test-either name value = lowered_value-either (λ v. is_token_value v ≡ is_tok
 pub length-lowered_value : (name value : List ℕ) → length (lowered_value name value) ≡ length value
 length-lowered_value name value = lowered_value-either (λ v. length v ≡ length value) name value refl (length-lowered value)
 
--- so lengths are compared by `simp`, which doesn't compute a list with a first byte
-pub length-cons : (b : ℕ) (xs : List ℕ) → length (b ∷ xs) ≡ suc (length xs)
-length-cons b xs = refl
+-- so lengths are compared by these
+pub ruleset lengths = (length-append, length-lowered, length-lowered_value)
 
-pub ruleset lengths = (length-append, length-cons, length-lowered, length-lowered_value)
-
--- a pair takes as many,
-length-pair : (pair : List ℕ × List ℕ) → length (text_of_pair (lowered_pair pair)) ≡ length (text_of_pair pair)
-length-pair (name, value) =
-    grind (arith, test-either name value, length-append {A = ℕ}, length-lowered name, length-lowered_value name value)
-
--- and so do more of them
+-- pairs take as many,
 pub length-pairs : (pairs : List (List ℕ × List ℕ)) → length (text_of_pairs (map lowered_pair pairs)) ≡ length (text_of_pairs pairs)
 length-pairs [] = refl
-length-pairs (pair ∷ pairs) =
-    length-append (text_of_pair (lowered_pair pair)) _ ∙ simp (length-pair pair, length-pairs pairs)
-    (sym (length-append (text_of_pair pair) (text_of_pairs pairs)))
+length-pairs ((name, value) ∷ pairs) =
+    grind (arith, length-pairs pairs, test-either, lengths)
 
 -- the parameter of a pair: its value is a token, or in quotes
 abbrev parameter_of : List ℕ × List ℕ → Parameter
@@ -48,37 +39,22 @@ list_of pair [] = final (32 ∷ []) (parameter_of pair)
 list_of pair (next ∷ pairs) = more (32 ∷ []) (parameter_of pair) (list_of next pairs)
 
 -- they are well formed if the pairs are safe,
-well_formed_one : (pair : List ℕ × List ℕ) → IsSafePair pair → IsParameter (parameter_of pair)
-well_formed_one (name, value) (named, is) = cond_both (is_token_value value) _ _ IsParameter
-    (λ token. (named, token_from_test value token)) (λ other. (named, is, refl))
-
 well_formed_list : (pair : List ℕ × List ℕ) (pairs : List (List ℕ × List ℕ)) → AllByRecursion IsSafePair (pair ∷ pairs)
     → AreParameters (list_of pair pairs)
-well_formed_list pair [] (is, all) = (refl, well_formed_one pair is)
-well_formed_list pair (next ∷ pairs) (is, all) = (refl, well_formed_one pair is, well_formed_list next pairs all)
+well_formed_list (name, value) [] (is, all) = grind (arith, token_from_test)
+well_formed_list (name, value) (next ∷ pairs) (is, all) = grind (arith, token_from_test, well_formed_list next pairs)
 
--- are what is written of the pairs,
-text_of_one : (pair : List ℕ × List ℕ) → 59 ∷ 32 ∷ text_of_parameter (parameter_of pair) ≡ text_of_pair pair
-text_of_one (name, value) = grind (arith, append-nil value)
+-- are what is written of the pairs, and read as them,
+written_list : (pair : List ℕ × List ℕ) (pairs : List (List ℕ × List ℕ))
+    → (59 ∷ text_of_list (list_of pair pairs) ≡ text_of_pairs (pair ∷ pairs)) × (pairs_of_list (list_of pair pairs) ≡ pair ∷ pairs)
+written_list (name, value) [] = grind (arith, append-nil)
+written_list (name, value) (next ∷ pairs) = grind (arith, written_list next pairs, append-nil, append_assoc)
 
-text_of_all : (pair : List ℕ × List ℕ) (pairs : List (List ℕ × List ℕ))
-    → 59 ∷ text_of_list (list_of pair pairs) ≡ text_of_pairs (pair ∷ pairs)
-text_of_all pair [] = text_of_one pair ∙ sym (append-nil _)
-text_of_all pair (next ∷ pairs) = λ i. text_of_one pair i ++ text_of_all next pairs i
-
--- in lowercase those of the pairs in lowercase,
-lowered_one : (pair : List ℕ × List ℕ) → lowered_parameter (parameter_of pair) ≡ parameter_of (lowered_pair pair)
-lowered_one (name, value) = grind (arith, test-either name value)
-
+-- and in lowercase those of the pairs in lowercase
 lowered_all : (pair : List ℕ × List ℕ) (pairs : List (List ℕ × List ℕ))
     → lowered_list (list_of pair pairs) ≡ list_of (lowered_pair pair) (map lowered_pair pairs)
-lowered_all pair [] = ap (final (32 ∷ [])) (lowered_one pair)
-lowered_all pair (next ∷ pairs) = ap₂ (more (32 ∷ [])) (lowered_one pair) (lowered_all next pairs)
-
--- and read as the pairs
-pairs_of_all : (pair : List ℕ × List ℕ) (pairs : List (List ℕ × List ℕ)) → pairs_of_list (list_of pair pairs) ≡ pair ∷ pairs
-pairs_of_all (name, value) [] = grind arith
-pairs_of_all (name, value) (next ∷ pairs) = grind (arith, pairs_of_all next pairs)
+lowered_all (name, value) [] = grind (arith, test-either name value)
+lowered_all (name, value) (next ∷ pairs) = grind (arith, test-either name value, lowered_all next pairs)
 
 -- So a type, a subtype and pairs are read as they are written,
 pub parts_are_read : (parts : Parts) → IsToken parts.top → IsToken parts.sub → AllByRecursion IsSafePair parts.pairs
@@ -87,50 +63,30 @@ parts_are_read parts is_top is_sub safe = go parts.pairs safe
   where
     go : (pairs : List (List ℕ × List ℕ)) → AllByRecursion IsSafePair pairs
         → Reads (text_of_parts (record parts { pairs = pairs })) (media_of (record parts { pairs = pairs }))
-    go [] safe = record {
-      tree = record { top = parts.top; sub = parts.sub; tail = no_list };
-      well_formed = (is_top, is_sub, tt);
-      spelled = refl;
-      valued = rw (append-nil (lowered parts.top ++ (47 ∷ lowered parts.sub))) refl;
-    }
-    go (pair ∷ pairs) safe = record {
-      tree = record { top = parts.top; sub = parts.sub; tail = listed (list_of pair pairs) };
-      well_formed = (is_top, is_sub, well_formed_list pair pairs safe);
-      spelled = ap (λ text. parts.top ++ (47 ∷ (parts.sub ++ text))) (text_of_all pair pairs);
-      valued = rw (
-        lowered_all pair pairs,
-        pairs_of_all (lowered_pair pair) (map lowered_pair pairs),
-        text_of_all (lowered_pair pair) (map lowered_pair pairs),
-      ) (simp append_assoc);
-    }
-
--- and so are an essence and pairs
-written_is_read : (text : List ℕ) (value : MediaType) (pairs : List (List ℕ × List ℕ)) → Reads text value
-    → AllByRecursion IsSafePair pairs → Reads (value.essence ++ text_of_pairs pairs) (with_pairs value (map lowered_pair pairs))
-written_is_read text value pairs reads safe =
-    let top = reads.tree.top in
-    let sub = reads.tree.sub in
-    let low : Parts = record { top = lowered top; sub = lowered sub; pairs = pairs } in
-    let written = parts_are_read low (IsToken-lowered top reads.well_formed.0) (IsToken-lowered sub reads.well_formed.1) safe in
-    subst (λ (v : MediaType). Reads (v.essence ++ text_of_pairs pairs) (with_pairs v (map lowered_pair pairs))) reads.valued
-    (subst (λ text. Reads text (with_pairs (value_of reads.tree) (map lowered_pair pairs)))
-    (sym (append_assoc (lowered top) (47 ∷ lowered sub) (text_of_pairs pairs)))
-    (rw (lowered-lowered top, lowered-lowered sub, length-lowered top) at written))
+    go [] safe =
+        let tree : SyntaxTree = record { top = parts.top; sub = parts.sub; tail = no_list } in
+        record { tree = tree; well_formed = (is_top, is_sub, tt); spelled = refl; valued = grind (arith, append-nil) }
+    go (pair ∷ pairs) safe =
+        let tree : SyntaxTree = record { top = parts.top; sub = parts.sub; tail = listed (list_of pair pairs) } in
+        let low = written_list (lowered_pair pair) (map lowered_pair pairs) in record {
+          tree = tree;
+          well_formed = (is_top, is_sub, well_formed_list pair pairs safe);
+          spelled = grind (arith, written_list pair pairs);
+          valued = grind (arith, lowered_all pair pairs, low, append_assoc);
+        }
 
 -- what holds of all pairs holds of those of other names, and of one more
 all_others : (P : List ℕ × List ℕ → Type 0) (name : List ℕ) (pairs : List (List ℕ × List ℕ)) (pair : List ℕ × List ℕ)
     → AllByRecursion P pairs → P pair → AllByRecursion P (others name pairs ++ (pair ∷ []))
-all_others P name pairs pair all last =
-    recursion_from_All P _ (All-push P (others name pairs) pair
-    (All-filter (λ pair. not (bytes_eq (lowered pair.0) (lowered name))) P pairs (All-from_recursion P pairs all)) last)
+all_others P name [] pair all last = (last, tt)
+all_others P name (first ∷ pairs) pair all last = grind (arith, all_others P name pairs pair)
 
 -- pairs of other names stay as they are, before the new one
 others_stay : (name : List ℕ) (pairs : List (List ℕ × List ℕ)) (pair : List ℕ × List ℕ)
     → map lowered_pair (others name (map lowered_pair pairs) ++ (pair ∷ []))
     ≡ others (lowered name) (map lowered_pair pairs) ++ (lowered_pair pair ∷ [])
 others_stay name [] pair = refl
-others_stay name (first ∷ pairs) pair =
-    grind (arith, lowered-lowered name, lowered-lowered first.0, lowered_value-lowered first.0 first.1, others_stay name pairs pair)
+others_stay name (first ∷ pairs) pair = grind (arith, others_stay name pairs pair, lowered-lowered, lowered_value-lowered)
 
 -- an essence with the parameters of other names and this one after it is read as the value with this one in place of those of its name
 pub with_pair_is_read : (text : List ℕ) (value : MediaType) (name content : List ℕ) → Reads text value → IsSafe value → IsToken name
@@ -138,11 +94,15 @@ pub with_pair_is_read : (text : List ℕ) (value : MediaType) (name content : Li
     → Reads (value.essence ++ text_of_pairs (others name value.pairs ++ ((name, content) ∷ [])))
     (with_pair value (lowered name) (lowered_value name content))
 with_pair_is_read text value name content reads safe named is =
-    let low : value.pairs ≡ map lowered_pair (pairs_of_tail reads.tree.tail) =
-    sym (ap (λ (v : MediaType). v.pairs) reads.valued) ∙ pairs_of_tail-lowered reads.tree.tail in
-    subst (λ pairs. Reads (value.essence ++ text_of_pairs (others name value.pairs ++ ((name, content) ∷ []))) (with_pairs value pairs))
-    (rw low (others_stay name (pairs_of_tail reads.tree.tail) (name, content)))
-    (written_is_read text value _ reads (all_others IsSafePair name value.pairs (name, content) safe.pairs (named, is)))
+    let tree = reads.tree in
+    let pairs = others name value.pairs ++ ((name, content) ∷ []) in
+    let low : Parts = record { top = lowered tree.top; sub = lowered tree.sub; pairs = pairs } in
+    let all = all_others IsSafePair name value.pairs (name, content) safe.pairs (named, is) in
+    let written = parts_are_read low (IsToken-lowered tree.top reads.well_formed.0) (IsToken-lowered tree.sub reads.well_formed.1) all in
+    let same : text_of_parts low ≡ value.essence ++ text_of_pairs pairs = grind (arith, reads.valued, append_assoc) in
+    let media : media_of low ≡ with_pair value (lowered name) (lowered_value name content) =
+    grind (arith, reads.valued, lowered-lowered, length-lowered, others_stay, pairs_of_tail-lowered) in
+    rw (same, media) at written
 
 -- ---- those of other names, item by item
 
@@ -173,29 +133,13 @@ pub record Left (name whole text : List ℕ) (total count : ℕ) (items : List I
 -- at first all are left,
 pub all_left : (name essence : List ℕ) (pairs : List (List ℕ × List ℕ)) {items : List Item} {text : List ℕ} → items ≡ items_of pairs
     → text ≡ essence → Left name (essence ++ text_of_pairs (others name pairs)) text (length (others name pairs)) 0 items
-all_left name essence pairs are is =
-    let same = ap (other_items name) are ∙ others_of name pairs in
-    record { written = ap₂ (λ text ps. text ++ text_of_pairs ps) is same; counted = omega (arith, ap length same) }
+all_left name essence pairs are is = grind (arith, others_of)
 
-module _ {name whole text : List ℕ} {total count : ℕ} {items next : List Item} {item : Item}
-    (left : Left name whole text total count items) (is : items ≡ item ∷ next) where
-  -- an item of this name is left out,
-  pub named_skipped : NameIs item.name item.name_ignores_case name → Left name whole text total count next
-  named_skipped named =
-      let test : is_named name item ≡ true = (name_decides name item.name item.name_ignores_case).1 named in
-      record { written = rw (is, test) at left.written; counted = rw (is, test) at left.counted }
-
-  -- one of another is written,
-  pub copied : ¬ (NameIs item.name item.name_ignores_case name)
-      → Left name whole (text ++ text_of_pair (item.name, item.value)) total (count + 1) next
-  copied other =
-      let test : is_named name item ≡ false =
-      false_from_ne_true _ (λ same. other ((name_decides name item.name item.name_ignores_case).0 same)) in
-      let counted : count + suc (length (other_items name next)) ≡ total = rw (is, test) at left.counted in
-      record {
-        written = append_assoc text (text_of_pair (item.name, item.value)) _ ∙ (rw (is, test) at left.written);
-        counted = omega (arith, counted);
-      }
+-- an item of another name is written,
+pub copied : {name whole text : List ℕ} {total count : ℕ} {items next : List Item} {item : Item} → Left name whole text total count items
+    → items ≡ item ∷ next → ¬ (NameIs item.name item.name_ignores_case name)
+    → Left name whole (text ++ text_of_pair (item.name, item.value)) total (count + 1) next
+copied left is other = grind (arith, false_from_ne_true, name_decides, append_assoc)
 
 -- and at last all is written and counted
 pub none_left : {name whole text : List ℕ} {total count : ℕ} {items : List Item} → Left name whole text total count items → items ≡ []

@@ -1,25 +1,22 @@
 -- What the library reads is what HTTP writes, with the white space around it; and a short value is always read.
-use Rattle.mime_http.proofs.Common.{HttpExplains, HttpReads, IfErr, IsPrinted, List, MediaType, OwnedMedia, Reads, ap, as_it_stands, subst, trimmed, ℕ, ◌∙◌, ◌≡◌, IfErr-weaker}
-use Rattle.mime_http.{proofs.Around.reads_around, proofs.HttpLaws.error_is_memory, proofs.HttpLaws.short_has_none, proofs.HttpLaws.star_has_none, proofs.PlainIsHttp.plain_is_http, specs.declared.value.FieldError.TheVariants.NoMemory}
+use Rattle.mime_http.proofs.Common.{HttpExplains, HttpReads, IfErr, IsPrinted, List, MediaType, OwnedMedia, Reads, subst, trimmed, ℕ, ◌≡◌, IfErr-weaker}
+use Rattle.mime_http.{proofs.HttpLaws.error_is_memory, proofs.HttpLaws.short_has_none, proofs.HttpLaws.star_has_none, proofs.HttpLaws.stands, specs.declared.value.FieldError.TheVariants.NoMemory}
 use Rattle.mime_http.proofs.value.content_type.Goals as goal
 
-as_it_is : (value text : List ℕ) (media : MediaType) → text ≡ trimmed value → Reads text media → HttpReads value media × IsPrinted value media
-as_it_is value text media same is =
-    let reads = subst (λ t. Reads t media) same is in
-    (reads_around value media (plain_is_http (trimmed value) media reads), as_it_stands value media reads)
+as_it_is : (value bytes text : List ℕ) (media : MediaType) → bytes ≡ value → text ≡ trimmed bytes → Reads text media
+    → HttpReads value media × IsPrinted value media
+as_it_is value bytes text media same is reads = stands value media (rw (is, same) at reads)
 
 pub returns-in-Err-clause-star : goal.returns-in-Err-clause-star
 returns-in-Err-clause-star c = λ is. absurd (c.in-Err.ensures.cases.0 (star_has_none {T = OwnedMedia} c.args.value.now is).0)
 
 pub returns-in-Ok-from_str-clause-http : goal.returns-in-Ok-from_str-clause-http
 returns-in-Ok-from_str-clause-http c =
-    let text = c.in-Ok.ensures.cases.0 in
-    (c.in-Ok.ensures.cases.1, (as_it_is c.args.value.now _ c.in-Ok-from_str.mime.media (c.trimmed.ensures ∙ ap trimmed text) c.in-Ok-from_str.ensures.read).0)
+    (c.in-Ok.ensures.cases.1, (as_it_is _ _ _ _ c.in-Ok.ensures.cases.0 c.trimmed.ensures c.in-Ok-from_str.ensures.read).0)
 
 pub returns-in-Ok-from_str-clause-kept : goal.returns-in-Ok-from_str-clause-kept
 returns-in-Ok-from_str-clause-kept c =
-    let text = c.in-Ok.ensures.cases.0 in
-    (as_it_is c.args.value.now _ c.in-Ok-from_str.mime.media (c.trimmed.ensures ∙ ap trimmed text) c.in-Ok-from_str.ensures.read).1
+    (as_it_is _ _ _ _ c.in-Ok.ensures.cases.0 c.trimmed.ensures c.in-Ok-from_str.ensures.read).1
 
 pub returns-in-Err-from_str-clause-short : goal.returns-in-Err-from_str-clause-short
 returns-in-Err-from_str-clause-short c = λ media utf8 reads printed few.

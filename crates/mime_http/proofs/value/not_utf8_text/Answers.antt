@@ -1,5 +1,5 @@
 -- The pieces written one by one are the whole text.
-use Rattle.mime_http.proofs.Common.{FoldsTo, List, [], ap, append-nil, append_assoc, concat, sym, ℕ, ◌++◌, ◌∙◌, ◌∷◌, ◌≡◌}
+use Rattle.mime_http.proofs.Common.{FoldsTo, List, [], append-nil, arith, append_assoc, concat, ℕ, ◌++◌, ◌∷◌, ◌≡◌}
 use Rattle.std.specs.{Fmt.WritesInCalls, Fmt.InlineText.inline_text, Fmt.InlineText.IsIntact, Fmt.InlineText.AppendsIfIntact, declared.fmt.InlineText.InlineText}
 use Rattle.mime_http.specs.HttpPrinted.{not_utf8_text as printed}
 use Rattle.mime_http.proofs.value.not_utf8_text.Goals as goal
@@ -7,14 +7,11 @@ use Rattle.mime_http.proofs.value.not_utf8_text.Goals as goal
 -- what calls wrote is appended
 appended : {n : ℕ} (text new : InlineText n) (parts : List (List ℕ)) → FoldsTo AppendsIfIntact text parts new → IsIntact text
     → inline_text new ≡ inline_text text ++ concat parts
-appended text new [] calls intact = ap inline_text (sym calls) ∙ sym (append-nil (inline_text text))
-appended text new (part ∷ parts) (next, takes, calls) intact =
-    let one = takes intact in
-    appended next new parts calls one.0 ∙ ap (λ t. t ++ concat parts) one.1 ∙ append_assoc (inline_text text) part (concat parts)
+appended text new [] calls intact = grind (arith, append-nil, calls)
+appended text new (part ∷ parts) (next, takes, calls) intact = grind (arith, appended next new parts calls, takes intact, append_assoc)
 
 pub returns : goal.returns
 returns c =
     let text = c.new-text in
     let wrote : WritesInCalls AppendsIfIntact text.result (printed c.args.pos) c.write.new.self = c.in_ok-write.ensures.writes in
-    appended text.result c.write.new.self wrote.parts wrote.calls text.ensures.intact
-    ∙ ap (λ t. t ++ concat wrote.parts) text.ensures.text ∙ wrote.whole
+    grind (arith, appended text.result c.write.new.self wrote.parts wrote.calls text.ensures.intact, text.ensures.text, wrote.whole)

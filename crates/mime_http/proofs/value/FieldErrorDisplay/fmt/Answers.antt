@@ -1,5 +1,5 @@
 -- The text of the fault follows what is written first.
-use Rattle.mime_http.proofs.Common.{FoldsTo, List, [], ap, codes, concat, concat-append, field_error_text, refl, subst, sym, ℕ, ◌++◌, ◌∙◌, ◌∷◌}
+use Rattle.mime_http.proofs.Common.{FoldsTo, arith, List, [], concat-append, refl, subst, sym, ℕ, ◌++◌, ◌∙◌, ◌∷◌}
 use Rattle.mime_http.proofs.value.FieldErrorDisplay.fmt.Goals as goal
 
 -- two runs of writes in a row are one
@@ -16,9 +16,7 @@ returns-in_ok-write_str-in-Invalid-clause-styled g c = λ flush ok.
       wrote = record {
         parts = one.wrote.parts ++ two.wrote.parts;
         calls = more_calls g.W.Write.write_str_gives _ one.wrote.parts _ two.wrote.parts _ one.wrote.calls two.wrote.calls;
-        whole =
-            concat-append one.wrote.parts two.wrote.parts ∙ ap (λ t. t ++ concat two.wrote.parts) one.wrote.whole
-            ∙ ap (λ t. codes "mime parse error: " ++ t) two.wrote.whole ∙ ap field_error_text (sym c.in-Invalid.is);
+        whole = grind (arith, concat-append one.wrote.parts two.wrote.parts, one.wrote.whole, two.wrote.whole, c.in-Invalid.is);
       };
       spec = two.spec ∙ one.spec;
       flush = two.flush;
