@@ -1,5 +1,6 @@
 -- What is printed of a header's value: one text, which is read as its one media type, and needs memory only if it is long.
-use Rattle.mime_http.proofs.Common.{nil_from_length, IsUtf8, IsUtf8-nil, List, Parts, Reads, [], answer_of, arith, length, media_of, read, subst, text_of_pairs, text_of_parts, ℕ, ◌≡◌, IsPrinted, MediaType, OneHttpReading, OnePrintedText, PrintedIsRead, anew, ap, as_it_stands, one_reading, sym, trimmed, with_pairs, ◌∙◌, kept_is_read, HttpReads, Err, HttpExplains, IfErr, IsAccepted, IsHttpMediaType, NeedsMemory, Parameters, Ok, Result, append-nil, blank, codes, is_token_byte, final, length-append, lowered_list, more, plain, quoted, refl, text_of_list, ◌+◌, ◌<◌, ◌≤◌, ◌⊎◌, IsOk}
+use Rattle.std.proofs.Common.{Bool, IsFalse, IsTrue, true, false, inl}
+use Rattle.mime_http.proofs.Common.{Explains, InvalidToken, NoMemory, ParseError, rejected-from_fault, ◌≢◌, nil_from_length, IsUtf8, IsUtf8-nil, List, Parts, Reads, [], answer_of, arith, length, media_of, read, subst, text_of_pairs, text_of_parts, ℕ, ◌≡◌, IsPrinted, MediaType, OneHttpReading, OnePrintedText, PrintedIsRead, anew, ap, as_it_stands, one_reading, sym, trimmed, with_pairs, ◌∙◌, kept_is_read, HttpReads, Err, HttpExplains, IfErr, IsAccepted, IsHttpMediaType, NeedsMemory, Parameters, Ok, Result, append-nil, blank, codes, is_token_byte, final, length-append, lowered_list, more, plain, quoted, refl, text_of_list, ◌+◌, ◌<◌, ◌≤◌, ◌⊎◌, IsOk}
 use Rattle.mime_http.{proofs.Around.put_ascii, proofs.Around.put_one, proofs.Around.put_token, proofs.ReadBack.answered_is_http, proofs.ReadForth.AreFound, proofs.ReadForth.http_is_answered, proofs.Written.length-pairs, proofs.Written.pairs_within_text, proofs.Written.lengths, proofs.Written.parts_are_read, proofs.PlainIsHttp.plain_is_http, proofs.Around.reads_around, proofs.ReadFaults.no_fault, specs.declared.value.FieldError.FieldError, specs.declared.value.FieldError.TheVariants.NotUtf8, specs.declared.value.FieldError.TheVariants.Invalid}
 use Rattle.mime_http.specs.declared.value.FieldError.TheVariants as field
 
@@ -156,3 +157,24 @@ star_has_none {T} value is =
     let utf8 = put_ascii star [] (omega arith) IsUtf8-nil in
     let (reads, printed) = stands star _ (parts_are_read (record { top = codes "*"; sub = codes "*"; pairs = [] }) refl refl tt) in
     rw is (utf8, short_has_none star _ utf8 reads printed (omega arith))
+
+-- a text that has a fault isn't accepted
+pub not_accepted : (text : List ℕ) (fault : ParseError) → fault ≢ NoMemory → Explains text fault → ¬ (IsAccepted text)
+not_accepted text NoMemory other why = absurd (other refl)
+not_accepted text (InvalidToken pos byte) other why = rejected-from_fault text (InvalidToken pos byte) why
+not_accepted text fault other why = rejected-from_fault text fault why
+
+-- a value that `mime` didn't read is printed as it is written anew: or, if memory ran out, if that is its essence
+pub printed_other : {value bytes : List ℕ} {media : MediaType} (accepted : Bool) (parts : Parts) → bytes ≡ value
+    → answer_of bytes ≡ read parts → (IsTrue accepted → IsAccepted (trimmed value) × (40 < length (trimmed value)))
+    → (IsFalse accepted → ¬ (IsAccepted (trimmed value))) → media ≡ media_of parts
+    → (IsTrue accepted → length (text_of_parts parts) ≤ length media.essence) → HttpReads value media × IsPrinted value media
+printed_other true parts same answered kept isnt is few = stands_printed parts same answered (kept refl).0 is (few refl)
+printed_other false parts same answered kept isnt is few = printed_anew parts same answered (isnt refl) is
+
+-- and needs memory if that is long
+pub other_needs : {value bytes : List ℕ} (accepted : Bool) (parts : Parts) → bytes ≡ value → answer_of bytes ≡ read parts
+    → (IsTrue accepted → IsAccepted (trimmed value) × (40 < length (trimmed value))) → (IsFalse accepted → ¬ (IsAccepted (trimmed value)))
+    → 40 < length (text_of_parts parts) → NeedsMemory value
+other_needs true parts same answered kept isnt long = stands_needs parts same answered (kept refl).0 (kept refl).1 (inl long)
+other_needs false parts same answered kept isnt long = anew_needs parts same answered (isnt refl) long

@@ -1,4 +1,5 @@
 -- Reading on from a position of a value: over a byte, a run, and quoted content; and where nothing goes on.
+use Rattle.std.proofs.Common.{suc, sym, zero}
 use Rattle.mime_http.proofs.Common.{Bool, one-add, InvalidToken, IsClosedAt, IsContent, List, None, ParseError, Some, State, [], IsStringFault, IsToken, Parts, after_semicolon, answer_at, answer_at_end, answer_from, ap, append-nil, append_assoc, arith, awaits_after, awaits_after-append, before_semicolon, cases_lt, drop, drop-drop, drop_more, drop_of_length-le, drop_split, false, fault_at, flat_map-append, get_or-drop, if◌then◌else◌, in_name, in_ranges, in_string, in_subtype, in_value, is_quoted_byte, is_quoted_text_byte, is_space, is_token_byte, is_token_value, length, length-drop, length-take-le, nat_tests, list_all, list_all-append, list_all-wider, next, no_byte, not, prefix_len, prefix_len_stops, quoted_pair, refl, rejected, slice_index, slice_range, take, take-add, text_byte, text_of_pair, text_of_parts, true, with_parameter, ℕ, ◌++◌, ◌+◌, ◌-◌, ◌<◌, ◌∙◌, ◌∷◌, ◌≡◌, ◌≢◌, ◌≤◌, not-true, content-awaits, is_stop}
 use Rattle.mime_http.{proofs.Written.token_from_test, specs.declared.reader.TheConstants.TOKEN_STOPS, specs.declared.reader.TheConstants.TEXT_STOPS, proofs.ReadBack.content_more, proofs.Runs.EndsToken, proofs.Runs.KeepsSpace, proofs.Runs.content_ends, proofs.Runs.name_begins, proofs.Runs.no_way, proofs.Runs.on_content, proofs.Runs.on_subtype, proofs.Runs.on_value, proofs.Runs.one_byte, proofs.Runs.over_white, proofs.Runs.subtype_ends, proofs.Runs.value_ends}
 
@@ -44,17 +45,23 @@ run_is class value from to is =
     let stops = prefix_len_stops class (drop from value) 0 in
     grind (arith, run_all class (drop from value), get_or-drop from value, stops, length-drop from value)
 
--- a run of a class goes on over one of a narrower class
-wider_run : (narrow class : ℕ → Bool) → ((b : ℕ) → narrow b ≡ true → class b ≡ true) → (bytes : List ℕ)
-    → prefix_len class bytes ≡ prefix_len narrow bytes + prefix_len class (drop (prefix_len narrow bytes) bytes)
-wider_run narrow class wider [] = refl
-wider_run narrow class wider (b ∷ bytes) = grind (arith, one-add (prefix_len narrow bytes), wider b, wider_run narrow class wider bytes)
+-- a run of a class goes on over bytes of a narrower class,
+wider_run : (narrow class : ℕ → Bool) → ((b : ℕ) → narrow b ≡ true → class b ≡ true) → (n : ℕ) (bytes : List ℕ)
+    → n ≤ prefix_len narrow bytes → prefix_len class bytes ≡ n + prefix_len class (drop n bytes)
+wider_run narrow class wider zero [] passed = omega arith
+wider_run narrow class wider zero (b ∷ bytes) passed = omega arith
+wider_run narrow class wider (suc n) [] passed = absurd (omega (arith, passed))
+wider_run narrow class wider (suc n) (b ∷ bytes) passed =
+    grind (arith, passed, one-add (prefix_len narrow bytes), wider b, wider_run narrow class wider n bytes)
 
 -- so its end stays the same
 pub run_goes_on : (narrow class : ℕ → Bool) → ((b : ℕ) → narrow b ≡ true → class b ≡ true) → (value : List ℕ) (from to : ℕ)
-    → to ≡ run_end narrow value from → run_end class value to ≡ run_end class value from
-run_goes_on narrow class wider value from to is =
-    grind (arith, drop-drop (prefix_len narrow (drop from value)) from value, wider_run narrow class wider (drop from value))
+    → from ≤ to → to ≤ run_end narrow value from → run_end class value to ≡ run_end class value from
+run_goes_on narrow class wider value from to least passed =
+    let there : from + (to - from) ≡ to = omega (arith, least) in
+    let here : prefix_len class (drop to value) ≡ prefix_len class (drop (to - from) (drop from value)) =
+    ap (λ k. prefix_len class (drop k value)) (sym there) ∙ ap (prefix_len class) (sym (drop-drop (to - from) from value)) in
+    omega (arith, least, here, wider_run narrow class wider (to - from) (drop from value) (omega (arith, passed)))
 
 -- the bytes that a search passes may stand in a token,
 pub are_token_bytes : (b : ℕ) → not (is_stop TOKEN_STOPS b) ≡ true → is_token_byte b ≡ true

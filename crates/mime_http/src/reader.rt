@@ -4,11 +4,13 @@ ghost use Rattle.std.specs.Prelude.{◌≡◌, ◌<◌, ◌≤◌, ◌+◌, ◌-
 ghost use Rattle.std.specs.List.{list_all, prefix_len};
 ghost use Rattle.mime.specs.Bytes.{is_token_byte, is_quoted_byte, is_quoted_text_byte, equals_byte, quote_byte};
 ghost use Rattle.mime.specs.Grammar.{is_space};
+ghost use Rattle.mime_search.specs.Classes.{IsStart};
+ghost use Rattle.mime_http.specs.declared.reader.TheConstants.{TOKEN_STOPS};
 ghost use Rattle.mime_http.specs.Reader.{Parts, Holds, IsClosedAt, IsEssenceAt, IsFaultFrom, IsParameterAt, IsStringFault, after_semicolon, answer_of, fault_at, in_value, read, rejected, text_of_parts};
 
 use crate::list::is_space;
 use mime::{ParseError, is_quoted_byte, is_quoted_text_byte, is_token};
-use mime_search::{Class, Range, copy_bytes, first_stop, first_stop_far};
+use mime_search::{Class, Range, Start, copy_bytes, first_stop_far, search_start};
 
 /// All bytes except letters, digits, hyphens and dots, of which most tokens consist.
 static TOKEN_STOPS: Class = Class {
@@ -48,16 +50,14 @@ fn spaces_end(value: &[u8], from: usize) -> usize
     at
 }
 
-/// Returns the position of the first byte at or after `from` that may not occur in a token, or the value's length if there is none. This
-/// function isn't inlined, since few tokens are long.
-#[cold]
-#[inline(never)]
+/// Returns the position of the first byte at or after `from` that may not occur in a token, or the value's length if there is none.
+#[inline(always)]
 fn token_end_far(value: &[u8], from: usize) -> usize
     requires { from ≤ length value.now }
     ensures end { result ≡ from + prefix_len is_token_byte (drop from value.now) }
     ensures within { result ≤ length value.now }
 {
-    let mut at = first_stop(value, from, &TOKEN_STOPS);
+    let mut at = from;
     while at < value.len() && is_token(value[at]) {
         at += 1;
         if (at - from) % LONG == 0 {
@@ -67,24 +67,28 @@ fn token_end_far(value: &[u8], from: usize) -> usize
     at
 }
 
-/// Returns the same position as `token_end_far`, in fewer instructions for a short token.
-fn token_end(value: &[u8], from: usize) -> usize
-    requires { from ≤ length value.now }
+/// Returns `true` if a token begins at a position.
+#[inline(always)]
+fn is_token_at(value: &[u8], pos: usize) -> bool
+    ensures yes { result ≡ true → (pos < length value.now) × (is_token_byte (slice_index value.now pos) ≡ true) }
+    ensures no { result ≡ false → pos < length value.now → is_token_byte (slice_index value.now pos) ≡ false }
+{
+    pos < value.len() && is_token(value[pos])
+}
+
+/// Returns the same position as `token_end_far`. `start` says at which of the value's first bytes a search for that position stops.
+#[inline(always)]
+fn token_end(value: &[u8], start: Start, from: usize) -> usize
+    requires within { from ≤ length value.now }
+    requires start { IsStart TOKEN_STOPS value.now start }
     ensures end { result ≡ from + prefix_len is_token_byte (drop from value.now) }
     ensures within { result ≤ length value.now }
 {
-    let near = value.len().min(from + LONG);
-    let mut at = from;
-    while at < near {
-        if !is_token(value[at]) {
-            return at;
-        }
-        at += 1;
+    let at = start.stop_from(from);
+    if is_token_at(value, at) {
+        return token_end_far(value, at + 1);
     }
-    if at == value.len() {
-        return at;
-    }
-    token_end_far(value, at)
+    at
 }
 
 /// Returns `true` if the byte at a position is `byte`.
@@ -94,15 +98,6 @@ fn is_at(value: &[u8], pos: usize, byte: u8) -> bool
     ensures no { result ≡ false → pos < length value.now → slice_index value.now pos ≢ byte }
 {
     pos < value.len() && value[pos] == byte
-}
-
-/// Returns `true` if a token begins at a position.
-#[inline(always)]
-fn is_token_at(value: &[u8], pos: usize) -> bool
-    ensures yes { result ≡ true → (pos < length value.now) × (is_token_byte (slice_index value.now pos) ≡ true) }
-    ensures no { result ≡ false → pos < length value.now → is_token_byte (slice_index value.now pos) ≡ false }
-{
-    pos < value.len() && is_token(value[pos])
 }
 
 /// Returns the fault of a value that can't be read past a position: `missing` if the position is the value's end, or else the byte there.
@@ -174,15 +169,16 @@ struct Spans {
 }
 
 /// Returns the parameter whose value is the quoted string that begins at `quote`, or the fault.
-fn string_at(value: &[u8], quote: usize) -> Result<Spans, ParseError>
+fn string_at(value: &[u8], start: Start, quote: usize) -> Result<Spans, ParseError>
     requires within { quote < length value.now }
     requires quote { slice_index value.now quote ≡ quote_byte }
+    requires start { IsStart TOKEN_STOPS value.now start }
     ensures { MatchResult result
         (λ spans. (spans.first ≡ quote) × ((name : List ℕ) → IsParameterAt value.now name (λ parts. in_value parts name []) quote spans))
         (λ fault. (name : List ℕ) → IsFaultFrom value.now (λ parts. in_value parts name []) quote fault) }
 {
     let begin = quote + 1;
-    let plain = token_end(value, begin);
+    let plain = token_end(value, start, begin);
     let close = match string_end(value, plain) {
         Ok(close) => close,
         Err(fault) => return Err(fault),
@@ -206,16 +202,17 @@ fn string_at(value: &[u8], quote: usize) -> Result<Spans, ParseError>
 }
 
 /// Returns the parameter whose value begins at a position, or the fault.
-fn value_at(value: &[u8], begin: usize) -> Result<Spans, ParseError>
-    requires { begin ≤ length value.now }
+fn value_at(value: &[u8], start: Start, begin: usize) -> Result<Spans, ParseError>
+    requires within { begin ≤ length value.now }
+    requires start { IsStart TOKEN_STOPS value.now start }
     ensures { MatchResult result
         (λ spans. (spans.first ≡ begin) × ((name : List ℕ) → IsParameterAt value.now name (λ parts. in_value parts name []) begin spans))
         (λ fault. (name : List ℕ) → IsFaultFrom value.now (λ parts. in_value parts name []) begin fault) }
 {
     if is_at(value, begin, b'"') {
-        return string_at(value, begin);
+        return string_at(value, start, begin);
     }
-    let end = token_end(value, begin);
+    let end = token_end(value, start, begin);
     if end == begin {
         return Err(fault_at(value, begin, ParseError::MissingValue));
     }
@@ -228,27 +225,29 @@ fn value_at(value: &[u8], begin: usize) -> Result<Spans, ParseError>
 }
 
 /// Returns the parameter whose name begins at a position, or the fault.
-fn parameter_at(value: &[u8], name: usize) -> Result<Spans, ParseError>
+fn parameter_at(value: &[u8], start: Start, name: usize) -> Result<Spans, ParseError>
     requires within { name < length value.now }
     requires token { is_token_byte (slice_index value.now name) ≡ true }
+    requires start { IsStart TOKEN_STOPS value.now start }
     ensures { MatchResult result
         (λ spans. (text : List ℕ) × (text ++ (equals_byte ∷ []) ≡ slice_range value.now name spans.first)
         × IsParameterAt value.now text after_semicolon name spans)
         (IsFaultFrom value.now after_semicolon name) }
 {
-    let equals = token_end(value, name);
+    let equals = token_end(value, start, name);
     if !is_at(value, equals, b'=') {
         return Err(fault_at(value, equals, ParseError::MissingEqual));
     }
-    value_at(value, equals + 1)
+    value_at(value, start, equals + 1)
 }
 
 /// Returns the positions at which the essence of a value begins and ends, or the fault.
-fn essence(value: &[u8]) -> Result<(usize, usize), ParseError>
+fn essence(value: &[u8], start: Start) -> Result<(usize, usize), ParseError>
+    requires { IsStart TOKEN_STOPS value.now start }
     ensures { MatchResult result (λ ends. IsEssenceAt value.now ends.0 ends.1) (λ fault. answer_of value.now ≡ rejected fault) }
 {
     let top = spaces_end(value, 0);
-    let slash = token_end(value, top);
+    let slash = token_end(value, start, top);
     if slash == top {
         return Err(fault_at(value, top, ParseError::MissingSlash));
     }
@@ -256,7 +255,7 @@ fn essence(value: &[u8]) -> Result<(usize, usize), ParseError>
         return Err(fault_at(value, slash, ParseError::MissingSlash));
     }
     let sub = slash + 1;
-    let end = token_end(value, sub);
+    let end = token_end(value, start, sub);
     if end == sub {
         return Err(fault_at(value, sub, ParseError::MissingSubtype));
     }
@@ -306,7 +305,8 @@ pub(crate) fn write_anew(value: &[u8], room: &mut [u8]) -> Result<usize, ParseEr
         (λ fault. answer_of value.now ≡ rejected fault) }
     ensures room { length room.new ≡ length room.old }
 {
-    let (begin, end) = match essence(value) {
+    let start = search_start(value, &TOKEN_STOPS);
+    let (begin, end) = match essence(value, start) {
         Ok(essence) => essence,
         Err(fault) => return Err(fault),
     };
@@ -315,7 +315,7 @@ pub(crate) fn write_anew(value: &[u8], room: &mut [u8]) -> Result<usize, ParseEr
     while is_at(value, at, b';') {
         at = spaces_end(value, at + 1);
         if is_token_at(value, at) {
-            let spans = match parameter_at(value, at) {
+            let spans = match parameter_at(value, start, at) {
                 Ok(spans) => spans,
                 Err(fault) => return Err(fault),
             };

@@ -1,9 +1,9 @@
 //! Reads the media type of a header's value, which is passed as bytes.
 
-ghost use Rattle.std.specs.Prelude.{◌≡◌, ◌≢◌, ◌<◌, ◌≤◌, ℕ, List, true, codes, length, Some, IfOk, IfErr, IfSome, IsOk, MatchResult};
+ghost use Rattle.std.specs.Prelude.{◌≡◌, ◌≢◌, ◌<◌, ◌≤◌, IsFalse, IsTrue, ℕ, List, true, codes, length, Some, IfOk, IfErr, IfSome, IsOk, MatchResult};
 ghost use Rattle.std.specs.Fmt.InlineText.{inline_text};
 ghost use Rattle.std.specs.Str.{IsAscii, IsUtf8, IsValidUpTo, valid_up_to};
-ghost use Rattle.mime.specs.Values.{MediaType};
+ghost use Rattle.mime.specs.Values.{IsAccepted, MediaType};
 ghost use Rattle.mime.specs.Faults.{Explains};
 ghost use Rattle.mime_http.specs.HttpMediaType.{HttpReads, IsHttpMediaType};
 ghost use Rattle.mime_http.specs.HttpList.{trimmed, IsPrinted};
@@ -107,25 +107,12 @@ fn read_written(alloc: Global, text: &[u8]) -> Result<Mime, FieldError>
     }
 }
 
-/// Reads a value for which `write_anew` writes `len` bytes, which are more than 40.
-fn read_in_block(alloc: Global, value: &str, len: usize) -> Result<Mime, FieldError>
-    requires { (parts : Parts) × (answer_of value.now ≡ read parts) × (length (text_of_parts parts) ≡ len) × (40 < len) }
-    ensures read { IfOk result (λ mime. (parts : Parts) × (answer_of value.now ≡ read parts) × (mime.media ≡ media_of parts)) }
-    ensures memory { IfErr result (λ error. error ≡ FieldError.NoMemory) }
-{
-    let Ok(mut text) = vec![in alloc; 0u8; len] else {
-        return Err(FieldError::NoMemory);
-    };
-    match write_anew(value.as_bytes(), &mut text) {
-        Ok(_) => read_written(alloc, &text),
-        Err(_) => Err(FieldError::NoMemory),
-    }
-}
-
 /// Returns the fault of a value, if it follows from `fault`, the fault or `NoMemory` that `mime` returns for the value without the white
 /// space around it. At a byte that `mime` rejects, HTTP rejects the value, too, unless the byte is white space or a semicolon. What `mime`
 /// finds missing at the value's end is missing for HTTP, too, unless white space is there.
-fn same_fault(value: &[u8], fault: ParseError) -> Option<ParseError>
+/// This function isn't inlined, since it would take registers of the caller.
+#[inline(never)]
+fn same_fault_far(value: &[u8], fault: ParseError) -> Option<ParseError>
     requires { Explains (trimmed value.now) fault }
     ensures { IfSome result (λ same. IsHttpFault value.now same) }
 {
@@ -148,6 +135,74 @@ fn same_fault(value: &[u8], fault: ParseError) -> Option<ParseError>
     }
 }
 
+/// Returns the same as `same_fault_far`. The result is matched and made anew, so that the caller reserves no stack for it earlier.
+#[inline(always)]
+fn same_fault(value: &[u8], fault: ParseError) -> Option<ParseError>
+    requires { Explains (trimmed value.now) fault }
+    ensures { IfSome result (λ same. IsHttpFault value.now same) }
+{
+    match same_fault_far(value, fault) {
+        Some(fault) => Some(fault),
+        None => None,
+    }
+}
+
+/// Reads a value, which is written anew into `room`. `accepted` says whether `mime` accepts the value without the white space around it, and
+/// memory ran out. Then, only a value that is printed as its essence, in at most 40 bytes, is read. This doesn't allocate if at most 40 bytes
+/// are printed. Otherwise, it allocates a block for these bytes and one for the media type.
+#[cycle(rejected)]
+#[inline(never)]
+fn read_into(
+    alloc: Global,
+    value: &str,
+    accepted: bool,
+    room: &mut [u8],
+) -> Result<Mime, FieldError>
+    requires kept { IsTrue accepted → IsAccepted (trimmed value.now) × (40 < length (trimmed value.now)) }
+    requires other { IsFalse accepted → ¬ (IsAccepted (trimmed value.now)) }
+    requires room { 40 ≤ length room.now }
+    ensures http { IfOk result (λ mime. HttpReads value.now mime.media × IsPrinted value.now mime.media) }
+    ensures explained { IfErr result (λ error. HttpExplains value.now error) }
+{
+    let len = match write_anew(value.as_bytes(), room) {
+        Ok(len) => len,
+        Err(fault) => return Err(FieldError::Invalid(fault)),
+    };
+    if len > room.len() {
+        return read_in_block(alloc, value, accepted, len);
+    }
+    let mime = match read_written(alloc, &room[..len]) {
+        Ok(mime) => mime,
+        Err(error) => return Err(error),
+    };
+    if accepted && mime.essence_str().len() < len {
+        return Err(FieldError::NoMemory);
+    }
+    Ok(mime)
+}
+
+/// Reads a value for which `len` bytes are written, which are more than 40.
+#[cycle(rejected)]
+#[inline(always)]
+fn read_in_block(alloc: Global, value: &str, accepted: bool, len: usize) -> Result<Mime, FieldError>
+    requires other { IsFalse accepted → ¬ (IsAccepted (trimmed value.now)) }
+    requires long { 40 < len }
+    requires memory { HttpExplains value.now FieldError.NoMemory }
+    ensures http { IfOk result (λ mime. HttpReads value.now mime.media × IsPrinted value.now mime.media) }
+    ensures explained { IfErr result (λ error. HttpExplains value.now error) }
+{
+    if accepted {
+        return Err(FieldError::NoMemory);
+    }
+    let Ok(mut text) = vec![in alloc; 0u8; len] else {
+        return Err(FieldError::NoMemory);
+    };
+    match read_into(alloc, value, false, &mut text) {
+        Ok(mime) => Ok(mime),
+        Err(error) => Err(error),
+    }
+}
+
 /// Reads a value. `fault` is the fault or `NoMemory` that `mime` returns for the value without the white space around it. The result is
 /// matched and made anew, so that the caller reserves no stack for it if `mime` accepts the value.
 #[inline(always)]
@@ -160,41 +215,21 @@ pub(crate) fn read_rejected(
     ensures http { IfOk result (λ mime. HttpReads value.now mime.media × IsPrinted value.now mime.media) }
     ensures explained { IfErr result (λ error. HttpExplains value.now error) }
 {
-    match read_other(alloc, value, fault) {
+    let accepted = match fault {
+        // Most values that only HTTP allows have one of these bytes where `mime` rejects them.
+        ParseError::InvalidToken {
+            byte: b' ' | b'\t' | b';',
+            ..
+        } => false,
+        ParseError::NoMemory => true,
+        _ => match same_fault(value.as_bytes(), *fault) {
+            Some(fault) => return Err(FieldError::Invalid(fault)),
+            None => false,
+        },
+    };
+    match read_into(alloc, value, accepted, &mut [0; 40]) {
         Ok(mime) => Ok(mime),
         Err(error) => Err(error),
-    }
-}
-
-/// Reads a value as `read_rejected` does. This doesn't allocate if at most 40 bytes are printed. Otherwise, it allocates a block for these
-/// bytes and one for the media type. If `fault` is `NoMemory`, only a value that is printed as its essence, in at most 40 bytes, is read.
-#[inline(never)]
-fn read_other(alloc: Global, value: &str, fault: &ParseError) -> Result<Mime, FieldError>
-    requires { Explains (trimmed value.now) fault.now }
-    ensures http { IfOk result (λ mime. HttpReads value.now mime.media × IsPrinted value.now mime.media) }
-    ensures explained { IfErr result (λ error. HttpExplains value.now error) }
-{
-    if let Some(fault) = same_fault(value.as_bytes(), *fault) {
-        return Err(FieldError::Invalid(fault));
-    }
-    let mut room = [0u8; 40];
-    let len = match write_anew(value.as_bytes(), &mut room) {
-        Ok(len) => len,
-        Err(fault) => return Err(FieldError::Invalid(fault)),
-    };
-    if len > 40 {
-        return match fault {
-            ParseError::NoMemory => Err(FieldError::NoMemory),
-            _ => read_in_block(alloc, value, len),
-        };
-    }
-    let mime = match read_written(alloc, &room[..len]) {
-        Ok(mime) => mime,
-        Err(error) => return Err(error),
-    };
-    match fault {
-        ParseError::NoMemory if mime.essence_str().len() < len => Err(FieldError::NoMemory),
-        _ => Ok(mime),
     }
 }
 

@@ -1,6 +1,6 @@
 //! Copies short strings without a call.
 
-ghost use Rattle.std.specs.Prelude.{◌≡◌, ◌+◌, ◌≤◌, length};
+ghost use Rattle.std.specs.Prelude.{◌≡◌, ◌+◌, ◌<◌, ◌≤◌, length};
 
 use std::simd::Simd;
 
@@ -26,20 +26,36 @@ fn copy_long(out: &mut [u8], bytes: &[u8])
     out.copy_from_slice(bytes);
 }
 
-/// Copies bytes as `copy_from_slice` does, in fewer instructions for short strings.
+/// Copies fewer than 8 bytes.
 #[inline(always)]
-pub fn copy_bytes(out: &mut [u8], bytes: &[u8])
-    requires { length out.old ≡ length bytes.now }
+fn copy_few(out: &mut [u8], bytes: &[u8])
+    requires same { length out.old ≡ length bytes.now }
+    requires few { length bytes.now < 8 }
     ensures { out.new ≡ bytes.now }
 {
     match bytes.len() {
         0 => {}
         1 => out[0] = bytes[0],
         2..=3 => copy_ends::<2>(out, bytes),
-        4..=7 => copy_ends::<4>(out, bytes),
-        8..=15 => copy_ends::<8>(out, bytes),
-        16..=31 => copy_ends::<16>(out, bytes),
-        32..=64 => copy_ends::<32>(out, bytes),
-        _ => copy_long(out, bytes),
+        _ => copy_ends::<4>(out, bytes),
+    }
+}
+
+/// Copies bytes as `copy_from_slice` does, in fewer instructions for short strings.
+#[inline(always)]
+pub fn copy_bytes(out: &mut [u8], bytes: &[u8])
+    requires { length out.old ≡ length bytes.now }
+    ensures { out.new ≡ bytes.now }
+{
+    if bytes.len() < 8 {
+        copy_few(out, bytes);
+    } else if bytes.len() < 16 {
+        copy_ends::<8>(out, bytes);
+    } else if bytes.len() < 32 {
+        copy_ends::<16>(out, bytes);
+    } else if bytes.len() <= 64 {
+        copy_ends::<32>(out, bytes);
+    } else {
+        copy_long(out, bytes);
     }
 }

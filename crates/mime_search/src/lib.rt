@@ -18,4 +18,4 @@ pub use crate::ignoring_case::{eq_ignore_ascii_case, first_difference_ignoring_c
 pub use crate::quoted::content_end;
 pub use crate::rest::Rest;
 pub use crate::search::{first_stop, first_stop_far};
-pub use crate::start::{WINDOW, stops_at_start, stops_in_window};
+pub use crate::start::{Start, WINDOW, search_start, stops_at_start, stops_in_window};

@@ -1,7 +1,7 @@
 //! Which of a string's first bytes stop a search, as a bit mask.
 
-ghost use Rattle.std.specs.Prelude.{◌≡◌, ◌+◌, ◌*◌, ◌/◌, ◌-◌, ◌<◌, ◌≤◌, ◌^◌, ◌++◌, length, take, drop};
-ghost use Rattle.mime_search.specs.Classes.{stops};
+ghost use Rattle.std.specs.Prelude.{ℕ, List, ◌≡◌, ◌+◌, ◌*◌, ◌/◌, ◌-◌, ◌<◌, ◌≤◌, ◌^◌, ◌++◌, length, take, drop};
+ghost use Rattle.mime_search.specs.Classes.{IsStart, end_of_run, stops};
 
 use crate::class::{BLOCK, Class, stops_in_lanes};
 use crate::search::stops_in_block;
@@ -77,11 +77,55 @@ pub fn stops_at_start(text: &[u8], class: &Class) -> (usize, u64)
     ensures mask { result.1 ≡ stops class.now (take result.0 text.now) }
 {
     let size = text.len();
-    if size < HALF {
-        (0, 0)
-    } else if size < BLOCK {
+    if size >= BLOCK {
+        (BLOCK, stops_in_block(text, 0, class))
+    } else if size >= HALF {
         (size, stops_in_halves(text, class))
     } else {
-        (BLOCK, stops_in_block(text, 0, class))
+        (0, 0)
+    }
+}
+
+/// Which of the first bytes of a string stop a search: `stops` is a bit mask of the first `known` bytes.
+#[derive(Clone, Copy)]
+pub struct Start {
+    pub known: usize,
+    pub stops: u64,
+}
+
+/// Searches the first bytes of a string, at most `WINDOW`.
+#[inline(always)]
+pub fn search_start(text: &[u8], class: &Class) -> Start
+    ensures { IsStart class.now text.now result }
+{
+    let window = &text[..text.len().min(WINDOW)];
+    let (known, stops) = stops_at_start(window, class);
+    if known < BLOCK {
+        return Start { known, stops };
+    }
+    Start {
+        known: window.len(),
+        stops: stops_in_window(window, stops, class),
+    }
+}
+
+impl Start {
+    /// Returns the position of the first byte, at or after `from`, at which the search stops, or `known` if it stops at none of
+    /// the first `known` bytes. Returns `from` if it isn't less than `known`.
+    #[inline(always)]
+    pub fn stop_from(self, from: usize) -> usize
+        requires { self.known ≤ WINDOW }
+        ensures least { from ≤ result }
+        ensures passed { (class : Class) (text : List ℕ) → IsStart class text self → result ≤ end_of_run class text from }
+        ensures within { (class : Class) (text : List ℕ) → IsStart class text self → from ≤ length text → result ≤ length text }
+    {
+        if from >= self.known {
+            return from;
+        }
+        let stops = self.stops >> from;
+        if stops == 0 {
+            return self.known;
+        }
+        from + stops.trailing_zeros() as usize
     }
 }

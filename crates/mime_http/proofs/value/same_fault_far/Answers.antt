@@ -1,7 +1,7 @@
 -- Before the text stands white space, and perhaps behind it.
 use Rattle.mime_http.proofs.Common.{AreSpaces, Explains, IsHttpFault, List, [], ap, append-nil, arith, length, length-append, nil_from_length, slice_get_within, subst, sym, trim_end, trim_start, trimmed, ℕ, ◌+◌, ◌++◌, ◌-◌, ◌∙◌, ◌≡◌}
 use Rattle.mime_http.proofs.{Around.split_end, PlainIsHttp.same_byte, PlainIsHttp.same_lack, Around.split_white}
-use Rattle.mime_http.proofs.value.same_fault.Goals as goal
+use Rattle.mime_http.proofs.value.same_fault_far.Goals as goal
 
 -- what stands around a value, and how long it is
 around : (value : List ℕ) → (before after : List ℕ) × AreSpaces before × (value ≡ before ++ (trimmed value ++ after))
