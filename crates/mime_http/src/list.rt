@@ -4,7 +4,7 @@ ghost use Rattle.std.specs.Prelude.{◌≡◌, ◌<◌, ◌≤◌, ◌+◌, ℕ,
 ghost use Rattle.std.specs.Str.{IsAscii};
 ghost use Rattle.mime.specs.Bytes.{comma_byte, quote_byte};
 ghost use Rattle.mime.specs.Grammar.{is_space};
-ghost use Rattle.mime_http.specs.HttpList.{trim_start, trim_end};
+ghost use Rattle.mime_http.specs.HttpList.{trim_start, trim_end, trimmed};
 ghost use Rattle.mime_http.specs.LineCut.{Outside, Quoted, IsNextOutside, before_mark, piece_len};
 
 use mime_search::{Class, content_end, first_stop};
@@ -180,4 +180,12 @@ pub(crate) fn trim_end(piece: &[u8]) -> &[u8]
         return piece;
     }
     trim_spaces_after(piece)
+}
+
+/// Returns bytes without the white space around them: `a b` for ` a b `. White space is spaces and tabs (RFC 9110, 5.5 and 5.6.3).
+#[inline(always)]
+pub fn trimmed(bytes: &[u8]) -> &[u8]
+    ensures { result.now ≡ trimmed bytes.now }
+{
+    trim_end(trim_start(bytes))
 }
