@@ -1,3 +1,1 @@
-mod HeaderFacts
-mod ReportFacts
 mod Rows

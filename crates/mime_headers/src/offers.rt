@@ -5,7 +5,7 @@ ghost use Rattle.std.specs.Vec.{vec_items};
 ghost use Rattle.std.specs.Vec.Iter.{into_iter_items, into_iter_len};
 ghost use Rattle.mime.specs.Values.{MediaType};
 ghost use Rattle.mime_headers.specs.Program.{AreOffers};
-ghost use Rattle.mime_headers.specs.Report.{ReadsAs};
+ghost use Rattle.mime_headers.specs.Report.{IsRead};
 
 use mime::Mime;
 use mime_http::{FieldError, content_type};
@@ -53,7 +53,7 @@ fn offers_of(alloc: Global, mut words: Args) -> Result<Vec<Mime>, BadOffer>
 
 /// Returns the offer that a word names.
 fn offer_of(alloc: Global, word: String) -> Result<Mime, BadOffer>
-    ensures read { IfOk result (λ offer. ReadsAs (string_bytes word) offer.media) }
+    ensures read { IfOk result (λ offer. IsRead (string_bytes word) (Ok offer.media)) }
     ensures refused { (words : List (List ℕ)) (offers : List MediaType) → IfErr result (λ error. AreOffers (string_bytes word ∷ words) offers (Err error)) }
 {
     match content_type(alloc, word.as_bytes()) {

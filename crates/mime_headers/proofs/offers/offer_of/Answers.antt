@@ -11,4 +11,4 @@ returns-in-Err-NoMemory-clause-refused c words offers = no_memory
 pub returns-in-Err-clause-refused : goal.returns-in-Err-clause-refused
 returns-in-Err-clause-refused c words offers =
     let other : c.in-Err.error ≢ FieldError.NoMemory = search rules in
-    bad_word c.args.word c.in-Err.error other (subst (λ v. HttpExplains v c.in-Err.error) c.as_bytes.ensures.value c.in-Err.ensures.explained)
+    bad_word c.args.word c.in-Err.error (other, subst (λ v. HttpExplains v c.in-Err.error) c.as_bytes.ensures.value c.in-Err.ensures.explained)

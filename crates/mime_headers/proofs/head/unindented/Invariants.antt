@@ -1,0 +1,10 @@
+-- The lines that were added, and those that are left to add, are all.
+use Rattle.std.proofs.Common.{◌≡◌, ◌++◌, drop, map}
+use Rattle.mime_headers.specs.Head.{unindented, without_indent}
+use Rattle.mime_headers.specs.Inner.{lines_now}
+use Rattle.mime_headers.proofs.head.unindented.Given as goal
+
+abbrev pub invariant-loop-line : goal.invariant-loop-line
+invariant-loop-line l =
+    lines_now l.lines ++ map (without_indent l.indented) (map (λ line. line.now) (drop l.line-index l.head))
+    ≡ unindented (map (λ line. line.now) l.fn.head)

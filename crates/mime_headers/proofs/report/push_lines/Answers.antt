@@ -1,0 +1,15 @@
+-- The next entry is added.
+use Rattle.std.proofs.Common.{[], ◌+◌, ◌≤◌, ◌∙◌, ap, arith, drop, drop_of_length-le, length, map, refl, vec_items}
+use Rattle.mime_http.specs.HttpList.AreBetweenCommas.{no_line}
+use Rattle.mime_headers.proofs.Rows.{entry-next}
+use Rattle.mime_headers.proofs.report.push_lines.Goals as goal
+
+pub loop-left-preserved : goal.loop-left-preserved
+loop-left-preserved c end adds =
+    c.loop-left.invariant end (rw c.in-Some.is (entry-next _ _ c.first_entry.result.1 _ _ _ end c.first_entry.ensures
+    (rw c.trimmed.ensures at c.in_ok-push_entry.ensures) adds))
+
+pub returns : goal.returns
+returns c =
+    let past : length c.args.lines.now ≤ c.loop-line.line-index = omega arith in
+    c.loop-line.invariant _ (rw (drop_of_length-le c.args.lines.now past) (record { pieces = []; cut = no_line; entries = refl }))
