@@ -1,1 +1,2 @@
+mod ReportFacts
 mod Rows

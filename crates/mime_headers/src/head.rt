@@ -134,7 +134,7 @@ pub(crate) fn unindented<'a>(alloc: Global, head: &[&'a [u8]]) -> Result<Vec<&'a
     ensures { IfOk result (λ lines. lines_now lines ≡ unindented (map (λ line. line.now) head.now)) }
 {
     let indented = has_indent(head);
-    let mut lines = Vec::new(alloc);
+    let mut lines = Vec::with_capacity(alloc, head.len())?;
     for line in head {
         lines.push(without_indent(indented, line))?;
     }

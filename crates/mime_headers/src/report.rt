@@ -127,6 +127,7 @@ impl Report {
 }
 
 /// Adds pieces of text.
+#[inline(always)]
 fn push(text: &mut Vec<u8>, pieces: &[&[u8]]) -> Result<(), AllocError>
     ensures { OnOk result (vec_items text.new ≡ vec_items text.old ++ flat_map (λ piece. piece.now) pieces.now) }
 {

@@ -1,0 +1,120 @@
+-- Heads and offers have one report, with one verdict, so that a page that says less doesn't check: if offers have one ranking.
+use Rattle.std.proofs.Common.{◌≡◌, ◌≢◌, ℕ, Bool, List, [], ◌∷◌, ◌++◌, Option, Some, None, Result, Ok, Err, MatchOption, ap, ap₂, codes, flat_map, map, refl, subst, subst₂, sym, ◌∙◌}
+use Rattle.std.specs.List.{FoldsTo}
+use Rattle.std.proofs.lemmas.Option.{same_Some}
+use Rattle.std.proofs.lemmas.Str.{utf8_valid_len-IsValidUpTo}
+use Rattle.std.specs.Str.{IsUtf8}
+use Rattle.mime.specs.Values.{MediaType}
+use Rattle.mime_http.specs.Boundary.{IsBoundaryOf}
+use Rattle.mime_http.specs.HttpFaults.{HttpExplains}
+use Rattle.mime_http.specs.HttpList.{trimmed}
+use Rattle.mime_http.specs.HttpMediaType.{IsHttpMediaType}
+use Rattle.mime_http.specs.Ranking.{IsRanking}
+use Rattle.mime_http.specs.declared.ranking.RankedOffer.{RankedOffer}
+use Rattle.mime_http.specs.declared.value.FieldError.{FieldError}
+use Rattle.mime_http.specs.declared.value.FieldError.TheVariants.{NotUtf8, Invalid, NoMemory}
+use Rattle.mime_http.proofs.HandedOut.{only_cut, one_printed_text, no_fault, one_http_fault}
+use Rattle.mime_headers.specs.Head.{unindented, values_of}
+use Rattle.mime_headers.specs.Report.{AddsChoice, AddsEntry, AddsHead, AddsLines, AddsReading, AddsType, IsRead, IsReportOf, State, best_of, best_row, count_row, is_acceptable, media_rows, none_lines, none_row, offer_rows, with_entry, with_rows}
+use Rattle.mime_headers.specs.declared.verdict.Verdict.{Verdict}
+
+-- no value is both a media type and rejected
+not_both : (value : List ℕ) (error : FieldError) → IsUtf8 value → IsHttpMediaType value → error ≢ NoMemory → ¬ (HttpExplains value error)
+not_both value (NotUtf8 pos) utf8 is some why = why.0 utf8
+not_both value (Invalid fault) utf8 is some why = no_fault value fault is why.1
+not_both value NoMemory utf8 is some why = some refl
+
+-- a rejected value has one error
+one_error : (value : List ℕ) (error other : FieldError) → error ≢ NoMemory → other ≢ NoMemory → HttpExplains value error
+    → HttpExplains value other → error ≡ other
+one_error value NoMemory other some more why too = absurd (some refl)
+one_error value error NoMemory some more why too = absurd (more refl)
+one_error value (NotUtf8 pos) (NotUtf8 at) some more why too =
+    ap NotUtf8 (sym (utf8_valid_len-IsValidUpTo value pos why.1) ∙ utf8_valid_len-IsValidUpTo value at too.1)
+one_error value (NotUtf8 pos) (Invalid fault) some more why too = absurd (why.0 too.0)
+one_error value (Invalid fault) (NotUtf8 pos) some more why too = absurd (too.0 why.0)
+one_error value (Invalid fault) (Invalid other) some more why too =
+    let only = (one_http_fault value (λ is. no_fault value fault is why.1)).2 in ap Invalid (only fault why.1 ∙ sym (only other too.1))
+
+-- a value is read in one way
+one_reading : (value : List ℕ) (one other : Result MediaType FieldError) → IsRead value one → IsRead value other → one ≡ other
+one_reading value (Ok media) (Ok other) is too = ap Ok (one_printed_text value media other is.1 is.2 too.1 too.2)
+one_reading value (Ok media) (Err error) is why = absurd (not_both value error is.0 (media, is.1) why.0 why.1)
+one_reading value (Err error) (Ok media) why is = absurd (not_both value error is.0 (media, is.1) why.0 why.1)
+one_reading value (Err error) (Err other) why too = ap Err (one_error value error other why.0 too.0 why.1 too.1)
+
+-- a media type has one boundary or none
+one_boundary : (media : MediaType) (one other : Option (List ℕ)) → MatchOption one ((bytes : List ℕ) → ¬ (IsBoundaryOf media bytes)) (IsBoundaryOf media)
+    → MatchOption other ((bytes : List ℕ) → ¬ (IsBoundaryOf media bytes)) (IsBoundaryOf media) → one ≡ other
+one_boundary media None None none again = refl
+one_boundary media None (Some bytes) none is = absurd (none bytes is)
+one_boundary media (Some bytes) None is none = absurd (none bytes is)
+one_boundary media (Some bytes) (Some other) is too = sym is.found ∙ too.found
+
+-- so a value of `Content-Type` adds one text
+one_added : (old : List ℕ × Bool) (value : List ℕ) (reading : Result MediaType FieldError) (new other : List ℕ × Bool)
+    → AddsReading old value reading new → AddsReading old value reading other → new ≡ other
+one_added old value (Ok media) new other (one, is, adds) (two, too, more) =
+    adds ∙ ap (λ boundary. (old.0 ++ media_rows media boundary, old.1)) (one_boundary media one two is too) ∙ sym more
+one_added old value (Err error) new other adds more = adds ∙ sym more
+
+one_type : (old : List ℕ × Bool) (value : List ℕ) (new other : List ℕ × Bool) → AddsType old value new → AddsType old value other → new ≡ other
+one_type old value new other (one, is, adds) (two, too, more) =
+    one_added old (trimmed value) two new other
+    (subst (λ reading. AddsReading old (trimmed value) reading new) (one_reading (trimmed value) one two is too) adds) more
+
+-- and so does an entry,
+one_entry : (old : List ℕ × List MediaType) (entry : List ℕ) (new other : List ℕ × List MediaType) → AddsEntry old entry new
+    → AddsEntry old entry other → new ≡ other
+one_entry old [] new other adds more = adds ∙ sym more
+one_entry old (b ∷ entry) new other (one, is, adds) (two, too, more) =
+    adds ∙ ap (with_entry old (b ∷ entry)) (one_reading (b ∷ entry) one two is too) ∙ sym more
+
+-- items in a row, if each does,
+one_of_all : {P A : Type 0} (R : P → A → P → Type 0) → ((p : P) (x : A) (q r : P) → R p x q → R p x r → q ≡ r) → (p : P) (xs : List A) (q r : P)
+    → FoldsTo R p xs q → FoldsTo R p xs r → q ≡ r
+one_of_all R one p [] q r is too = sym is ∙ too
+one_of_all R one p (x ∷ xs) q r (next, is, rest) (other, too, others) =
+    one_of_all R one other xs q r (subst (λ p. FoldsTo R p xs q) (one p x next other is too) rest) others
+
+-- lines of `Accept`,
+one_of_lines : (lines : List (List ℕ)) (old new other : List ℕ × List MediaType) → AddsLines lines old new → AddsLines lines old other → new ≡ other
+one_of_lines lines old new other one two =
+    let same = only_cut one.cut ∙ sym (only_cut two.cut) in
+    one_of_all AddsEntry one_entry old (map trimmed two.pieces) new other
+    (subst (λ pieces. FoldsTo AddsEntry old (map trimmed pieces) new) same one.entries) two.entries
+
+module _ (one_ranking : (ranges offers : List MediaType) (ranking other : List RankedOffer) → IsRanking ranges offers ranking
+    → IsRanking ranges offers other → ranking ≡ other) where
+  -- what is chosen under a head,
+  one_choice : (offers : List MediaType) (lines : List (List ℕ)) (old new other : State) → AddsChoice offers lines old new
+      → AddsChoice offers lines old other → new ≡ other
+  one_choice offers [] old new other adds more = adds ∙ sym more
+  one_choice offers (line ∷ lines) old new other one two =
+      let read = one_of_lines (line ∷ lines) (old.text, []) one.read two.read one.are_read two.are_read in
+      let rank = one_ranking two.read.1 offers one.ranking two.ranking
+      (subst (λ ranges. IsRanking ranges offers one.ranking) (ap (λ it. it.1) read) one.is_ranking) two.is_ranking in
+      let state : List ℕ × List MediaType → List RankedOffer → State = λ read ranking. record {
+        text = read.0 ++ (offer_rows read.1 offers ranking ++ best_row offers (best_of offers ranking));
+        are_good = old.are_good;
+        choice = Some (is_acceptable offers (best_of offers ranking));
+      } in
+      one.is_new ∙ ap₂ state read rank ∙ sym two.is_new
+
+  -- a head,
+  one_head : (offers : List MediaType) (many : Bool) (old : State) (head : List (List ℕ)) (new other : State) → AddsHead offers many old head new
+      → AddsHead offers many old head other → new ≡ other
+  one_head offers many old head new other one two =
+      let same = one_of_all AddsType one_type _ _ one.between two.between one.types two.types in
+      one_choice offers _ _ new other
+      (subst (λ it. AddsChoice offers (values_of (codes "accept:") head)
+      (record { text = it.0 ++ count_row (values_of (codes "content-type:") head); are_good = it.1; choice = old.choice }) new) same one.choice) two.choice
+
+  -- and all heads: bytes and offers have one report, with one verdict
+  one_report : (offers : List MediaType) (bytes text other : List ℕ) (verdict another : Verdict) → IsReportOf offers bytes text verdict
+      → IsReportOf offers bytes other another → (text ≡ other) × (verdict ≡ another)
+  one_report offers bytes text other verdict another one two =
+      let heads = one_of_all _ (λ old head. one_head offers _ old (unindented head)) _ _ one.state two.state one.adds two.adds in
+      let last = one_choice offers _ _ one.last two.last
+      (subst (λ (it : State). AddsChoice offers (none_lines it.choice) (with_rows it (none_row it.choice)) one.last) heads one.chosen) two.chosen in
+      (cc (one.is_text, two.is_text, last), cc (one.is_verdict, two.is_verdict, last))
