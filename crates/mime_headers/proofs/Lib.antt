@@ -1,2 +1,3 @@
+mod HeaderFacts
 mod ReportFacts
 mod Rows

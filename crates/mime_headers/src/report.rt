@@ -72,48 +72,37 @@ struct Report {
 
 impl Report {
     /// Adds the rows of a head.
-    fn push_head(
-        &mut self,
-        alloc: Global,
-        offers: &[Mime],
-        many: bool,
-        head: &[&[u8]],
-    ) -> Result<(), AllocError>
+    fn push_head(&mut self, alloc: Global, offers: &[Mime], many: bool, head: &[&[u8]]) -> Pushed
         ensures { OnOk result (AddsHead (map (λ offer. offer.media) offers.now) many (state_of self.old) (unindented (map (λ line. line.now) head.now)) (state_of self.new)) }
     {
         let lines = unindented(alloc, head)?;
         let types = values_of(alloc, b"content-type:", &lines)?;
         let accepts = values_of(alloc, b"accept:", &lines)?;
-        push_shown(alloc, &mut self.text, many, b"head ", title_of(&lines))?;
-        push_spaced(alloc, &mut self.text, &lines)?;
-        push_types(alloc, &mut self.text, &mut self.are_good, &types)?;
+        push_shown(&mut self.text, many, b"head ", title_of(&lines))?;
+        push_spaced(&mut self.text, &lines)?;
+        push_types(&mut self.text, &mut self.are_good, &types)?;
         push(&mut self.text, &[count_row(&types)])?;
         self.push_choice(alloc, offers, &accepts)?;
         Ok(())
     }
 
     /// Adds the rows of the lines of `Accept` and of the offers, if there are lines.
-    fn push_choice(
-        &mut self,
-        alloc: Global,
-        offers: &[Mime],
-        lines: &[Vec<u8>],
-    ) -> Result<(), AllocError>
+    fn push_choice(&mut self, alloc: Global, offers: &[Mime], lines: &[Vec<u8>]) -> Pushed
         ensures { OnOk result (AddsChoice (map (λ offer. offer.media) offers.now) (map vec_items lines.now) (state_of self.old) (state_of self.new)) }
     {
         if lines.is_empty() {
             return Ok(());
         }
         let mut ranges = Vec::new(alloc);
-        push_lines(alloc, &mut self.text, &mut ranges, lines)?;
+        push_lines(&mut self.text, &mut ranges, lines)?;
         let ranking = rank_offers(alloc, &ranges, offers)?;
-        push_offers(alloc, &mut self.text, &ranges, offers, &ranking)?;
+        push_offers(&mut self.text, &ranges, offers, &ranking)?;
         let best = best_of(offers, &ranking);
         self.choice = Some(push_best(&mut self.text, offers, best)?);
         Ok(())
     }
     /// Adds the rows of the offers if no head has an `Accept`, since a request without one accepts everything.
-    fn push_missing(&mut self, alloc: Global, offers: &[Mime]) -> Result<(), AllocError>
+    fn push_missing(&mut self, alloc: Global, offers: &[Mime]) -> Pushed
         ensures { OnOk result (AddsChoice (map (λ offer. offer.media) offers.now) (none_lines self.old.choice)
             (with_rows (state_of self.old) (none_row self.old.choice)) (state_of self.new)) }
     {
@@ -126,9 +115,12 @@ impl Report {
     }
 }
 
+/// The result of adding to a report.
+type Pushed = Result<(), AllocError>;
+
 /// Adds pieces of text.
 #[inline(always)]
-fn push(text: &mut Vec<u8>, pieces: &[&[u8]]) -> Result<(), AllocError>
+fn push(text: &mut Vec<u8>, pieces: &[&[u8]]) -> Pushed
     ensures { OnOk result (vec_items text.new ≡ vec_items text.old ++ flat_map (λ piece. piece.now) pieces.now) }
 {
     for piece in pieces {
@@ -138,7 +130,7 @@ fn push(text: &mut Vec<u8>, pieces: &[&[u8]]) -> Result<(), AllocError>
 }
 
 /// Adds a row, if there is one.
-fn push_if(text: &mut Vec<u8>, label: &[u8], bytes: Option<&[u8]>) -> Result<(), AllocError>
+fn push_if(text: &mut Vec<u8>, label: &[u8], bytes: Option<&[u8]>) -> Pushed
     ensures { OnOk result (vec_items text.new ≡ vec_items text.old ++ row_if label.now (option_map (λ bytes. bytes.now) bytes.entry)) }
 {
     match bytes {
@@ -166,69 +158,53 @@ fn shown_byte(byte: u8) -> u8
 }
 
 /// Adds a row with bytes as they are shown, if `is_wanted`.
-fn push_shown(
-    alloc: Global,
-    text: &mut Vec<u8>,
-    is_wanted: bool,
-    label: &[u8],
-    bytes: &[u8],
-) -> Result<(), AllocError>
+fn push_shown(text: &mut Vec<u8>, is_wanted: bool, label: &[u8], bytes: &[u8]) -> Pushed
     ensures { OnOk result (vec_items text.new ≡ vec_items text.old ++ (if is_wanted then row label.now (shown bytes.now) else [])) }
 {
     if !is_wanted {
         return Ok(());
     }
-    let shown = shown(alloc, bytes)?;
+    let shown = shown(*text.allocator(), bytes)?;
     push(text, &[label])?;
     push(text, &[&shown, b"\n"])
 }
 
 /// Adds a row for each line with white space between the name `Content-Type` or `Accept` and its colon.
-fn push_spaced(alloc: Global, text: &mut Vec<u8>, head: &[&[u8]]) -> Result<(), AllocError>
+fn push_spaced(text: &mut Vec<u8>, head: &[&[u8]]) -> Pushed
     ensures { OnOk result (vec_items text.new ≡ vec_items text.old ++ flat_map spaced_row (map (λ line. line.now) head.now)) }
 {
     for line in head {
         let is_wanted = is_spaced(b"content-type", line) || is_spaced(b"accept", line);
-        push_shown(alloc, text, is_wanted, b"white space before the colon: ", line)?;
+        push_shown(text, is_wanted, b"white space before the colon: ", line)?;
     }
     Ok(())
 }
 
 /// Adds the rows of values of `Content-Type`. Clears `are_good` if a value is rejected.
-fn push_types(
-    alloc: Global,
-    text: &mut Vec<u8>,
-    are_good: &mut bool,
-    values: &[Vec<u8>],
-) -> Result<(), AllocError>
+fn push_types(text: &mut Vec<u8>, are_good: &mut bool, values: &[Vec<u8>]) -> Pushed
     ensures { OnOk result (FoldsTo AddsType (vec_items text.old, are_good.old) (map vec_items values.now) (vec_items text.new, are_good.new)) }
 {
     for value in values {
-        push_type(alloc, text, are_good, value)?;
+        push_type(text, are_good, value)?;
     }
     Ok(())
 }
 
 /// Adds the rows of a value of `Content-Type`, without the white space around it: of its media type, or of its fault. Clears `are_good` if the value is rejected.
-fn push_type(
-    alloc: Global,
-    text: &mut Vec<u8>,
-    are_good: &mut bool,
-    value: &[u8],
-) -> Result<(), AllocError>
+fn push_type(text: &mut Vec<u8>, are_good: &mut bool, value: &[u8]) -> Pushed
     ensures { OnOk result (AddsType (vec_items text.old, are_good.old) value.now (vec_items text.new, are_good.new)) }
 {
     let value = trimmed(value);
-    match content_type(alloc, value) {
+    match content_type(*text.allocator(), value) {
         Ok(mime) => {
-            let boundary = boundary(alloc, &mime)?;
+            let boundary = boundary(*text.allocator(), &mime)?;
             push_media(text, &mime, boundary.as_deref())?;
             Ok(())
         }
         Err(FieldError::NoMemory) => Err(AllocError),
         Err(error) => {
             *are_good = false;
-            push_fault(alloc, text, b"bad Content-Type ", value, error)?;
+            push_fault(text, b"bad Content-Type ", value, error)?;
             Ok(())
         }
     }
@@ -246,11 +222,14 @@ fn count_row(values: &[Vec<u8>]) -> &'static [u8]
 }
 
 /// Adds the rows of a media type.
-fn push_media(text: &mut Vec<u8>, mime: &Mime, boundary: Option<&[u8]>) -> Result<(), AllocError>
+fn push_media(text: &mut Vec<u8>, mime: &Mime, boundary: Option<&[u8]>) -> Pushed
     ensures { OnOk result (vec_items text.new ≡ vec_items text.old ++ media_rows mime.now.media (option_map (λ bytes. bytes.now) boundary.entry)) }
 {
     let (kept, essence) = (mime.as_str().as_bytes(), mime.essence_str().as_bytes());
-    push(text, &[b"Content-Type ", kept, b"\nessence ", essence, b"\n"])?;
+    push(
+        text,
+        &[b"Content-Type ", kept, b"\nessence ", essence, b"\n"],
+    )?;
     let suffix = mime.suffix().map(|suffix| suffix.as_str().as_bytes());
     push_if(text, b"suffix ", suffix)?;
     push_params(text, mime)?;
@@ -259,7 +238,7 @@ fn push_media(text: &mut Vec<u8>, mime: &Mime, boundary: Option<&[u8]>) -> Resul
 }
 
 /// Adds a row for each parameter, with the meaning of its value.
-fn push_params(text: &mut Vec<u8>, mime: &Mime) -> Result<(), AllocError>
+fn push_params(text: &mut Vec<u8>, mime: &Mime) -> Pushed
     ensures { OnOk result (vec_items text.new ≡ vec_items text.old ++ flat_map param_row mime.now.media.pairs) }
 {
     for (name, value) in mime.params() {
@@ -271,19 +250,14 @@ fn push_params(text: &mut Vec<u8>, mime: &Mime) -> Result<(), AllocError>
 }
 
 /// Adds the rows of a rejected value of a field.
-fn push_fault(
-    alloc: Global,
-    text: &mut Vec<u8>,
-    label: &[u8],
-    value: &[u8],
-    error: FieldError,
-) -> Result<(), AllocError>
+fn push_fault(text: &mut Vec<u8>, label: &[u8], value: &[u8], error: FieldError) -> Pushed
     ensures { OnOk result (vec_items text.new ≡ vec_items text.old ++ fault_rows label.now value.now error) }
 {
+    let alloc = *text.allocator();
     let said = format!(in alloc; "{error}")?;
     push(text, &[label])?;
     push(text, &[said.as_bytes(), b"\n"])?;
-    push_shown(alloc, text, true, b"    ", value)?;
+    push_shown(text, true, b"    ", value)?;
     let (at, remark) = fault_place(value, error);
     let margin = vec![in alloc; b' '; at]?;
     push(text, &[b"    ", &margin, b"^", remark, b"\n"])
@@ -305,12 +279,7 @@ fn fault_place(value: &[u8], error: FieldError) -> (usize, &'static [u8])
 }
 
 /// Adds the rows of the entries of lines of `Accept`, and pushes their ranges to `ranges`.
-fn push_lines(
-    alloc: Global,
-    text: &mut Vec<u8>,
-    ranges: &mut Vec<Mime>,
-    lines: &[Vec<u8>],
-) -> Result<(), AllocError>
+fn push_lines(text: &mut Vec<u8>, ranges: &mut Vec<Mime>, lines: &[Vec<u8>]) -> Pushed
     ensures { OnOk result (AddsLines (map vec_items lines.now) (vec_items text.old, map (λ range. range.media) (vec_items ranges.old))
         (vec_items text.new, map (λ range. range.media) (vec_items ranges.new))) }
 {
@@ -318,7 +287,7 @@ fn push_lines(
         let mut left = Some(line.as_slice());
         while let Some(entries) = left {
             let (entry, rest) = first_entry(entries);
-            push_entry(alloc, text, ranges, trimmed(entry))?;
+            push_entry(text, ranges, trimmed(entry))?;
             left = rest;
         }
     }
@@ -326,19 +295,14 @@ fn push_lines(
 }
 
 /// Adds the rows of an entry, and pushes it to `ranges` if it is a range.
-fn push_entry(
-    alloc: Global,
-    text: &mut Vec<u8>,
-    ranges: &mut Vec<Mime>,
-    entry: &[u8],
-) -> Result<(), AllocError>
+fn push_entry(text: &mut Vec<u8>, ranges: &mut Vec<Mime>, entry: &[u8]) -> Pushed
     ensures { OnOk result (AddsEntry (vec_items text.old, map (λ range. range.media) (vec_items ranges.old)) entry.now
         (vec_items text.new, map (λ range. range.media) (vec_items ranges.new))) }
 {
     if entry.is_empty() {
         return Ok(());
     }
-    match content_type(alloc, entry) {
+    match content_type(*text.allocator(), entry) {
         Ok(range) => {
             push_range(text, &range)?;
             ranges.push(range)?;
@@ -346,14 +310,14 @@ fn push_entry(
         }
         Err(FieldError::NoMemory) => Err(AllocError),
         Err(error) => {
-            push_fault(alloc, text, b"bad Accept ", entry, error)?;
+            push_fault(text, b"bad Accept ", entry, error)?;
             Ok(())
         }
     }
 }
 
 /// Adds the row of a range.
-fn push_range(text: &mut Vec<u8>, range: &Mime) -> Result<(), AllocError>
+fn push_range(text: &mut Vec<u8>, range: &Mime) -> Pushed
     ensures { OnOk result (vec_items text.new ≡ vec_items text.old ++ range_row range.now.media) }
 {
     push_weighed(text, b"Accept ", weight_of(range), range)?;
@@ -373,7 +337,7 @@ fn range_end(range: &Mime) -> &'static [u8]
 }
 
 /// Adds a label, a weight with three decimals, and a media type. `weight` is in thousandths.
-fn push_weighed(text: &mut Vec<u8>, label: &[u8], weight: u16, mime: &Mime) -> Result<(), AllocError>
+fn push_weighed(text: &mut Vec<u8>, label: &[u8], weight: u16, mime: &Mime) -> Pushed
     ensures { OnOk result (vec_items text.new ≡ vec_items text.old ++ weighed_text label.now weight mime.now.media) }
 {
     let decimals = [
@@ -388,17 +352,16 @@ fn push_weighed(text: &mut Vec<u8>, label: &[u8], weight: u16, mime: &Mime) -> R
 
 /// Adds the rows of offers in the order in which they are ranked.
 fn push_offers(
-    alloc: Global,
     text: &mut Vec<u8>,
     ranges: &[Mime],
     offers: &[Mime],
     ranking: &[RankedOffer],
-) -> Result<(), AllocError>
+) -> Pushed
     ensures { OnOk result (vec_items text.new ≡ vec_items text.old
         ++ offer_rows (map (λ range. range.media) ranges.now) (map (λ offer. offer.media) offers.now) ranking.now) }
 {
     for one in ranking {
-        push_offer(alloc, text, ranges, one, nth(offers, one.offer))?;
+        push_offer(text, ranges, one, nth(offers, one.offer))?;
     }
     Ok(())
 }
@@ -413,12 +376,11 @@ fn nth(mimes: &[Mime], at: usize) -> Option<&Mime>
 
 /// Adds the row of a ranked offer, or nothing if there is no offer.
 fn push_offer(
-    alloc: Global,
     text: &mut Vec<u8>,
     ranges: &[Mime],
     one: &RankedOffer,
     offer: Option<&Mime>,
-) -> Result<(), AllocError>
+) -> Pushed
     ensures { OnOk result (vec_items text.new ≡ vec_items text.old
         ++ offer_row (map (λ range. range.media) ranges.now) one.now (option_map (λ offer. offer.now.media) offer.entry)) }
 {
@@ -426,9 +388,16 @@ fn push_offer(
         return Ok(());
     };
     push_weighed(text, b"offer ", one.weight, offer)?;
-    push_place(alloc, text, ranges, b" by ", one.range, b"", b" by none")?;
+    push_place(text, ranges, b" by ", one.range, b"", b" by none")?;
     let lacking = lacking_at(ranges, one.weight, offer);
-    push_place(alloc, text, ranges, b" (lacks a parameter of ", lacking, b")\n", b"\n")
+    push_place(
+        text,
+        ranges,
+        b" (lacks a parameter of ",
+        lacking,
+        b")\n",
+        b"\n",
+    )
 }
 
 /// Returns the position of the first range that demands a parameter that an offer of weight 0 lacks, or `None` if there is no such range.
@@ -443,14 +412,13 @@ fn lacking_at(ranges: &[Mime], weight: u16, offer: &Mime) -> Option<usize>
 
 /// Adds the number, counted from 1, and the text of the range at a position, between two strings. If there is no position, adds `none`.
 fn push_place(
-    alloc: Global,
     text: &mut Vec<u8>,
     ranges: &[Mime],
     before: &[u8],
     at: Option<usize>,
     after: &[u8],
     none: &[u8],
-) -> Result<(), AllocError>
+) -> Pushed
     ensures { OnOk result (vec_items text.new ≡ vec_items text.old
         ++ place_text (map (λ range. range.media) ranges.now) before.now at after.now none.now) }
 {
@@ -461,7 +429,7 @@ fn push_place(
         return Ok(());
     };
     let place = at + 1;
-    let number = format!(in alloc; "{place}")?;
+    let number = format!(in *text.allocator(); "{place}")?;
     push(text, &[before])?;
     push(text, &[number.as_bytes()])?;
     push(text, &[b" ", range.as_str().as_bytes(), after])?;

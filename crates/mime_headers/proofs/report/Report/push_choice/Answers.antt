@@ -16,7 +16,7 @@ returns c =
     let some : 0 < length c.args.lines.now = search (rules, tests) in
     let best = rw c.deref-4.ensures.value at c.best_of-best.ensures in
     let text : vec_items c.push_best.new.text
-        ≡ vec_items c.push_lines.new.text ++ (offer_rows ranges offers ranking ++ best_row offers (best_of offers ranking)) =
+    ≡ vec_items c.push_lines.new.text ++ (offer_rows ranges offers ranking ++ best_row offers (best_of offers ranking)) =
     simp (c.in_ok-push_best.ensures.rows, c.in_ok-push_offers.ensures, c.deref-2.ensures.value, c.deref-3.ensures.value, best, append_assoc) in
     let choice = rw best at c.in_ok-push_best.ensures.acceptable in
     let new : List ℕ → Bool → State = λ text choice. record { text = text; are_good = c.args.self.now.are_good; choice = Some choice } in
