@@ -1,7 +1,6 @@
 -- Heads and offers have one report, with one verdict, so that a page that says less doesn't check: if offers have one ranking.
-use Rattle.std.proofs.Common.{◌≡◌, ◌≢◌, ℕ, Bool, List, [], ◌∷◌, ◌++◌, Option, Some, None, Result, Ok, Err, MatchOption, ap, ap₂, codes, flat_map, map, refl, subst, subst₂, sym, ◌∙◌}
+use Rattle.std.proofs.Common.{◌≡◌, ◌≢◌, ℕ, Bool, List, [], ◌∷◌, ◌++◌, Option, Some, None, Result, Ok, Err, MatchOption, ap, ap₂, codes, map, refl, subst, sym, ◌∙◌}
 use Rattle.std.specs.List.{FoldsTo}
-use Rattle.std.proofs.lemmas.Option.{same_Some}
 use Rattle.std.proofs.lemmas.Str.{utf8_valid_len-IsValidUpTo}
 use Rattle.std.specs.Str.{IsUtf8}
 use Rattle.mime.specs.Values.{MediaType}

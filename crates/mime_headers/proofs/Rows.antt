@@ -1,5 +1,5 @@
 -- The rows of a report, as the code adds them one by one.
-use Rattle.std.proofs.Common.{arith, ◌≡◌, ℕ, ◌+◌, ◌<◌, List, [], ◌∷◌, ◌++◌, length, drop, get_or, refl, take, ap, sym, subst, ◌∙◌, append_assoc, append-nil, Result, Ok, Err, OnOk, true, false, Option, Some, None, Bor, MatchOption, ◌≢◌, ◌==◌, not, is_some, flat_map, map, option_map, slice_get}
+use Rattle.std.proofs.Common.{arith, ◌≡◌, ℕ, ◌+◌, ◌<◌, List, [], ◌∷◌, ◌++◌, length, drop, get_or, refl, take, ap, sym, subst, ◌∙◌, append_assoc, append-nil, Result, false, Option, Some, None, Bor, MatchOption, flat_map, map, option_map, slice_get}
 use Rattle.std.specs.List.{FoldsTo, list_any}
 use Rattle.std.proofs.lemmas.Bool.{or_parts}
 use Rattle.std.proofs.lemmas.Bool.Decides.{nat_tests}

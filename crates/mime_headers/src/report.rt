@@ -7,7 +7,7 @@ ghost use Rattle.mime_io.specs.Lines.{row};
 ghost use Rattle.mime_headers.specs.Head.{bare_lines, heads_of, unindented};
 ghost use Rattle.mime_headers.specs.Inner.{lines_now, state_of};
 ghost use Rattle.mime_headers.specs.Report.{AddsChoice, AddsEntry, AddsHead, AddsLines, AddsType, IsReport, best_of, best_row, count_row, cut_row, fault_place, fault_rows, is_acceptable, lacking_at, media_rows, none_lines, none_row, offer_row};
-ghost use Rattle.mime_headers.specs.Report.{offer_rows, param_row, place_text, range_end, range_row, row_if, shown, shown_byte, spaced_row, verdict_of, weighed_text, with_rows};
+ghost use Rattle.mime_headers.specs.Report.{offer_rows, param_row, place_text, range_end, range_row, row_if, shown, spaced_row, verdict_of, weighed_text, with_rows};
 
 use crate::head::{heads_of, is_spaced, title_of, unindented, values_of};
 use crate::shown::without_controls;
@@ -73,7 +73,8 @@ struct Report {
 impl Report {
     /// Adds the rows of a head.
     fn push_head(&mut self, alloc: Global, offers: &[Mime], many: bool, head: &[&[u8]]) -> Pushed
-        ensures { OnOk result (AddsHead (map (λ offer. offer.media) offers.now) many (state_of self.old) (unindented (map (λ line. line.now) head.now)) (state_of self.new)) }
+        ensures { OnOk result (AddsHead (map (λ offer. offer.media) offers.now) many (state_of self.old)
+            (unindented (map (λ line. line.now) head.now)) (state_of self.new)) }
     {
         let lines = unindented(alloc, head)?;
         let types = values_of(alloc, b"content-type:", &lines)?;
@@ -88,7 +89,8 @@ impl Report {
 
     /// Adds the rows of the lines of `Accept` and of the offers, if there are lines.
     fn push_choice(&mut self, alloc: Global, offers: &[Mime], lines: &[Vec<u8>]) -> Pushed
-        ensures { OnOk result (AddsChoice (map (λ offer. offer.media) offers.now) (map vec_items lines.now) (state_of self.old) (state_of self.new)) }
+        ensures { OnOk result (AddsChoice (map (λ offer. offer.media) offers.now) (map vec_items lines.now) (state_of self.old)
+            (state_of self.new)) }
     {
         if lines.is_empty() {
             return Ok(());
@@ -101,6 +103,7 @@ impl Report {
         self.choice = Some(push_best(&mut self.text, offers, best)?);
         Ok(())
     }
+
     /// Adds the rows of the offers if no head has an `Accept`, since a request without one accepts everything.
     fn push_missing(&mut self, alloc: Global, offers: &[Mime]) -> Pushed
         ensures { OnOk result (AddsChoice (map (λ offer. offer.media) offers.now) (none_lines self.old.choice)
@@ -143,18 +146,14 @@ fn push_if(text: &mut Vec<u8>, label: &[u8], bytes: Option<&[u8]>) -> Pushed
 fn shown(alloc: Global, bytes: &[u8]) -> Result<Vec<u8>, AllocError>
     ensures { IfOk result (λ text. vec_items text ≡ shown bytes.now) }
 {
-    bytes.iter().map(|byte| shown_byte(*byte)).collect(alloc)
-}
-
-/// Returns a byte, or a dot if the byte isn't printable ASCII.
-fn shown_byte(byte: u8) -> u8
-    ensures { result ≡ shown_byte byte }
-{
-    if byte == b' ' || byte.is_ascii_graphic() {
-        byte
-    } else {
-        b'.'
-    }
+    bytes
+        .iter()
+        .map(|byte| if *byte == b' ' || byte.is_ascii_graphic() {
+            *byte
+        } else {
+            b'.'
+        })
+        .collect(alloc)
 }
 
 /// Adds a row with bytes as they are shown, if `is_wanted`.
@@ -182,7 +181,8 @@ fn push_spaced(text: &mut Vec<u8>, head: &[&[u8]]) -> Pushed
 
 /// Adds the rows of values of `Content-Type`. Clears `are_good` if a value is rejected.
 fn push_types(text: &mut Vec<u8>, are_good: &mut bool, values: &[Vec<u8>]) -> Pushed
-    ensures { OnOk result (FoldsTo AddsType (vec_items text.old, are_good.old) (map vec_items values.now) (vec_items text.new, are_good.new)) }
+    ensures { OnOk result (FoldsTo AddsType (vec_items text.old, are_good.old) (map vec_items values.now)
+        (vec_items text.new, are_good.new)) }
 {
     for value in values {
         push_type(text, are_good, value)?;
@@ -190,7 +190,8 @@ fn push_types(text: &mut Vec<u8>, are_good: &mut bool, values: &[Vec<u8>]) -> Pu
     Ok(())
 }
 
-/// Adds the rows of a value of `Content-Type`, without the white space around it: of its media type, or of its fault. Clears `are_good` if the value is rejected.
+/// Adds the rows of a value of `Content-Type`, without the white space around it: of its media type, or of its fault. Clears `are_good` if
+/// the value is rejected.
 fn push_type(text: &mut Vec<u8>, are_good: &mut bool, value: &[u8]) -> Pushed
     ensures { OnOk result (AddsType (vec_items text.old, are_good.old) value.now (vec_items text.new, are_good.new)) }
 {

@@ -1,8 +1,7 @@
 -- The next word's offer is put last, and a word that names no offer is refused by its fault.
-use Rattle.std.proofs.Common.{[], ap, arith, drop, map, rules, string_bytes, suc, sym, take, vec_items, Err, List, Ok, Result, String, ℕ, ◌+◌, ◌∙◌, ◌∷◌, ◌≡◌, ◌≢◌}
+use Rattle.std.proofs.Common.{[], ap, arith, map, rules, string_bytes, suc, sym, take, vec_items, Err, List, Ok, Result, String, ℕ, ◌+◌, ◌∙◌, ◌∷◌, ◌≡◌, ◌≢◌}
 use Rattle.std.proofs.lemmas.List.{map-append}
 use Rattle.std.specs.Global.{Global}
-use Rattle.std.specs.Vec.Iter.{into_iter_items, into_iter_len}
 use Rattle.mime.specs.Values.{MediaType}
 use Rattle.mime_http.specs.declared.value.FieldError.{FieldError}
 use Rattle.mime_headers.specs.Program.{AreOffers, a_word, bad_word, no_memory, no_word}
@@ -11,18 +10,12 @@ use Rattle.mime_headers.specs.declared.offers.BadOffer.{BadOffer}
 use Rattle.mime_headers.proofs.offers.read_offers.Goals as goal
 
 -- a word, and those that are taken after it
-next_word : {offers : List MediaType} {all : Result (List MediaType) BadOffer} (n m : ℕ) (word : String Global) (words rest : List (String Global))
-    → m + 1 ≡ n → words ≡ word ∷ rest → AreOffers (string_bytes word ∷ map string_bytes (take m rest)) offers all
+next_word : {offers : List MediaType} {all : Result (List MediaType) BadOffer} (n m : ℕ) (word : String Global)
+    (words rest : List (String Global)) → m + 1 ≡ n → words ≡ word ∷ rest → AreOffers (string_bytes word ∷ map string_bytes (take m rest)) offers all
     → AreOffers (map string_bytes (take n words)) offers all
 next_word n m word words rest len is are =
     let next : n ≡ suc m = sym len ∙ omega arith in
     rw (next, is) are
-
-pub loop-word-init : goal.loop-word-init
-loop-word-init c all are =
-    let first : take (into_iter_len c.next-program.new.self) (into_iter_items c.next-program.new.self)
-    ≡ drop 1 (take (into_iter_len c.args.arguments) (into_iter_items c.args.arguments)) = search rules in
-    rw (c.new-offers.ensures.items, first) at are
 
 pub loop-word-preserved : goal.loop-word-preserved
 loop-word-preserved c all are =
@@ -39,8 +32,10 @@ returns-in-Err-NoMemory c =
 pub returns-in-Err : goal.returns-in-Err
 returns-in-Err c =
     let other : c.in-Err.error ≢ FieldError.NoMemory = search rules in
-    let is : IsRead (string_bytes c.in-Some.word) (Err c.in-Err.error) = rw (← c.as_bytes.ensures.value) (other, c.in-Err.ensures.explained) in
-    c.loop-word.invariant _ (next_word _ _ _ _ _ c.in-Some.ensures.cases.1 c.in-Some.ensures.cases.0 (bad_word c.in-Some.word c.in-Err.error is))
+    let is : IsRead (string_bytes c.in-Some.word) (Err c.in-Err.error) =
+    rw (← c.as_bytes.ensures.value) (other, c.in-Err.ensures.explained) in
+    c.loop-word.invariant _ (next_word _ _ _ _ _ c.in-Some.ensures.cases.1 c.in-Some.ensures.cases.0
+    (bad_word c.in-Some.word c.in-Err.error is))
 
 pub returns-in_default-push : goal.returns-in_default-push
 returns-in_default-push c =

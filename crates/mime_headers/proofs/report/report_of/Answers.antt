@@ -1,12 +1,10 @@
 -- The next head is added.
-use Rattle.std.proofs.Common.{[], None, ap, append-nil, append_assoc, arith, length, map, nat_lt, rules, subst, true, vec_items, ◌++◌, ◌<◌, ◌≡◌, ◌≤◌, ◌∙◌}
+use Rattle.std.proofs.Common.{ap, append-nil, arith, length, map, nat_lt, rules, vec_items, ◌<◌, ◌≡◌, ◌≤◌, ◌∙◌}
 use Rattle.std.proofs.lemmas.List.{length-map, take_all}
-use Rattle.std.specs.List.{FoldsTo}
 use borrow.Author.Tests.{tests}
 use Rattle.mime_headers.specs.Head.{bare_lines, heads_of, unindented}
 use Rattle.mime_headers.specs.Inner.{lines_now, state_of}
-use Rattle.mime_headers.specs.Report.{AddsHead, cut_row}
-use Rattle.mime_headers.specs.Shown.{without_controls}
+use Rattle.mime_headers.specs.Report.{AddsHead}
 use Rattle.mime_headers.proofs.Rows.{folds-next}
 use Rattle.mime_headers.proofs.report.report_of.Goals as goal
 

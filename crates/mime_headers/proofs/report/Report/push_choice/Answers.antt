@@ -1,5 +1,5 @@
 -- Each part is added after the one before it.
-use Rattle.std.proofs.Common.{Bool, List, Option, Some, ap₂, append_assoc, length, map, rules, vec_items, ◌++◌, ◌<◌, ◌==◌, ◌||◌, ◌≡◌, ◌∙◌, ℕ, is_some, arith}
+use Rattle.std.proofs.Common.{Bool, List, Some, ap₂, append_assoc, length, map, rules, vec_items, ◌++◌, ◌<◌, ◌≡◌, ℕ, arith}
 use Rattle.std.proofs.lemmas.List.{length-map}
 use borrow.Author.Tests.{tests}
 use Rattle.mime_headers.specs.Inner.{state_of}
