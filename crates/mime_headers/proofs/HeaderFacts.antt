@@ -1,70 +1,42 @@
 -- Heads, rows and verdicts for which each definition is true, and others for which it is false, so that a page that says less or more
 -- doesn't check.
-use Rattle.std.proofs.Common.{◌≡◌, ℕ, Bool, true, false, List, [], ◌∷◌, ◌++◌, length, map, refl, codes, ◌≢◌, Ok, Err, Some, None, String, string_bytes}
-use Rattle.std.specs.Fmt.{decimal}
-use Rattle.std.specs.Global.{Global}
-use Rattle.mime.specs.Values.{MediaType}
-use Rattle.mime.specs.declared.scan.fault.ParseError.TheVariants.{MissingSubtype, InvalidToken}
-use Rattle.mime_http.specs.HttpMediaType.{IsHttpMediaType}
-use Rattle.mime_http.specs.HttpList.{trimmed}
-use Rattle.mime_http.specs.declared.value.FieldError.{FieldError}
-use Rattle.mime_http.specs.declared.value.FieldError.TheVariants.{NotUtf8, Invalid}
-use Rattle.mime_headers.specs.Head.{without_mark, bare_lines, begins, goes_on, continued, heads_of, unindented, values_of}
-use Rattle.mime_headers.specs.declared.offers.BadOffer.{BadOffer}
-use Rattle.mime_headers.specs.declared.offers.BadOffer.TheVariants.{Fault}
-use Rattle.mime_headers.specs.Program.{AreOffers, a_word, bad_word, no_memory, no_word}
-use Rattle.mime_headers.specs.Report.{IsRead, best_of, best_row, count_row, cut_row, fault_place, fault_rows, is_acceptable, is_cut, lacking_at, media_rows, none_lines, none_row, offer_rows, place_text, range_row, shown, spaced_row, title_row, verdict_of, weight_text, with_entry}
-use Rattle.mime_headers.specs.Shown.{control_len, without_controls}
-use Rattle.mime_headers.specs.declared.verdict.Verdict.{Verdict}
+use Rattle.mime_headers.proofs.Common.{AreOffers, BadOffer, Bool, Err, Fault, FieldError, Global, Invalid, InvalidToken, IsHttpMediaType, IsRead, List, MediaType, MissingSubtype, None, NotUtf8, Ok, Some, String, Verdict, [], a_word, bad_word, bare_lines, begins, best_of, best_row, codes, continued, control_len, count_row, cut_row, decimal, false, fault_place, fault_rows, flat_map, goes_on, heads_of, is_acceptable, is_cut, lacking_at, length, map, media_rows, no_memory, no_word, none_lines, none_row, offer_rows, place_text, range_row, refl, shown, spaced_row, string_bytes, title_row, trimmed, true, unindented, values_of, verdict_of, weight_text, with_entry, without_controls, without_mark, ℕ, ◌++◌, ◌∷◌, ◌≡◌, ◌≢◌}
 
--- white space before and after, which a form feed and a carriage return aren't
-without_white :
-    map trimmed (codes " \t a b\t " ∷ codes " \r " ∷ (12 ∷ codes " a ") ∷ []) ≡ codes "a b" ∷ codes "\r" ∷ (12 ∷ codes " a") ∷ []
-without_white = refl
-
--- a mark with its space, alone, and no mark
-marks :
-    map without_mark (codes "> a" ∷ codes "<  a" ∷ codes ">" ∷ codes "a> b" ∷ codes " > a" ∷ [])
-    ≡ codes "a" ∷ codes " a" ∷ [] ∷ codes "a> b" ∷ codes " > a" ∷ []
-marks = refl
+-- white space before and after, which a form feed and a carriage return aren't; a mark with its space, alone, and no mark
+bare :
+    (map trimmed (codes " \t a b\t " ∷ codes " \r " ∷ (12 ∷ codes " a ") ∷ []) ≡ codes "a b" ∷ codes "\r" ∷ (12 ∷ codes " a") ∷ [])
+    × (map without_mark (codes "> a" ∷ codes "<  a" ∷ codes ">" ∷ codes "a> b" ∷ codes " > a" ∷ [])
+    ≡ codes "a" ∷ codes " a" ∷ [] ∷ codes "a> b" ∷ codes " > a" ∷ [])
+bare = (refl, refl)
 
 -- ---- heads
 
--- the heads of bytes, of an input that is cut off or isn't
-abbrev heads : Bool → List (List ℕ) → List (List (List (List ℕ)))
-heads cut inputs = map (λ bytes. map unindented (heads_of cut (bare_lines bytes))) inputs
+-- the heads of bytes, with a bar after each line and a line feed after each head
+abbrev heads : Bool → List (List ℕ) → List (List ℕ)
+heads cut inputs = map (λ bytes. flat_map (λ head. flat_map (λ line. line ++ codes "|") (unindented head) ++ codes "\n") (heads_of cut (bare_lines bytes))) inputs
 
--- a head ends with its first line that has nothing but a mark, or with the input,
+-- a head ends with its first line that has nothing but a mark, or with the input, but not with white space, a form feed or a second
+-- carriage return;
 first_heads :
-    heads false (codes "a: b\r\nc\r\n\r\nd: e" ∷ codes "> a:\n> \n< b:\n" ∷ codes "a:\n>\r\nb:" ∷ codes "\na:" ∷ codes "a:" ∷ [] ∷ [])
-    ≡ ((codes "a: b" ∷ codes "c" ∷ []) ∷ []) ∷ ((codes "a:" ∷ []) ∷ []) ∷ ((codes "a:" ∷ []) ∷ []) ∷ ([] ∷ []) ∷ ((codes "a:" ∷ []) ∷ []) ∷ ([] ∷ []) ∷ []
+    heads false (codes "a: b\r\nc\r\n\r\nd: e" ∷ codes "> a:\n> \n< b:\n" ∷ codes "a:\n>\r\nb:" ∷ codes "\na:" ∷ codes "a:" ∷ []
+    ∷ (codes "a:\n \n\r\r\n> \t\n" ++ 12 ∷ codes "\nb: \r") ∷ [])
+    ≡ codes "a: b|c|\n" ∷ codes "a:|\n" ∷ codes "a:|\n" ∷ codes "\n" ∷ codes "a:|\n" ∷ codes "\n"
+    ∷ (codes "a:| |\r|\t|" ++ 12 ∷ codes "|b: |\n") ∷ []
 first_heads = refl
 
--- but not with white space, a form feed or a second carriage return;
-no_ends :
-    heads false ((codes "a:\n \n\r\r\n> \t\n" ++ 12 ∷ codes "\nb: \r") ∷ [])
-    ≡ ((codes "a:" ∷ codes " " ∷ codes "\r" ∷ codes "\t" ∷ (12 ∷ []) ∷ codes "b: " ∷ []) ∷ []) ∷ []
-no_ends = refl
-
--- one that is indented loses two spaces of each line, and ends before the next one;
-indented_heads :
-    heads false (codes "  http/1\n  a: b\n   c\n d\n \n  HTTP/2\n" ∷ codes " HTTP/1\n  a: b\n" ∷ [])
-    ≡ ((codes "http/1" ∷ codes "a: b" ∷ codes " c" ∷ codes " d" ∷ codes " " ∷ []) ∷ (codes "HTTP/2" ∷ []) ∷ [])
-    ∷ ((codes " HTTP/1" ∷ codes "  a: b" ∷ []) ∷ []) ∷ []
-indented_heads = refl
-
--- after an empty line others are passed over until one that begins with `HTTP/`, or with two spaces and `HTTP/`, as one in a head may, too;
+-- one that is indented loses two spaces of each line, and ends before the next one; after an empty line others are passed over until one that
+-- begins with `HTTP/`, or with two spaces and `HTTP/`, as one in a head may, too;
 next_heads :
-    heads false (codes "> a:\n>\n* b\n< HTTP/1.1 200\r\n<\n" ∷ codes "a:\n\nb\n  HTTP/1.1 200\n  c:\n" ∷ codes "  HTTP/1.0 302\n  HTTP/1.1 200\n"
-    ∷ codes "a:\nHTTP/1.1 200\n" ∷ codes "\nHTTP 1\n X\n HTTP/1" ∷ [])
-    ≡ ((codes "a:" ∷ []) ∷ (codes "HTTP/1.1 200" ∷ []) ∷ []) ∷ ((codes "a:" ∷ []) ∷ (codes "HTTP/1.1 200" ∷ codes "c:" ∷ []) ∷ [])
-    ∷ ((codes "HTTP/1.0 302" ∷ []) ∷ (codes "HTTP/1.1 200" ∷ []) ∷ []) ∷ ((codes "a:" ∷ codes "HTTP/1.1 200" ∷ []) ∷ []) ∷ ([] ∷ []) ∷ []
+    heads false (codes "  http/1\n  a: b\n   c\n d\n \n  HTTP/2\n" ∷ codes " HTTP/1\n  a: b\n" ∷ codes "> a:\n>\n* b\n< HTTP/1.1 200\r\n<\n"
+    ∷ codes "a:\n\nb\n  HTTP/1.1 200\n  c:\n" ∷ codes "  HTTP/1.0 302\n  HTTP/1.1 200\n" ∷ codes "a:\nHTTP/1.1 200\n" ∷ codes "\nHTTP 1\n X\n HTTP/1" ∷ [])
+    ≡ codes "http/1|a: b| c| d| |\nHTTP/2|\n" ∷ codes " HTTP/1|  a: b|\n" ∷ codes "a:|\nHTTP/1.1 200|\n"
+    ∷ codes "a:|\nHTTP/1.1 200|c:|\n" ∷ codes "HTTP/1.0 302|\nHTTP/1.1 200|\n" ∷ codes "a:|HTTP/1.1 200|\n" ∷ codes "\n" ∷ []
 next_heads = refl
 
 -- and in an input that is cut off a head counts only if something follows its end
 cut_heads :
     heads true (codes "a:\n\n" ∷ codes "a:\n\nb" ∷ codes "a:\n  HTTP/" ∷ codes "a:\n> " ∷ codes "\nHTTP/1\n\n" ∷ codes "\nHTTP/1\n\nb" ∷ [])
-    ≡ [] ∷ ((codes "a:" ∷ []) ∷ []) ∷ ((codes "a:" ∷ []) ∷ []) ∷ [] ∷ ([] ∷ []) ∷ ([] ∷ (codes "HTTP/1" ∷ []) ∷ []) ∷ []
+    ≡ [] ∷ codes "a:|\n" ∷ codes "a:|\n" ∷ [] ∷ codes "\n" ∷ codes "\nHTTP/1|\n" ∷ []
 cut_heads = refl
 
 -- an input of one byte more than 1,048,576 is cut off
@@ -73,29 +45,21 @@ cut_inputs bytes = (λ len. rw len refl, λ len. rw len refl)
 
 -- ---- fields
 
--- a line that begins with white space goes on with the one before it
-lines_that_go_on :
-    (map goes_on (codes "\ta" ∷ codes "a b" ∷ [] ∷ (12 ∷ codes "a") ∷ codes "\ra" ∷ []) ≡ true ∷ false ∷ false ∷ false ∷ false ∷ [])
-    × (continued (codes "  b\t" ∷ codes "\tc d" ∷ codes "e" ∷ codes " f" ∷ []) ≡ codes " b c d") × (continued (codes " " ∷ codes " a" ∷ []) ≡ codes "  a")
-lines_that_go_on = (refl, refl, refl)
-
 -- a name in any case, and others
 names :
     map (begins (codes "accept:")) (codes "ACCEPT: a/b" ∷ codes "Accept : a/b" ∷ codes "Accept" ∷ codes "X-Accept: a/b" ∷ [])
     ≡ true ∷ false ∷ false ∷ false ∷ []
 names = refl
 
--- the values of a field: of each of its lines, with what goes on, and of no other
+-- a line that begins with white space goes on with the one before it; the values of a field are those of each of its lines, with what goes on
 values :
-    values_of (codes "accept:") (codes "Accept: a/b, " ∷ codes "  c/d" ∷ codes "Host: e" ∷ codes " f" ∷ codes "accept:g/h" ∷ [])
-    ≡ codes "a/b, c/d" ∷ codes "g/h" ∷ []
-values = refl
+    (map goes_on (codes "\ta" ∷ codes "a b" ∷ [] ∷ (12 ∷ codes "a") ∷ codes "\ra" ∷ []) ≡ true ∷ false ∷ false ∷ false ∷ false ∷ [])
+    × (continued (codes "  b\t" ∷ codes "\tc d" ∷ codes "e" ∷ codes " f" ∷ []) ≡ codes " b c d") × (continued (codes " " ∷ codes " a" ∷ []) ≡ codes "  a")
+    × (values_of (codes "accept:") (codes "Accept: a/b, " ∷ codes "  c/d" ∷ codes "Host: e" ∷ codes " f" ∷ codes "accept:g/h" ∷ [])
+    ≡ codes "a/b, c/d" ∷ codes "g/h" ∷ [])
+values = (refl, refl, refl, refl)
 
 -- ---- rows
-
--- bytes that aren't printable ASCII
-shown_bytes : shown (97 ∷ 32 ∷ 126 ∷ 0 ∷ 9 ∷ 27 ∷ 127 ∷ 195 ∷ []) ≡ codes "a ~....."
-shown_bytes = refl
 
 -- a media type with a suffix and a parameter that has a quoted pair, the same without the parameter, and a range with a weight
 abbrev media : MediaType
@@ -118,17 +82,14 @@ rows_of_media :
     × (media_rows (star (codes "1")) (Some (codes "d")) ≡ codes "Content-Type */*;q=1\nessence */*\nparam q=1\nboundary d\n")
 rows_of_media = (refl, refl)
 
--- a fault at a byte, one at the end, and a comment, as mails have it
-places :
-    map (λ error. fault_place (codes "a/") error) (Invalid (InvalidToken 2 98) ∷ Invalid MissingSubtype ∷ NotUtf8 1
-    ∷ Invalid (InvalidToken 1 40) ∷ Invalid (InvalidToken 1 41) ∷ [])
-    ≡ (2, []) ∷ (2, []) ∷ (1, []) ∷ (1, codes " (HTTP has no comments)") ∷ (1, []) ∷ []
-places = refl
-
-rows_of_fault :
-    fault_rows (codes "bad Content-Type ") (codes "a\tb/") (Invalid MissingSubtype)
-    ≡ codes "bad Content-Type mime parse error: a subtype was missing behind the slash (/)\n    a.b/\n        ^\n"
-rows_of_fault = refl
+-- bytes that aren't printable ASCII; a fault at a byte, one at the end, and a comment, as mails have it
+faults :
+    (shown (97 ∷ 32 ∷ 126 ∷ 0 ∷ 9 ∷ 27 ∷ 127 ∷ 195 ∷ []) ≡ codes "a ~.....")
+    × (map (fault_place (codes "a/")) (Invalid (InvalidToken 2 98) ∷ Invalid MissingSubtype ∷ NotUtf8 1 ∷ Invalid (InvalidToken 1 40) ∷ Invalid (InvalidToken 1 41) ∷ [])
+    ≡ (2, []) ∷ (2, []) ∷ (1, []) ∷ (1, codes " (HTTP has no comments)") ∷ (1, []) ∷ [])
+    × (fault_rows (codes "bad Content-Type ") (codes "a\tb/") (Invalid MissingSubtype)
+    ≡ codes "bad Content-Type mime parse error: a subtype was missing behind the slash (/)\n    a.b/\n        ^\n")
+faults = (refl, refl, refl)
 
 -- a field that isn't there, and one that is; an input that is cut off; and the title of a head among many
 rows_of_heads :
@@ -177,20 +138,15 @@ rows_of_offers :
     ≡ codes "offer 0.000 */*;q=1 by none\noffer 0.001 a/b+c by none\n"
 rows_of_offers = refl
 
--- the best offer, none that is acceptable, and none at all
+-- the best offer, none that is acceptable, and none at all; the verdict is that of all values and of the last choice
 verdicts :
     (best_of (plain ∷ media ∷ []) (record { offer = 1; weight = 1; range = Some 0 } ∷ []) ≡ Some media)
     × (best_of (media ∷ []) (record { offer = 0; weight = 0; range = None } ∷ []) ≡ None) × (best_of [] [] ≡ None)
-    × (best_row (media ∷ []) (Some media) ≡ codes "best a/b+c;p=\"x\\\"y\"\n") × (best_row (media ∷ []) None ≡ codes "406 Not Acceptable\n")
-    × (best_row [] None ≡ []) × (is_acceptable (media ∷ []) (Some media) ≡ true) × (is_acceptable (media ∷ []) None ≡ false)
-    × (is_acceptable [] None ≡ true)
-verdicts = (refl, refl, refl, refl, refl, refl, refl, refl, refl)
-
--- the verdict is that of all values and of the last choice
-verdicts_of_heads :
-    (map (verdict_of true) (Some true ∷ None ∷ Some false ∷ []) ≡ Verdict.Acceptable ∷ Verdict.Acceptable ∷ Verdict.NotAcceptable ∷ [])
+    × (map (best_row (media ∷ [])) (Some media ∷ None ∷ []) ≡ codes "best a/b+c;p=\"x\\\"y\"\n" ∷ codes "406 Not Acceptable\n" ∷ []) × (best_row [] None ≡ [])
+    × (map (is_acceptable (media ∷ [])) (Some media ∷ None ∷ []) ≡ true ∷ false ∷ []) × (is_acceptable [] None ≡ true)
+    × (map (verdict_of true) (Some true ∷ None ∷ Some false ∷ []) ≡ Verdict.Acceptable ∷ Verdict.Acceptable ∷ Verdict.NotAcceptable ∷ [])
     × (verdict_of false (Some true) ≡ Verdict.NotAcceptable)
-verdicts_of_heads = (refl, refl)
+verdicts = (refl, refl, refl, refl, refl, refl, refl, refl, refl)
 
 -- each word that is a media type names an offer, in its order
 offers_of_words : (word other : List ℕ) (offer second : MediaType) → IsRead word (Ok offer) → IsRead other (Ok second)

@@ -1,21 +1,5 @@
 -- Heads and offers have one report, with one verdict, so that a page that says less doesn't check: if offers have one ranking.
-use Rattle.std.proofs.Common.{◌≡◌, ◌≢◌, ℕ, Bool, List, [], ◌∷◌, ◌++◌, Option, Some, None, Result, Ok, Err, MatchOption, ap, ap₂, codes, map, refl, subst, sym, ◌∙◌}
-use Rattle.std.specs.List.{FoldsTo}
-use Rattle.std.proofs.lemmas.Str.{utf8_valid_len-IsValidUpTo}
-use Rattle.std.specs.Str.{IsUtf8}
-use Rattle.mime.specs.Values.{MediaType}
-use Rattle.mime_http.specs.Boundary.{IsBoundaryOf}
-use Rattle.mime_http.specs.HttpFaults.{HttpExplains}
-use Rattle.mime_http.specs.HttpList.{trimmed}
-use Rattle.mime_http.specs.HttpMediaType.{IsHttpMediaType}
-use Rattle.mime_http.specs.Ranking.{IsRanking}
-use Rattle.mime_http.specs.declared.ranking.RankedOffer.{RankedOffer}
-use Rattle.mime_http.specs.declared.value.FieldError.{FieldError}
-use Rattle.mime_http.specs.declared.value.FieldError.TheVariants.{NotUtf8, Invalid, NoMemory}
-use Rattle.mime_http.proofs.HandedOut.{only_cut, one_printed_text, no_fault, one_http_fault}
-use Rattle.mime_headers.specs.Head.{unindented, values_of}
-use Rattle.mime_headers.specs.Report.{AddsChoice, AddsEntry, AddsHead, AddsLines, AddsReading, AddsType, IsRead, IsReportOf, State, best_of, best_row, count_row, is_acceptable, media_rows, none_lines, none_row, offer_rows, with_entry, with_rows}
-use Rattle.mime_headers.specs.declared.verdict.Verdict.{Verdict}
+use Rattle.mime_headers.proofs.Common.{AddsChoice, AddsEntry, AddsHead, AddsLines, AddsReading, AddsType, Bool, Err, FieldError, FoldsTo, HttpExplains, Invalid, IsBoundaryOf, IsHttpMediaType, IsRanking, IsRead, IsReportOf, IsUtf8, List, MatchOption, MediaType, NoMemory, None, NotUtf8, Ok, Option, RankedOffer, Result, Some, State, Verdict, [], ap, ap₂, best_of, best_row, codes, count_row, is_acceptable, map, media_rows, no_fault, none_lines, none_row, offer_rows, one_http_fault, one_printed_text, only_cut, refl, subst, sym, trimmed, unindented, utf8_valid_len-IsValidUpTo, values_of, with_entry, ℕ, ◌++◌, ◌∙◌, ◌∷◌, ◌≡◌, ◌≢◌}
 
 -- no value is both a media type and rejected
 not_both : (value : List ℕ) (error : FieldError) → IsUtf8 value → IsHttpMediaType value → error ≢ NoMemory → ¬ (HttpExplains value error)
@@ -115,5 +99,5 @@ module _ (one_ranking : (ranges offers : List MediaType) (ranking other : List R
   one_report offers bytes text other verdict another one two =
       let heads = one_of_all _ (λ old head. one_head offers _ old (unindented head)) _ _ one.state two.state one.adds two.adds in
       let last = one_choice offers _ _ one.last two.last
-      (subst (λ (it : State). AddsChoice offers (none_lines it.choice) (with_rows it (none_row it.choice)) one.last) heads one.chosen) two.chosen in
+      (subst (λ (it : State). AddsChoice offers (none_lines it.choice) (record it { text = it.text ++ none_row it.choice }) one.last) heads one.chosen) two.chosen in
       (cc (one.is_text, two.is_text, last), cc (one.is_verdict, two.is_verdict, last))

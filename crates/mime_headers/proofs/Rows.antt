@@ -1,33 +1,7 @@
 -- The rows of a report, as the code adds them one by one.
-use Rattle.std.proofs.Common.{arith, ◌≡◌, ℕ, ◌+◌, ◌<◌, List, [], ◌∷◌, ◌++◌, length, drop, get_or, refl, take, ap, sym, subst, ◌∙◌, append_assoc, append-nil, Result, false, Option, Some, None, Bor, MatchOption, flat_map, map, option_map, slice_get}
-use Rattle.std.specs.List.{FoldsTo, list_any}
-use Rattle.std.proofs.lemmas.Bool.{or_parts}
-use Rattle.std.proofs.lemmas.Bool.Decides.{nat_tests}
-use Rattle.std.proofs.lemmas.Fn.{FoldsTo-push}
-use Rattle.std.proofs.lemmas.List.{drop_more, map-append, take_more}
-use Rattle.std.proofs.lemmas.Option.{slice_get_read, slice_get-map}
-use Rattle.mime.specs.Items.{Item, items_of}
-use Rattle.mime.specs.Values.{MediaType}
-use Rattle.mime_http.specs.HttpList.{BeginsPiece, IsPiece, trimmed}
-use Rattle.mime_http.specs.HttpList.AreBetweenCommas.{line_end, comma}
-use Rattle.mime_http.specs.declared.value.FieldError.{FieldError}
-use Rattle.mime_headers.specs.Inner.{begins_control}
-use Rattle.mime_headers.specs.Report.{AddsChoice, AddsEntry, AddsLines, IsChoice, IsRead, State, param_row, with_entry}
-use Rattle.mime_headers.specs.Shown.{control_len, without_controls}
+use Rattle.mime_headers.proofs.Common.{AddsChoice, AddsEntry, AddsLines, BeginsPiece, Bor, FieldError, FoldsTo, FoldsTo-push, IsChoice, IsPiece, IsRead, Item, List, MatchOption, MediaType, None, Option, Result, Some, State, [], ap, append-nil, arith, begins_control, comma, control_len, false, flat_map, get_or, items_of, length, line_end, list_any, map, map-append, nat_tests, or_parts, param_row, refl, subst, sym, take, take_more, trimmed, with_entry, without_controls, ℕ, ◌++◌, ◌+◌, ◌<◌, ◌∙◌, ◌∷◌, ◌≡◌}
 
 -- ---- a loop that adds something for each item
-
--- the next item is the first that is left
-pub first_left : {X : Type 0} (xs : List X) (i : ℕ) (x : X) → i < length xs → x ≡ get_or xs i x → drop i xs ≡ x ∷ drop (i + 1) xs
-first_left xs i x within is = drop_more xs i x within ∙ ap (λ y. y ∷ drop (i + 1) xs) (sym is)
-
--- what is added of an item was left to add
-pub rows-next : {X : Type 0} (f : X → List ℕ) (xs : List X) (i : ℕ) (x : X) (old new whole : List ℕ) → i < length xs → x ≡ get_or xs i x
-    → old ++ flat_map f (drop i xs) ≡ whole → new ≡ old ++ f x → new ++ flat_map f (drop (i + 1) xs) ≡ whole
-rows-next f xs i x old new whole within is left added =
-    let rest = flat_map f (drop (i + 1) xs) in
-    ap (λ text. text ++ rest) added ∙ append_assoc old (f x) rest
-    ∙ ap (λ items. old ++ flat_map f items) (sym (first_left xs i x within is)) ∙ left
 
 -- the next item is taken
 pub folds-next : {P X A : Type 0} (R : P → A → P → Type 0) (f : X → A) (p : P) (xs : List X) (i : ℕ) (x : X) (q u : P) → i < length xs
@@ -36,10 +10,6 @@ folds-next R f p xs i x q u within is done step =
     let next : take (i + 1) xs ≡ take i xs ++ (x ∷ []) = take_more xs i x within ∙ ap (λ y. take i xs ++ (y ∷ [])) (sym is) in
     subst (λ ys. FoldsTo R p ys u) (sym (ap (map f) next ∙ map-append f (take i xs) (x ∷ [])))
     (FoldsTo-push R p (map f (take i xs)) q (f x) u done step)
-
--- an item that was found
-pub found_at : {X Y : Type 0} (f : X → Y) (xs : List X) (i : ℕ) (x : X) → i < length xs → x ≡ get_or xs i x → slice_get (map f xs) i ≡ Some (f x)
-found_at f xs i x within is = slice_get-map f xs i ∙ ap (option_map f) (slice_get_read xs (length xs) i x refl within is)
 
 -- ---- parameters
 

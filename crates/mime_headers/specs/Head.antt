@@ -1,7 +1,6 @@
 -- The heads of an input, and the values of a field there (RFC 9110, 5.5 and 5.6.3; RFC 9112, 2.2 and 5).
 use Rattle.std.specs.Prelude.{ℕ, Bool, false, List, [], ◌∷◌, ◌++◌, ◌==◌, ◌||◌, ◌&&◌, not, Option, Some, None, map, take, drop, length, if◌then◌else◌, codes}
-use Rattle.std.specs.Str.{str_eq_ignore_ascii_case}
-use Rattle.std.specs.Str.Lines.{strip_carriage_return}
+use Rattle.std.specs.{Str.str_eq_ignore_ascii_case, Str.Lines.strip_carriage_return}
 use Rattle.mime.specs.Grammar.{is_space}
 use Rattle.mime_http.specs.HttpList.{trimmed}
 use Rattle.mime_io.specs.Lines.{lines_of}

@@ -1,10 +1,7 @@
 -- What the code says on the way; no contract of another crate names it.
-use Rattle.std.specs.Borrow.{Bor}
 use Rattle.std.specs.Prelude.{ℕ, Bool, List, Vec, map, vec_items, ◌==◌, ◌||◌}
-use Rattle.std.specs.Global.{Global}
-use Rattle.mime_headers.specs.Report.{State}
-use Rattle.mime_headers.specs.Shown.{is_ascii_control}
-use Rattle.mime_headers.specs.declared.report.Report.{Report}
+use Rattle.std.specs.{Borrow.Bor, Global.Global}
+use Rattle.mime_headers.specs.{Report.State, Shown.is_ascii_control, declared.report.Report.Report}
 
 -- the lines that are listed
 abbrev pub lines_now : Vec (Bor (List ℕ)) Global → List (List ℕ)

@@ -1,28 +1,10 @@
 -- What the program writes of heads and of offers: of each `Content-Type`, of `Accept`, and of each offer (RFC 9110, 8.3, 12.5.1 and 15.5.7).
 use Rattle.std.specs.Prelude.{◌≡◌, ◌≢◌, ℕ, ◌+◌, ◌/◌, ◌%◌, Bool, true, false, List, [], ◌∷◌, ◌++◌, ◌==◌, ◌||◌, ◌&&◌, Option, Some, None, Result, Ok, Err, MatchOption, is_some, option_map, unwrap_or, position, map, flat_map, length, slice_get, replicate, nat_lt, if◌then◌else◌, codes}
-use Rattle.std.specs.Char.{is_ascii_graphic}
-use Rattle.std.specs.Fmt.{decimal}
-use Rattle.std.specs.List.{FoldsTo}
-use Rattle.std.specs.Str.{IsUtf8}
-use Rattle.mime.specs.Values.{MediaType, suffix_of}
-use Rattle.mime.specs.declared.scan.fault.ParseError.{ParseError}
-use Rattle.mime.specs.declared.scan.fault.ParseError.TheVariants.{InvalidToken}
-use Rattle.mime_http.specs.Boundary.{IsBoundaryOf}
-use Rattle.mime_http.specs.HttpFaults.{HttpExplains}
-use Rattle.mime_http.specs.HttpList.{trimmed, AreBetweenCommas, IsPrinted, IsPiece, BeginsPiece}
-use Rattle.mime_http.specs.HttpMediaType.{HttpReads}
-use Rattle.mime_http.specs.HttpPrinted.{field_error_text}
-use Rattle.mime_http.specs.Ranges.{weight_of, first_value}
-use Rattle.mime_http.specs.Ranking.{is_qvalue, is_lacking, IsRanking}
-use Rattle.mime_http.specs.Unescaped.{unescaped}
-use Rattle.mime_http.specs.declared.ranking.RankedOffer.{RankedOffer}
-use Rattle.mime_http.specs.declared.value.FieldError.{FieldError}
-use Rattle.mime_http.specs.declared.value.FieldError.TheVariants.{NotUtf8, Invalid, NoMemory}
-use Rattle.mime_io.specs.Lines.{row}
-use Rattle.mime_io.specs.Stops.{limit}
-use Rattle.mime_headers.specs.Head.{bare_lines, heads_of, is_spaced, title_of, unindented, values_of}
-use Rattle.mime_headers.specs.Shown.{without_controls}
-use Rattle.mime_headers.specs.declared.verdict.Verdict.{Verdict}
+use Rattle.std.specs.{Char.is_ascii_graphic, Fmt.decimal, List.FoldsTo, Str.IsUtf8}
+use Rattle.mime.specs.{Values.MediaType, Values.suffix_of, declared.scan.fault.ParseError.ParseError, declared.scan.fault.ParseError.TheVariants.InvalidToken}
+use Rattle.mime_http.specs.{Boundary.IsBoundaryOf, HttpFaults.HttpExplains, HttpList.trimmed, HttpList.AreBetweenCommas, HttpList.IsPrinted, HttpList.IsPiece, HttpList.BeginsPiece, HttpMediaType.HttpReads, HttpPrinted.field_error_text, Ranges.weight_of, Ranges.first_value, Ranking.is_qvalue, Ranking.is_lacking, Ranking.IsRanking, Unescaped.unescaped, declared.ranking.RankedOffer.RankedOffer, declared.value.FieldError.FieldError, declared.value.FieldError.TheVariants.NotUtf8, declared.value.FieldError.TheVariants.Invalid, declared.value.FieldError.TheVariants.NoMemory}
+use Rattle.mime_io.specs.{Lines.row, Stops.limit}
+use Rattle.mime_headers.specs.{Head.bare_lines, Head.heads_of, Head.is_spaced, Head.title_of, Head.unindented, Head.values_of, Shown.without_controls, declared.verdict.Verdict.Verdict}
 
 -- what is read of a value of a field: a media type, with the kept text that is printed of it, or the fault of a value that is none
 abbrev pub IsRead : List ℕ → Result MediaType FieldError → Type 0
@@ -36,17 +18,11 @@ pub record State : Type 0 where
   pub are_good : Bool
   pub choice : Option Bool
 
-abbrev pub with_rows : State → List ℕ → State
-with_rows state rows = record state { text = state.text ++ rows }
-
 -- ---- a rejected value
 
 -- bytes that may be any, as they are shown: a dot for each that isn't printable ASCII
-abbrev pub shown_byte : ℕ → ℕ
-shown_byte b = if b == 32 || is_ascii_graphic b then b else 46
-
 abbrev pub shown : List ℕ → List ℕ
-shown bytes = map shown_byte bytes
+shown bytes = map (λ b. if b == 32 || is_ascii_graphic b then b else 46) bytes
 
 -- the position of the byte at fault, or the value's end if something is missing there; and a word on a comment, which mails have, and HTTP
 -- doesn't
@@ -60,12 +36,10 @@ fault_place value (Invalid fault) = invalid_place value fault
 fault_place value NoMemory = (length value, [])
 
 -- the rows of a rejected value of a field: its fault, and the value over a caret at the byte at fault
-abbrev pub caret_row : ℕ × List ℕ → List ℕ
-caret_row (at, remark) = codes "    " ++ (replicate at 32 ++ (codes "^" ++ (remark ++ codes "\n")))
-
 abbrev pub fault_rows : List ℕ → List ℕ → FieldError → List ℕ
 fault_rows label value error =
-    row label (field_error_text error) ++ (row (codes "    ") (shown value) ++ caret_row (fault_place value error))
+    row label (field_error_text error) ++ (row (codes "    ") (shown value) ++ (codes "    "
+    ++ (replicate (fault_place value error).0 32 ++ (codes "^" ++ ((fault_place value error).1 ++ codes "\n")))))
 
 -- ---- Content-Type
 
@@ -103,23 +77,19 @@ count_row (value ∷ other ∷ values) = codes "several Content-Type lines (HTTP
 
 -- ---- Accept
 
--- the last digit of a number, and a weight in thousandths with its three decimals, as 0.800
-abbrev pub digit : ℕ → ℕ
-digit number = 48 + number % 10
-
+-- a weight in thousandths with its three decimals, as 0.800
 abbrev pub weight_text : ℕ → List ℕ
-weight_text weight = digit (weight / 1000) ∷ 46 ∷ digit (weight / 100) ∷ digit (weight / 10) ∷ digit weight ∷ []
+weight_text weight = (48 + weight / 1000 % 10) ∷ 46 ∷ (48 + weight / 100 % 10) ∷ (48 + weight / 10 % 10) ∷ (48 + weight % 10) ∷ []
 
 -- a weight and a media type's kept text
 abbrev pub weighed_text : List ℕ → ℕ → MediaType → List ℕ
 weighed_text label weight media = label ++ (weight_text weight ++ (codes " " ++ media.kept))
 
--- the end of a range's row, with a word if its `q` is no weight, and the row
-abbrev pub range_end : MediaType → List ℕ
-range_end range = if unwrap_or (option_map is_qvalue (first_value (codes "q") range.pairs)) true then codes "\n" else codes " (q is no weight)\n"
-
+-- the row of a range, with a word if its `q` is no weight
 abbrev pub range_row : MediaType → List ℕ
-range_row range = weighed_text (codes "Accept ") (weight_of range) range ++ range_end range
+range_row range =
+    weighed_text (codes "Accept ") (weight_of range) range
+    ++ (if unwrap_or (option_map is_qvalue (first_value (codes "q") range.pairs)) true then codes "\n" else codes " (q is no weight)\n")
 
 -- a report and its ranges before and after an entry: nothing isn't reported, and what is read as a range is one
 abbrev pub with_entry : List ℕ × List MediaType → List ℕ → Result MediaType FieldError → List ℕ × List MediaType
@@ -234,7 +204,7 @@ pub record IsReport (offers : List MediaType) (cut : Bool) (heads : List (List (
   pub some : heads ≢ []
   pub adds : FoldsTo (λ old head. AddsHead offers (nat_lt 1 (length heads)) old (unindented head)) (record { text = []; are_good = true; choice = None })
       heads state
-  pub chosen : AddsChoice offers (none_lines state.choice) (with_rows state (none_row state.choice)) last
+  pub chosen : AddsChoice offers (none_lines state.choice) (record state { text = state.text ++ none_row state.choice }) last
   pub is_text : text ≡ without_controls (last.text ++ cut_row cut)
   pub is_verdict : verdict ≡ verdict_of last.are_good last.choice
 

@@ -5,9 +5,9 @@ ghost use Rattle.std.specs.List.{FoldsTo};
 ghost use Rattle.std.specs.Vec.{vec_items};
 ghost use Rattle.mime_io.specs.Lines.{row};
 ghost use Rattle.mime_headers.specs.Head.{bare_lines, heads_of, unindented};
-ghost use Rattle.mime_headers.specs.Inner.{lines_now, state_of};
-ghost use Rattle.mime_headers.specs.Report.{AddsChoice, AddsEntry, AddsHead, AddsLines, AddsType, IsReport, best_of, best_row, count_row, cut_row, fault_place, fault_rows, is_acceptable, lacking_at, media_rows, none_lines, none_row, offer_row};
-ghost use Rattle.mime_headers.specs.Report.{offer_rows, param_row, place_text, range_end, range_row, row_if, shown, spaced_row, verdict_of, weighed_text, with_rows};
+ghost use Rattle.mime_headers.specs.Inner.{state_of};
+ghost use Rattle.mime_headers.specs.Report.{AddsChoice, AddsEntry, AddsHead, AddsLines, AddsType, IsReport, best_of, best_row, count_row, fault_place, fault_rows, is_acceptable, media_rows, none_lines, none_row, offer_row};
+ghost use Rattle.mime_headers.specs.Report.{offer_rows, param_row, place_text, range_row, row_if, shown, spaced_row, verdict_of, weighed_text};
 
 use crate::head::{heads_of, is_spaced, title_of, unindented, values_of};
 use crate::shown::without_controls;
@@ -44,21 +44,11 @@ pub(crate) fn report_of(
         report.push_head(alloc, offers, many, head)?;
     }
     report.push_missing(alloc, offers)?;
-    push(&mut report.text, &[cut_row(is_cut)])?;
+    let cut = choose(is_cut, b"not read after 1048576 bytes\n", b"");
+    push(&mut report.text, &[cut])?;
     let verdict = verdict_of(report.are_good, report.choice);
     let text = without_controls(alloc, report.text)?;
     Ok(Some((text, verdict)))
-}
-
-/// Returns the row of an input that is cut off.
-fn cut_row(is_cut: bool) -> &'static [u8]
-    ensures { result.now ≡ cut_row is_cut }
-{
-    if is_cut {
-        b"not read after 1048576 bytes\n"
-    } else {
-        b""
-    }
 }
 
 /// The report on some heads: its text, whether each `Content-Type` was accepted, and the outcome of the last choice, if there was one:
@@ -107,7 +97,7 @@ impl Report {
     /// Adds the rows of the offers if no head has an `Accept`, since a request without one accepts everything.
     fn push_missing(&mut self, alloc: Global, offers: &[Mime]) -> Pushed
         ensures { OnOk result (AddsChoice (map (λ offer. offer.media) offers.now) (none_lines self.old.choice)
-            (with_rows (state_of self.old) (none_row self.old.choice)) (state_of self.new)) }
+            (record (state_of self.old) { text = vec_items self.old.text ++ none_row self.old.choice }) (state_of self.new)) }
     {
         if self.choice.is_some() {
             return Ok(());
@@ -130,6 +120,13 @@ fn push(text: &mut Vec<u8>, pieces: &[&[u8]]) -> Pushed
         text.extend_from_slice(piece)?;
     }
     Ok(())
+}
+
+/// Returns one of two pieces of text: the first if `is_first`.
+fn choose(is_first: bool, first: &'static [u8], second: &'static [u8]) -> &'static [u8]
+    ensures { result.now ≡ (if is_first then first.now else second.now) }
+{
+    if is_first { first } else { second }
 }
 
 /// Adds a row, if there is one.
@@ -322,19 +319,9 @@ fn push_range(text: &mut Vec<u8>, range: &Mime) -> Pushed
     ensures { OnOk result (vec_items text.new ≡ vec_items text.old ++ range_row range.now.media) }
 {
     push_weighed(text, b"Accept ", weight_of(range), range)?;
-    push(text, &[range_end(range)])?;
+    let end = choose(has_weight(range), b"\n", b" (q is no weight)\n");
+    push(text, &[end])?;
     Ok(())
-}
-
-/// Returns the end of a range's row, with a remark if its `q` isn't a weight.
-fn range_end(range: &Mime) -> &'static [u8]
-    ensures { result.now ≡ range_end range.now.media }
-{
-    if has_weight(range) {
-        b"\n"
-    } else {
-        b" (q is no weight)\n"
-    }
 }
 
 /// Adds a label, a weight with three decimals, and a media type. `weight` is in thousandths.
@@ -390,7 +377,11 @@ fn push_offer(
     };
     push_weighed(text, b"offer ", one.weight, offer)?;
     push_place(text, ranges, b" by ", one.range, b"", b" by none")?;
-    let lacking = lacking_at(ranges, one.weight, offer);
+    let lacking = if one.weight > 0 {
+        None
+    } else {
+        lacking(ranges, offer)
+    };
     push_place(
         text,
         ranges,
@@ -399,16 +390,6 @@ fn push_offer(
         b")\n",
         b"\n",
     )
-}
-
-/// Returns the position of the first range that demands a parameter that an offer of weight 0 lacks, or `None` if there is no such range.
-fn lacking_at(ranges: &[Mime], weight: u16, offer: &Mime) -> Option<usize>
-    ensures { result ≡ lacking_at (map (λ range. range.media) ranges.now) weight offer.now.media }
-{
-    if weight > 0 {
-        return None;
-    }
-    lacking(ranges, offer)
 }
 
 /// Adds the number, counted from 1, and the text of the range at a position, between two strings. If there is no position, adds `none`.
@@ -458,7 +439,7 @@ fn push_best(text: &mut Vec<u8>, offers: &[Mime], best: Option<&Mime>) -> Result
 {
     let Some(best) = best else {
         let none = offers.is_empty();
-        push(text, &[if none { b"" } else { b"406 Not Acceptable\n" }])?;
+        push(text, &[choose(none, b"", b"406 Not Acceptable\n")])?;
         return Ok(none);
     };
     push(text, &[b"best ", best.as_str().as_bytes(), b"\n"])?;

@@ -1,7 +1,5 @@
 -- The heads so far, and those of the lines that are left, are all.
-use Rattle.std.proofs.Common.{◌≡◌, ◌++◌, length, map, option_map, vec_items}
-use Rattle.mime_headers.specs.Head.{bare_lines, heads_from, heads_of}
-use Rattle.mime_headers.specs.Inner.{lines_now}
+use Rattle.mime_headers.proofs.Common.{bare_lines, heads_from, heads_of, length, lines_now, map, option_map, vec_items, ◌++◌, ◌≡◌}
 use Rattle.mime_headers.proofs.head.heads_of.Given as goal
 
 abbrev pub invariant-loop-line : goal.invariant-loop-line

@@ -1,7 +1,5 @@
 -- The lines that were added, and those that are left to add, are all.
-use Rattle.std.proofs.Common.{◌≡◌, ◌++◌, drop, map}
-use Rattle.mime_headers.specs.Head.{unindented, without_indent}
-use Rattle.mime_headers.specs.Inner.{lines_now}
+use Rattle.mime_headers.proofs.Common.{drop, lines_now, map, unindented, without_indent, ◌++◌, ◌≡◌}
 use Rattle.mime_headers.proofs.head.unindented.Given as goal
 
 abbrev pub invariant-loop-line : goal.invariant-loop-line

@@ -1,7 +1,5 @@
 -- What is added, and what is left to add, make up what the lines add.
-use Rattle.std.proofs.Common.{◌≡◌, ◌++◌, drop, map, vec_items}
-use Rattle.mime_http.specs.HttpList.{trimmed}
-use Rattle.mime_headers.specs.Head.{continued}
+use Rattle.mime_headers.proofs.Common.{continued, drop, map, trimmed, vec_items, ◌++◌, ◌≡◌}
 use Rattle.mime_headers.proofs.head.whole_value.Given as goal
 
 abbrev pub invariant-loop-line : goal.invariant-loop-line

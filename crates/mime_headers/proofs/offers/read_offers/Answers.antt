@@ -1,12 +1,5 @@
 -- The next word's offer is put last, and a word that names no offer is refused by its fault.
-use Rattle.std.proofs.Common.{[], ap, arith, map, rules, string_bytes, suc, sym, take, vec_items, Err, List, Ok, Result, String, ℕ, ◌+◌, ◌∙◌, ◌∷◌, ◌≡◌, ◌≢◌}
-use Rattle.std.proofs.lemmas.List.{map-append}
-use Rattle.std.specs.Global.{Global}
-use Rattle.mime.specs.Values.{MediaType}
-use Rattle.mime_http.specs.declared.value.FieldError.{FieldError}
-use Rattle.mime_headers.specs.Program.{AreOffers, a_word, bad_word, no_memory, no_word}
-use Rattle.mime_headers.specs.Report.{IsRead}
-use Rattle.mime_headers.specs.declared.offers.BadOffer.{BadOffer}
+use Rattle.mime_headers.proofs.Common.{AreOffers, BadOffer, Err, FieldError, Global, IsRead, List, MediaType, Ok, Result, String, [], a_word, ap, arith, bad_word, map, map-append, no_memory, no_word, rules, string_bytes, suc, sym, take, vec_items, ℕ, ◌+◌, ◌∙◌, ◌∷◌, ◌≡◌, ◌≢◌}
 use Rattle.mime_headers.proofs.offers.read_offers.Goals as goal
 
 -- a word, and those that are taken after it

@@ -1,9 +1,5 @@
 -- The answer to the words that are left is the answer to all.
-use Rattle.std.proofs.Common.{[], drop, List, Result, map, take, string_bytes, vec_items}
-use Rattle.std.specs.Vec.Iter.{into_iter_items, into_iter_len}
-use Rattle.mime.specs.Values.{MediaType}
-use Rattle.mime_headers.specs.Program.{AreOffers}
-use Rattle.mime_headers.specs.declared.offers.BadOffer.{BadOffer}
+use Rattle.mime_headers.proofs.Common.{AreOffers, BadOffer, List, MediaType, Result, [], drop, into_iter_items, into_iter_len, map, string_bytes, take, vec_items}
 use Rattle.mime_headers.proofs.offers.read_offers.Given as goal
 
 abbrev pub invariant-loop-word : goal.invariant-loop-word

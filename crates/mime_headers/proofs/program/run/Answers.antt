@@ -1,7 +1,5 @@
 -- An input that isn't cut off has a head.
-use Rattle.std.proofs.Common.{[], arith, ◌∷◌, ◌++◌, ◌==◌, ◌&&◌, ◌≢◌, Bool, List, Some, false, if◌then◌else◌, length, nat_lt, not, refl, true, vec_items, ℕ, ◌≡◌}
-use Rattle.std.proofs.lemmas.Bool.{ltb-true}
-use Rattle.mime_headers.specs.Head.{bare_lines, heads_from, is_indented}
+use Rattle.mime_headers.proofs.Common.{Bool, List, Some, [], arith, bare_lines, false, heads_from, if◌then◌else◌, is_indented, length, ltb-true, nat_lt, not, refl, true, vec_items, ℕ, ◌&&◌, ◌++◌, ◌==◌, ◌∷◌, ◌≡◌, ◌≢◌}
 use Rattle.mime_headers.proofs.program.run.Goals as goal
 
 one_of : {X : Type 0} (is_end begins : Bool) (head : X) (heads others more : List X) → more ≢ []

@@ -1,5 +1,5 @@
 -- What is added, and what is left to add, make up all pieces.
-use Rattle.std.proofs.Common.{◌≡◌, ◌++◌, drop, flat_map, vec_items}
+use Rattle.mime_headers.proofs.Common.{drop, flat_map, vec_items, ◌++◌, ◌≡◌}
 use Rattle.mime_headers.proofs.report.push.Given as goal
 
 abbrev pub invariant-loop-piece : goal.invariant-loop-piece

@@ -1,8 +1,5 @@
 -- An entry is nothing, a range or bad.
-use Rattle.std.proofs.Common.{◌∷◌, ◌<◌, ◌≢◌, ◌∙◌, [], Err, Ok, ap, ap₂, length, map, rules, vec_items}
-use Rattle.std.proofs.lemmas.List.{map-append}
-use borrow.Author.Tests.{tests}
-use Rattle.mime_http.specs.declared.value.FieldError.{FieldError}
+use Rattle.mime_headers.proofs.Common.{Err, FieldError, Ok, [], ap, ap₂, length, map, map-append, rules, tests, vec_items, ◌<◌, ◌∙◌, ◌∷◌, ◌≢◌}
 use Rattle.mime_headers.proofs.Rows.{adds_entry}
 use Rattle.mime_headers.proofs.report.push_entry.Goals as goal
 

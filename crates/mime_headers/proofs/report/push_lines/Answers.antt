@@ -1,6 +1,5 @@
 -- The next entry is added.
-use Rattle.std.proofs.Common.{[], ◌≤◌, arith, drop_of_length-le, length, refl}
-use Rattle.mime_http.specs.HttpList.AreBetweenCommas.{no_line}
+use Rattle.mime_headers.proofs.Common.{[], arith, drop_of_length-le, length, no_line, refl, ◌≤◌}
 use Rattle.mime_headers.proofs.Rows.{entry-next}
 use Rattle.mime_headers.proofs.report.push_lines.Goals as goal
 

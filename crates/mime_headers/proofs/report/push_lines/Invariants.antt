@@ -1,7 +1,5 @@
 -- What adding the entries that are left adds, adding all does.
-use Rattle.std.proofs.Common.{List, ℕ, ◌+◌, drop, map, vec_items}
-use Rattle.mime.specs.Values.{MediaType}
-use Rattle.mime_headers.specs.Report.{AddsLines}
+use Rattle.mime_headers.proofs.Common.{AddsLines, List, MediaType, drop, map, vec_items, ℕ, ◌+◌}
 use Rattle.mime_headers.proofs.Rows.{left_len, lines_left}
 use Rattle.mime_headers.proofs.report.push_lines.Given as goal
 

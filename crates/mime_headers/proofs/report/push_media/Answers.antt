@@ -1,6 +1,5 @@
 -- Each part is added after the one before it.
-use Rattle.std.proofs.Common.{◌≡◌, append_assoc, append-nil, option_map, rules}
-use Rattle.mime.specs.Values.{suffix_of}
+use Rattle.mime_headers.proofs.Common.{append-nil, append_assoc, option_map, rules, suffix_of, ◌≡◌}
 use Rattle.mime_headers.proofs.report.push_media.Goals as goal
 
 pub returns : goal.returns

@@ -1,6 +1,5 @@
 -- What is added, and what is left to add, make up all rows.
-use Rattle.std.proofs.Common.{◌≡◌, ◌++◌, drop, map, vec_items}
-use Rattle.mime_headers.specs.Report.{offer_rows}
+use Rattle.mime_headers.proofs.Common.{drop, map, offer_rows, vec_items, ◌++◌, ◌≡◌}
 use Rattle.mime_headers.proofs.report.push_offers.Given as goal
 
 abbrev pub invariant-loop-one : goal.invariant-loop-one

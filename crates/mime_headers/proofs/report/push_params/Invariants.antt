@@ -1,5 +1,5 @@
 -- What is added, and what is left to add, make up the rows.
-use Rattle.std.proofs.Common.{◌≡◌, ◌++◌, vec_items}
+use Rattle.mime_headers.proofs.Common.{vec_items, ◌++◌, ◌≡◌}
 use Rattle.mime_headers.proofs.Rows.{given_rows}
 use Rattle.mime_headers.proofs.report.push_params.Given as goal
 

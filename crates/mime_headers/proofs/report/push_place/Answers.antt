@@ -1,6 +1,5 @@
 -- Each part is added after the one before it.
-use Rattle.std.proofs.Common.{◌≡◌, ◌+◌, append_assoc, append-nil, rules, slice_get, map, Some}
-use Rattle.std.specs.Fmt.{decimal}
+use Rattle.mime_headers.proofs.Common.{Some, append-nil, append_assoc, decimal, map, rules, slice_get, ◌+◌, ◌≡◌}
 use Rattle.mime_headers.proofs.report.push_place.Goals as goal
 
 pub returns : goal.returns

@@ -1,6 +1,5 @@
 -- What is added, and what is left to add, make up all rows.
-use Rattle.std.proofs.Common.{◌≡◌, ◌++◌, drop, flat_map, map, vec_items}
-use Rattle.mime_headers.specs.Report.{spaced_row}
+use Rattle.mime_headers.proofs.Common.{drop, flat_map, map, spaced_row, vec_items, ◌++◌, ◌≡◌}
 use Rattle.mime_headers.proofs.report.push_spaced.Given as goal
 
 abbrev pub invariant-loop-line : goal.invariant-loop-line

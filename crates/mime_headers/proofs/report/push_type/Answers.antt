@@ -1,7 +1,5 @@
 -- A value is a media type, or bad.
-use Rattle.std.proofs.Common.{◌≢◌, Err, MatchOption, Ok, ap, false, option_map, rules, List, ℕ}
-use Rattle.mime_http.specs.Boundary.{IsBoundaryOf}
-use Rattle.mime_http.specs.declared.value.FieldError.{FieldError}
+use Rattle.mime_headers.proofs.Common.{Err, FieldError, IsBoundaryOf, List, MatchOption, Ok, ap, false, option_map, rules, ℕ, ◌≢◌}
 use Rattle.mime_headers.proofs.report.push_type.Goals as goal
 
 pub returns-in_ok-push_media-in-Ok : goal.returns-in_ok-push_media-in-Ok

@@ -1,6 +1,5 @@
 -- The next value is added.
-use Rattle.std.proofs.Common.{vec_items}
-use Rattle.mime_headers.specs.Report.{AddsType}
+use Rattle.mime_headers.proofs.Common.{AddsType, vec_items}
 use Rattle.mime_headers.proofs.Rows.{folds-next}
 use Rattle.mime_headers.proofs.report.push_types.Goals as goal
 

@@ -1,7 +1,5 @@
 -- The values so far are added.
-use Rattle.std.proofs.Common.{map, take, vec_items}
-use Rattle.std.specs.List.{FoldsTo}
-use Rattle.mime_headers.specs.Report.{AddsType}
+use Rattle.mime_headers.proofs.Common.{AddsType, FoldsTo, map, take, vec_items}
 use Rattle.mime_headers.proofs.report.push_types.Given as goal
 
 abbrev pub invariant-loop-value : goal.invariant-loop-value

@@ -1,10 +1,5 @@
 -- The next head is added.
-use Rattle.std.proofs.Common.{ap, append-nil, arith, length, map, nat_lt, rules, vec_items, ◌<◌, ◌≡◌, ◌≤◌, ◌∙◌}
-use Rattle.std.proofs.lemmas.List.{length-map, take_all}
-use borrow.Author.Tests.{tests}
-use Rattle.mime_headers.specs.Head.{bare_lines, heads_of, unindented}
-use Rattle.mime_headers.specs.Inner.{lines_now, state_of}
-use Rattle.mime_headers.specs.Report.{AddsHead}
+use Rattle.mime_headers.proofs.Common.{AddsHead, ap, append-nil, arith, bare_lines, heads_of, length, length-map, lines_now, map, nat_lt, rules, state_of, take_all, tests, unindented, vec_items, ◌<◌, ◌∙◌, ◌≡◌, ◌≤◌}
 use Rattle.mime_headers.proofs.Rows.{folds-next}
 use Rattle.mime_headers.proofs.report.report_of.Goals as goal
 
@@ -28,6 +23,6 @@ returns c =
       some = λ none. absurd (omega (arith, some, length-map heads lines_now, ap length (c.in_ok-heads.ensures ∙ none)));
       adds = rw (take_all _ c.deref-head-items.result.now past, c.deref-head-items.ensures.value, c.in_ok-heads.ensures, len) at c.loop-head.invariant;
       chosen = c.in_ok-push_missing.ensures;
-      is_text = simp (c.in_ok-text.ensures, c.in_ok-push.ensures, c.cut_row.ensures, append-nil);
+      is_text = simp (c.in_ok-text.ensures, c.in_ok-push.ensures, c.choose-cut.ensures, append-nil);
       is_verdict = c.verdict_of-verdict.ensures;
     }

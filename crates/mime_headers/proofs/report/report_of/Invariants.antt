@@ -1,9 +1,5 @@
 -- The heads so far are added.
-use Rattle.std.proofs.Common.{[], None, map, take, true}
-use Rattle.std.specs.List.{FoldsTo}
-use Rattle.mime_headers.specs.Head.{unindented}
-use Rattle.mime_headers.specs.Inner.{lines_now, state_of}
-use Rattle.mime_headers.specs.Report.{AddsHead}
+use Rattle.mime_headers.proofs.Common.{AddsHead, FoldsTo, None, [], lines_now, map, state_of, take, true, unindented}
 use Rattle.mime_headers.proofs.report.report_of.Given as goal
 
 abbrev pub invariant-loop-head : goal.invariant-loop-head

@@ -1,5 +1,5 @@
 -- Bytes that no control character begins with stay.
-use Rattle.std.proofs.Common.{false, rules, sym, ◌≡◌, ◌∙◌, vec_items}
+use Rattle.mime_headers.proofs.Common.{false, rules, sym, vec_items, ◌∙◌, ◌≡◌}
 use Rattle.mime_headers.proofs.Rows.{none_shown}
 use Rattle.mime_headers.proofs.shown.without_controls.Goals as goal
 

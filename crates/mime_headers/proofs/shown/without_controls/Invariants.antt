@@ -1,6 +1,5 @@
 -- What is added, and what is left to show, make up what is shown.
-use Rattle.std.proofs.Common.{◌≡◌, ◌++◌, drop, vec_items}
-use Rattle.mime_headers.specs.Shown.{shown_after, without_controls}
+use Rattle.mime_headers.proofs.Common.{drop, shown_after, vec_items, without_controls, ◌++◌, ◌≡◌}
 use Rattle.mime_headers.proofs.shown.without_controls.Given as goal
 
 abbrev pub invariant-loop-at : goal.invariant-loop-at

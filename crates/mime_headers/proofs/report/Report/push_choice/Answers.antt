@@ -1,9 +1,5 @@
 -- Each part is added after the one before it.
-use Rattle.std.proofs.Common.{Bool, List, Some, ap₂, append_assoc, length, map, rules, vec_items, ◌++◌, ◌<◌, ◌≡◌, ℕ, arith}
-use Rattle.std.proofs.lemmas.List.{length-map}
-use borrow.Author.Tests.{tests}
-use Rattle.mime_headers.specs.Inner.{state_of}
-use Rattle.mime_headers.specs.Report.{State, best_of, best_row, offer_rows}
+use Rattle.mime_headers.proofs.Common.{Bool, List, Some, State, append_assoc, ap₂, arith, best_of, best_row, length, length-map, map, offer_rows, rules, state_of, tests, vec_items, ℕ, ◌++◌, ◌<◌, ◌≡◌}
 use Rattle.mime_headers.proofs.Rows.{adds_choice}
 use Rattle.mime_headers.proofs.report.Report.push_choice.Goals as goal
 

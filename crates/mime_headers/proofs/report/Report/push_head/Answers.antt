@@ -1,7 +1,5 @@
 -- Each part is added after the one before it.
-use Rattle.std.proofs.Common.{codes, map, ◌≡◌, ◌++◌, vec_items, flat_map, append_assoc, append-nil}
-use Rattle.mime_headers.specs.Head.{unindented, values_of}
-use Rattle.mime_headers.specs.Report.{count_row, spaced_row, title_row}
+use Rattle.mime_headers.proofs.Common.{append-nil, append_assoc, codes, count_row, flat_map, map, spaced_row, title_row, unindented, values_of, vec_items, ◌++◌, ◌≡◌}
 use Rattle.mime_headers.proofs.report.Report.push_head.Goals as goal
 
 pub returns : goal.returns
