@@ -13,7 +13,7 @@ bare = (refl, refl)
 
 -- the heads of bytes, with a bar after each line and a line feed after each head
 abbrev heads : Bool → List (List ℕ) → List (List ℕ)
-heads cut inputs = map (λ bytes. flat_map (λ head. flat_map (λ line. line ++ codes "|") (unindented head) ++ codes "\n") (heads_of cut (bare_lines bytes))) inputs
+heads cut inputs = map (λ bytes. flat_map (λ head. flat_map (λ line. line ++ codes "|") head ++ codes "\n") (heads_of cut (bare_lines bytes))) inputs
 
 -- a head ends with its first line that has nothing but a mark, or with the input, but not with white space, a form feed or a second
 -- carriage return;

@@ -1,5 +1,5 @@
 -- Heads and offers have one report, with one verdict, so that a page that says less doesn't check: if offers have one ranking.
-use Rattle.mime_headers.proofs.Common.{AddsChoice, AddsEntry, AddsHead, AddsLines, AddsReading, AddsType, Bool, Err, FieldError, FoldsTo, HttpExplains, Invalid, IsBoundaryOf, IsHttpMediaType, IsRanking, IsRead, IsReportOf, IsUtf8, List, MatchOption, MediaType, NoMemory, None, NotUtf8, Ok, Option, RankedOffer, Result, Some, State, Verdict, [], ap, ap₂, best_of, best_row, codes, count_row, is_acceptable, map, media_rows, no_fault, none_lines, none_row, offer_rows, one_http_fault, one_printed_text, only_cut, refl, subst, sym, trimmed, unindented, utf8_valid_len-IsValidUpTo, values_of, with_entry, ℕ, ◌++◌, ◌∙◌, ◌∷◌, ◌≡◌, ◌≢◌}
+use Rattle.mime_headers.proofs.Common.{AddsChoice, AddsEntry, AddsHead, AddsLines, AddsReading, AddsType, Bool, Err, FieldError, FoldsTo, HttpExplains, Invalid, IsBoundaryOf, IsHttpMediaType, IsRanking, IsRead, IsReportOf, IsUtf8, List, MatchOption, MediaType, NoMemory, None, NotUtf8, Ok, Option, RankedOffer, Result, Some, State, Verdict, [], ap, ap₂, best_of, best_row, codes, count_row, is_acceptable, map, media_rows, no_fault, none_lines, none_row, offer_rows, one_http_fault, one_printed_text, only_cut, refl, subst, sym, trimmed, utf8_valid_len-IsValidUpTo, values_of, with_entry, ℕ, ◌++◌, ◌∙◌, ◌∷◌, ◌≡◌, ◌≢◌}
 
 -- no value is both a media type and rejected
 not_both : (value : List ℕ) (error : FieldError) → IsUtf8 value → IsHttpMediaType value → error ≢ NoMemory → ¬ (HttpExplains value error)
@@ -97,7 +97,7 @@ module _ (one_ranking : (ranges offers : List MediaType) (ranking other : List R
   one_report : (offers : List MediaType) (bytes text other : List ℕ) (verdict another : Verdict) → IsReportOf offers bytes text verdict
       → IsReportOf offers bytes other another → (text ≡ other) × (verdict ≡ another)
   one_report offers bytes text other verdict another one two =
-      let heads = one_of_all _ (λ old head. one_head offers _ old (unindented head)) _ _ one.state two.state one.adds two.adds in
+      let heads = one_of_all _ (one_head offers _) _ _ one.state two.state one.adds two.adds in
       let last = one_choice offers _ _ one.last two.last
       (subst (λ (it : State). AddsChoice offers (none_lines it.choice) (record it { text = it.text ++ none_row it.choice }) one.last) heads one.chosen) two.chosen in
       (cc (one.is_text, two.is_text, last), cc (one.is_verdict, two.is_verdict, last))

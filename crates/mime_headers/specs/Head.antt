@@ -26,15 +26,15 @@ begins label line = str_eq_ignore_ascii_case (take (length label) line) label
 abbrev pub is_indented : List ℕ → Bool
 is_indented line = begins (codes "  http/") line
 
-abbrev pub without_indent : Bool → List ℕ → List ℕ
-without_indent indented line = if indented && begins (codes "  ") line then drop 2 line else line
+abbrev pub without_indent : List ℕ → List ℕ
+without_indent line = if begins (codes "  ") line then drop 2 line else line
 
 abbrev pub has_indent : List (List ℕ) → Bool
 has_indent [] = false
 has_indent (line ∷ lines) = is_indented line
 
 abbrev pub unindented : List (List ℕ) → List (List ℕ)
-unindented head = map (without_indent (has_indent head)) head
+unindented head = if has_indent head then map without_indent head else head
 
 -- a line that begins with `HTTP/`, or with two spaces and `HTTP/`, begins a head after another, and any other begins none
 abbrev pub begun : List ℕ → Option (List (List ℕ))
@@ -52,7 +52,7 @@ heads_from cut (Some head) (line ∷ lines) =
     heads_from cut (Some (head ++ (line ∷ []))) lines
 
 abbrev pub heads_of : Bool → List (List ℕ) → List (List (List ℕ))
-heads_of cut lines = heads_from cut (Some []) lines
+heads_of cut lines = map unindented (heads_from cut (Some []) lines)
 
 -- a line that begins with white space goes on with the field before it: one space stands for the white space between them (RFC 9112, 5.2)
 abbrev pub goes_on : List ℕ → Bool

@@ -3,7 +3,9 @@ use Rattle.std.specs.Prelude.{ℕ, List, [], ◌∷◌, ◌++◌, Result, Ok, Er
 use Rattle.std.specs.Global.{Global}
 use Rattle.mime.specs.Values.{MediaType}
 use Rattle.mime_http.specs.declared.value.FieldError.{FieldError}
-use Rattle.mime_headers.specs.{Report.IsRead, declared.offers.BadOffer.BadOffer, declared.offers.BadOffer.TheVariants.NoMemory, declared.offers.BadOffer.TheVariants.Fault}
+use Rattle.mime_headers.specs.Report.{IsRead}
+use Rattle.mime_headers.specs.declared.offers.BadOffer.{BadOffer}
+use Rattle.mime_headers.specs.declared.offers.BadOffer.TheVariants.{NoMemory, Fault}
 
 -- the offers before some words, and all, or why there are none: each word names one, which is printed as a value of `Content-Type` is; the
 -- first that is no media type is refused by its fault, unless memory runs out before

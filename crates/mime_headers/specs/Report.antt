@@ -4,7 +4,8 @@ use Rattle.std.specs.{Char.is_ascii_graphic, Fmt.decimal, List.FoldsTo, Str.IsUt
 use Rattle.mime.specs.{Values.MediaType, Values.suffix_of, declared.scan.fault.ParseError.ParseError, declared.scan.fault.ParseError.TheVariants.InvalidToken}
 use Rattle.mime_http.specs.{Boundary.IsBoundaryOf, HttpFaults.HttpExplains, HttpList.trimmed, HttpList.AreBetweenCommas, HttpList.IsPrinted, HttpList.IsPiece, HttpList.BeginsPiece, HttpMediaType.HttpReads, HttpPrinted.field_error_text, Ranges.weight_of, Ranges.first_value, Ranking.is_qvalue, Ranking.is_lacking, Ranking.IsRanking, Unescaped.unescaped, declared.ranking.RankedOffer.RankedOffer, declared.value.FieldError.FieldError, declared.value.FieldError.TheVariants.NotUtf8, declared.value.FieldError.TheVariants.Invalid, declared.value.FieldError.TheVariants.NoMemory}
 use Rattle.mime_io.specs.{Lines.row, Stops.limit}
-use Rattle.mime_headers.specs.{Head.bare_lines, Head.heads_of, Head.is_spaced, Head.title_of, Head.unindented, Head.values_of, Shown.without_controls, declared.verdict.Verdict.Verdict}
+use Rattle.mime_headers.specs.{Head.bare_lines, Head.heads_of, Head.is_spaced, Head.title_of, Head.values_of, Shown.without_controls}
+use Rattle.mime_headers.specs.declared.verdict.Verdict.{Verdict}
 
 -- what is read of a value of a field: a media type, with the kept text that is printed of it, or the fault of a value that is none
 abbrev pub IsRead : List ℕ → Result MediaType FieldError → Type 0
@@ -21,8 +22,11 @@ pub record State : Type 0 where
 -- ---- a rejected value
 
 -- bytes that may be any, as they are shown: a dot for each that isn't printable ASCII
+abbrev pub shown_byte : ℕ → ℕ
+shown_byte b = if b == 32 || is_ascii_graphic b then b else 46
+
 abbrev pub shown : List ℕ → List ℕ
-shown bytes = map (λ b. if b == 32 || is_ascii_graphic b then b else 46) bytes
+shown bytes = map shown_byte bytes
 
 -- the position of the byte at fault, or the value's end if something is missing there; and a word on a comment, which mails have, and HTTP
 -- doesn't
@@ -202,8 +206,7 @@ pub record IsReport (offers : List MediaType) (cut : Bool) (heads : List (List (
   pub state : State
   pub last : State
   pub some : heads ≢ []
-  pub adds : FoldsTo (λ old head. AddsHead offers (nat_lt 1 (length heads)) old (unindented head)) (record { text = []; are_good = true; choice = None })
-      heads state
+  pub adds : FoldsTo (AddsHead offers (nat_lt 1 (length heads))) (record { text = []; are_good = true; choice = None }) heads state
   pub chosen : AddsChoice offers (none_lines state.choice) (record state { text = state.text ++ none_row state.choice }) last
   pub is_text : text ≡ without_controls (last.text ++ cut_row cut)
   pub is_verdict : verdict ≡ verdict_of last.are_good last.choice

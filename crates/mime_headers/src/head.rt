@@ -88,12 +88,12 @@ pub(crate) fn heads_of(
             if is_cut && bare_line(more).is_none() {
                 return Ok(heads);
             }
-            heads.push(head)?;
+            heads.push(unindented(alloc, head)?)?;
             open = None;
             continue;
         }
         if is_indented(line) && !head.is_empty() {
-            heads.push(head)?;
+            heads.push(unindented(alloc, head)?)?;
             open = begun(alloc, line)?;
             continue;
         }
@@ -103,16 +103,16 @@ pub(crate) fn heads_of(
     if let Some(head) = open
         && !is_cut
     {
-        heads.push(head)?;
+        heads.push(unindented(alloc, head)?)?;
     }
     Ok(heads)
 }
 
-/// Returns a line of a head, without two spaces at its start if the head is indented.
-fn without_indent(indented: bool, line: &[u8]) -> &[u8]
-    ensures { result.now ≡ without_indent indented line.now }
+/// Returns a line without the two spaces at its start, if it has them.
+fn without_indent(line: &[u8]) -> &[u8]
+    ensures { result.now ≡ without_indent line.now }
 {
-    if indented && begins(b"  ", line) {
+    if begins(b"  ", line) {
         &line[2..]
     } else {
         line
@@ -130,13 +130,15 @@ fn has_indent(head: &[&[u8]]) -> bool
 }
 
 /// Returns the lines of a head, each without two spaces at its start if the head is indented.
-pub(crate) fn unindented<'a>(alloc: Global, head: &[&'a [u8]]) -> Result<Vec<&'a [u8]>, AllocError>
-    ensures { IfOk result (λ lines. lines_now lines ≡ unindented (map (λ line. line.now) head.now)) }
+fn unindented(alloc: Global, head: Vec<&[u8]>) -> Result<Vec<&[u8]>, AllocError>
+    ensures { IfOk result (λ lines. lines_now lines ≡ unindented (lines_now head.entry)) }
 {
-    let indented = has_indent(head);
+    if !has_indent(&head) {
+        return Ok(head);
+    }
     let mut lines = Vec::with_capacity(alloc, head.len())?;
-    for line in head {
-        lines.push(without_indent(indented, line))?;
+    for line in &head {
+        lines.push(without_indent(line))?;
     }
     Ok(lines)
 }

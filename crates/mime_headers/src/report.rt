@@ -4,12 +4,12 @@ ghost use Rattle.std.specs.Prelude.{◌≡◌, ◌<◌, ◌++◌, [], length, ma
 ghost use Rattle.std.specs.List.{FoldsTo};
 ghost use Rattle.std.specs.Vec.{vec_items};
 ghost use Rattle.mime_io.specs.Lines.{row};
-ghost use Rattle.mime_headers.specs.Head.{bare_lines, heads_of, unindented};
+ghost use Rattle.mime_headers.specs.Head.{bare_lines, heads_of};
 ghost use Rattle.mime_headers.specs.Inner.{state_of};
 ghost use Rattle.mime_headers.specs.Report.{AddsChoice, AddsEntry, AddsHead, AddsLines, AddsType, IsReport, best_of, best_row, count_row, fault_place, fault_rows, is_acceptable, media_rows, none_lines, none_row, offer_row};
-ghost use Rattle.mime_headers.specs.Report.{offer_rows, param_row, place_text, range_row, row_if, shown, spaced_row, verdict_of, weighed_text};
+ghost use Rattle.mime_headers.specs.Report.{offer_rows, param_row, place_text, range_row, row_if, shown, shown_byte, spaced_row, verdict_of, weighed_text};
 
-use crate::head::{heads_of, is_spaced, title_of, unindented, values_of};
+use crate::head::{heads_of, is_spaced, title_of, values_of};
 use crate::shown::without_controls;
 use crate::verdict::Verdict;
 use mime::{Mime, ParseError};
@@ -64,13 +64,12 @@ impl Report {
     /// Adds the rows of a head.
     fn push_head(&mut self, alloc: Global, offers: &[Mime], many: bool, head: &[&[u8]]) -> Pushed
         ensures { OnOk result (AddsHead (map (λ offer. offer.media) offers.now) many (state_of self.old)
-            (unindented (map (λ line. line.now) head.now)) (state_of self.new)) }
+            (map (λ line. line.now) head.now) (state_of self.new)) }
     {
-        let lines = unindented(alloc, head)?;
-        let types = values_of(alloc, b"content-type:", &lines)?;
-        let accepts = values_of(alloc, b"accept:", &lines)?;
-        push_shown(&mut self.text, many, b"head ", title_of(&lines))?;
-        push_spaced(&mut self.text, &lines)?;
+        let types = values_of(alloc, b"content-type:", head)?;
+        let accepts = values_of(alloc, b"accept:", head)?;
+        push_shown(&mut self.text, many, b"head ", title_of(head))?;
+        push_spaced(&mut self.text, head)?;
         push_types(&mut self.text, &mut self.are_good, &types)?;
         push(&mut self.text, &[count_row(&types)])?;
         self.push_choice(alloc, offers, &accepts)?;
@@ -139,30 +138,29 @@ fn push_if(text: &mut Vec<u8>, label: &[u8], bytes: Option<&[u8]>) -> Pushed
     }
 }
 
-/// Returns bytes with a dot for each that isn't printable ASCII.
-fn shown(alloc: Global, bytes: &[u8]) -> Result<Vec<u8>, AllocError>
-    ensures { IfOk result (λ text. vec_items text ≡ shown bytes.now) }
+/// Returns a byte, or a dot if the byte isn't printable ASCII.
+fn shown(byte: u8) -> u8
+    ensures { result ≡ shown_byte byte }
 {
-    bytes
-        .iter()
-        .map(|byte| if *byte == b' ' || byte.is_ascii_graphic() {
-            *byte
-        } else {
-            b'.'
-        })
-        .collect(alloc)
+    if byte == b' ' || byte.is_ascii_graphic() {
+        byte
+    } else {
+        b'.'
+    }
 }
 
-/// Adds a row with bytes as they are shown, if `is_wanted`.
+/// Adds a row with bytes, if `is_wanted`. A dot replaces each byte that isn't printable ASCII.
 fn push_shown(text: &mut Vec<u8>, is_wanted: bool, label: &[u8], bytes: &[u8]) -> Pushed
     ensures { OnOk result (vec_items text.new ≡ vec_items text.old ++ (if is_wanted then row label.now (shown bytes.now) else [])) }
 {
     if !is_wanted {
         return Ok(());
     }
-    let shown = shown(*text.allocator(), bytes)?;
     push(text, &[label])?;
-    push(text, &[&shown, b"\n"])
+    for byte in bytes {
+        text.push(shown(*byte))?;
+    }
+    push(text, &[b"\n"])
 }
 
 /// Adds a row for each line with white space between the name `Content-Type` or `Accept` and its colon.
@@ -251,14 +249,16 @@ fn push_params(text: &mut Vec<u8>, mime: &Mime) -> Pushed
 fn push_fault(text: &mut Vec<u8>, label: &[u8], value: &[u8], error: FieldError) -> Pushed
     ensures { OnOk result (vec_items text.new ≡ vec_items text.old ++ fault_rows label.now value.now error) }
 {
-    let alloc = *text.allocator();
-    let said = format!(in alloc; "{error}")?;
+    let said = format!(in *text.allocator(); "{error}")?;
     push(text, &[label])?;
     push(text, &[said.as_bytes(), b"\n"])?;
     push_shown(text, true, b"    ", value)?;
     let (at, remark) = fault_place(value, error);
-    let margin = vec![in alloc; b' '; at]?;
-    push(text, &[b"    ", &margin, b"^", remark, b"\n"])
+    push(text, &[b"    "])?;
+    for _ in 0..at {
+        text.push(b' ')?;
+    }
+    push(text, &[b"^", remark, b"\n"])
 }
 
 /// Returns the position of the byte at fault, or the value's length if something is missing at its end. Also returns a remark, which is

@@ -1,5 +1,5 @@
 -- An input that isn't cut off has a head.
-use Rattle.mime_headers.proofs.Common.{Bool, List, Some, [], arith, bare_lines, false, heads_from, if◌then◌else◌, is_indented, length, ltb-true, nat_lt, not, refl, true, vec_items, ℕ, ◌&&◌, ◌++◌, ◌==◌, ◌∷◌, ◌≡◌, ◌≢◌}
+use Rattle.mime_headers.proofs.Common.{Bool, List, Some, [], ap, arith, bare_lines, false, heads_from, heads_of, if◌then◌else◌, is_indented, length, length-map, ltb-true, nat_lt, nil_from_length, not, refl, true, unindented, vec_items, ℕ, ◌&&◌, ◌++◌, ◌==◌, ◌∷◌, ◌≡◌, ◌≢◌}
 use Rattle.mime_headers.proofs.program.run.Goals as goal
 
 one_of : {X : Type 0} (is_end begins : Bool) (head : X) (heads others more : List X) → more ≢ []
@@ -13,9 +13,9 @@ some_head head [] none = absurd (cc)
 some_head head (line ∷ lines) none =
     one_of (length line == 0) (is_indented line && not (length head == 0)) head _ _ _ (some_head (head ++ (line ∷ [])) lines) none
 
-is_cut : (cut : Bool) (lines : List (List ℕ)) → heads_from cut (Some []) lines ≡ [] → cut ≡ true
+is_cut : (cut : Bool) (lines : List (List ℕ)) → heads_of cut lines ≡ [] → cut ≡ true
 is_cut true lines none = refl
-is_cut false lines none = absurd (some_head [] lines none)
+is_cut false lines none = absurd (some_head [] lines (nil_from_length _ (omega (arith, length-map (heads_from false (Some []) lines) unindented, ap length none))))
 
 pub returns-in_default-answer-clause-too_long : goal.returns-in_default-answer-clause-too_long
 returns-in_default-answer-clause-too_long c d same =

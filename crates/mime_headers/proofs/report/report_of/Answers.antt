@@ -1,12 +1,12 @@
 -- The next head is added.
-use Rattle.mime_headers.proofs.Common.{AddsHead, ap, append-nil, arith, bare_lines, heads_of, length, length-map, lines_now, map, nat_lt, rules, state_of, take_all, tests, unindented, vec_items, ◌<◌, ◌∙◌, ◌≡◌, ◌≤◌}
+use Rattle.mime_headers.proofs.Common.{AddsHead, ap, append-nil, arith, bare_lines, heads_of, length, length-map, lines_now, map, nat_lt, rules, state_of, take_all, tests, vec_items, ◌<◌, ◌∙◌, ◌≡◌, ◌≤◌}
 use Rattle.mime_headers.proofs.Rows.{folds-next}
 use Rattle.mime_headers.proofs.report.report_of.Goals as goal
 
 pub loop-head-preserved : goal.loop-head-preserved
 loop-head-preserved c =
     let offers = map (λ offer. offer.media) c.args.offers.now in
-    folds-next (λ old head. AddsHead offers (nat_lt 1 c.len-many.result) old (unindented head)) lines_now _ c.deref-head-items.result.now
+    folds-next (AddsHead offers (nat_lt 1 c.len-many.result)) lines_now _ c.deref-head-items.result.now
     c.loop-head.head-index c.head-item.result _ _ c.loop-head-test.true c.head-item.is c.loop-head.invariant
     (rw c.deref.ensures.value at c.in_ok-push_head.ensures)
 
