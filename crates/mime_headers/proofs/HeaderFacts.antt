@@ -85,8 +85,8 @@ rows_of_media = (refl, refl)
 -- bytes that aren't printable ASCII; a fault at a byte, one at the end, and a comment, as mails have it
 faults :
     (shown (97 ∷ 32 ∷ 126 ∷ 0 ∷ 9 ∷ 27 ∷ 127 ∷ 195 ∷ []) ≡ codes "a ~.....")
-    × (map (fault_place (codes "a/")) (Invalid (InvalidToken 2 98) ∷ Invalid MissingSubtype ∷ NotUtf8 1 ∷ Invalid (InvalidToken 1 40) ∷ Invalid (InvalidToken 1 41) ∷ [])
-    ≡ (2, []) ∷ (2, []) ∷ (1, []) ∷ (1, codes " (HTTP has no comments)") ∷ (1, []) ∷ [])
+    × (map (fault_place (codes "a/")) (Invalid (InvalidToken 2 98) ∷ Invalid MissingSubtype ∷ NotUtf8 1 ∷ Invalid (InvalidToken 1 40)
+    ∷ Invalid (InvalidToken 1 41) ∷ []) ≡ (2, []) ∷ (2, []) ∷ (1, []) ∷ (1, codes " (HTTP has no comments)") ∷ (1, []) ∷ [])
     × (fault_rows (codes "bad Content-Type ") (codes "a\tb/") (Invalid MissingSubtype)
     ≡ codes "bad Content-Type mime parse error: a subtype was missing behind the slash (/)\n    a.b/\n        ^\n")
 faults = (refl, refl, refl)

@@ -27,7 +27,8 @@ one_reading value (Err error) (Ok media) why is = absurd (not_both value error i
 one_reading value (Err error) (Err other) why too = ap Err (one_error value error other why.0 too.0 why.1 too.1)
 
 -- a media type has one boundary or none
-one_boundary : (media : MediaType) (one other : Option (List ℕ)) → MatchOption one ((bytes : List ℕ) → ¬ (IsBoundaryOf media bytes)) (IsBoundaryOf media)
+one_boundary : (media : MediaType) (one other : Option (List ℕ))
+    → MatchOption one ((bytes : List ℕ) → ¬ (IsBoundaryOf media bytes)) (IsBoundaryOf media)
     → MatchOption other ((bytes : List ℕ) → ¬ (IsBoundaryOf media bytes)) (IsBoundaryOf media) → one ≡ other
 one_boundary media None None none again = refl
 one_boundary media None (Some bytes) none is = absurd (none bytes is)

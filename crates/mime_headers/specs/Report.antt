@@ -71,7 +71,8 @@ AddsReading (text, are_good) value (Ok media) new =
 AddsReading (text, are_good) value (Err error) new = new ≡ (text ++ fault_rows (codes "bad Content-Type ") value error, false)
 
 abbrev pub AddsType : List ℕ × Bool → List ℕ → List ℕ × Bool → Type 0
-AddsType old value new = (reading : Result MediaType FieldError) × IsRead (trimmed value) reading × AddsReading old (trimmed value) reading new
+AddsType old value new =
+    (reading : Result MediaType FieldError) × IsRead (trimmed value) reading × AddsReading old (trimmed value) reading new
 
 -- the row which says that there is no `Content-Type`, or more than one
 abbrev pub count_row : List (List ℕ) → List ℕ

@@ -219,7 +219,8 @@ fn count_row(values: &[Vec<u8>]) -> &'static [u8]
 
 /// Adds the rows of a media type.
 fn push_media(text: &mut Vec<u8>, mime: &Mime, boundary: Option<&[u8]>) -> Pushed
-    ensures { OnOk result (vec_items text.new ≡ vec_items text.old ++ media_rows mime.now.media (option_map (λ bytes. bytes.now) boundary.entry)) }
+    ensures { OnOk result (vec_items text.new ≡ vec_items text.old
+        ++ media_rows mime.now.media (option_map (λ bytes. bytes.now) boundary.entry)) }
 {
     let (kept, essence) = (mime.as_str().as_bytes(), mime.essence_str().as_bytes());
     push(
@@ -429,8 +430,8 @@ fn best_of<'o>(offers: &'o [Mime], ranking: &[RankedOffer]) -> Option<&'o Mime>
     nth(offers, first.offer)
 }
 
-/// Adds the row of the best offer, or `406 Not Acceptable` if no offer is acceptable. Adds nothing if there are no offers. Returns whether an
-/// offer is acceptable or there are no offers.
+/// Adds the row of the best offer, or `406 Not Acceptable` if no offer is acceptable. Adds nothing if there are no offers. Returns whether
+/// an offer is acceptable or there are no offers.
 fn push_best(text: &mut Vec<u8>, offers: &[Mime], best: Option<&Mime>) -> Result<bool, AllocError>
     ensures rows { OnOk result (vec_items text.new ≡ vec_items text.old
         ++ best_row (map (λ offer. offer.media) offers.now) (option_map (λ best. best.now.media) best.entry)) }

@@ -15,7 +15,8 @@ some_head head (line ∷ lines) none =
 
 is_cut : (cut : Bool) (lines : List (List ℕ)) → heads_of cut lines ≡ [] → cut ≡ true
 is_cut true lines none = refl
-is_cut false lines none = absurd (some_head [] lines (nil_from_length _ (omega (arith, length-map (heads_from false (Some []) lines) unindented, ap length none))))
+is_cut false lines none =
+    absurd (some_head [] lines (nil_from_length _ (omega (arith, length-map (heads_from false (Some []) lines) unindented, ap length none))))
 
 pub returns-in_default-answer-clause-too_long : goal.returns-in_default-answer-clause-too_long
 returns-in_default-answer-clause-too_long c d same =

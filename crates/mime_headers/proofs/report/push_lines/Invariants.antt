@@ -12,7 +12,8 @@ invariant-loop-line l =
 abbrev pub invariant-loop-left : goal.invariant-loop-left
 invariant-loop-left l =
     (end : List ℕ × List MediaType)
-    → AddsLines (lines_left l.left (map vec_items (drop (l.line-index + 1) l.lines))) (vec_items l.text, map (λ range. range.media) (vec_items l.ranges)) end
+    → AddsLines (lines_left l.left (map vec_items (drop (l.line-index + 1) l.lines)))
+    (vec_items l.text, map (λ range. range.media) (vec_items l.ranges)) end
     → AddsLines (map vec_items l.fn.lines) (vec_items l.fn.text, map (λ range. range.media) (vec_items l.fn.ranges)) end
 
 abbrev pub decreases-loop-left : goal.decreases-loop-left

@@ -8,4 +8,14 @@ returns c =
     let kept : c.as_bytes-kept.result.now ≡ media.kept = search rules in
     let essence : c.as_bytes-essence.result.now ≡ media.essence = search rules in
     let suffix : option_map (λ bytes. bytes.now) c.map-suffix.result ≡ suffix_of media = search rules in
-    simp (c.in_ok-push_if-2.ensures, c.in_ok-push_params.ensures, c.in_ok-push_if.ensures, c.in_ok-push.ensures, kept, essence, suffix, append_assoc, append-nil)
+    simp (
+      c.in_ok-push_if-2.ensures,
+      c.in_ok-push_params.ensures,
+      c.in_ok-push_if.ensures,
+      c.in_ok-push.ensures,
+      kept,
+      essence,
+      suffix,
+      append_assoc,
+      append-nil,
+    )
