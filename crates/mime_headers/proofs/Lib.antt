@@ -1,3 +1,4 @@
+mod Common
 mod HeaderFacts
 mod ReportFacts
 mod Rows

@@ -1,9 +1,8 @@
--- Which lines of an input are a head, and the values of a field there (RFC 9110, 5.5 and 5.6.3; RFC 9112, 2.2 and 5).
-use Rattle.std.specs.Prelude.{ℕ, Bool, false, List, [], ◌∷◌, ◌++◌, ◌==◌, ◌||◌, ◌&&◌, not, map, take, drop, length, if◌then◌else◌, codes}
-use Rattle.std.specs.Str.{str_eq_ignore_ascii_case}
-use Rattle.std.specs.Str.Lines.{strip_carriage_return}
+-- The heads of an input, and the values of a field there (RFC 9110, 5.5 and 5.6.3; RFC 9112, 2.2 and 5).
+use Rattle.std.specs.Prelude.{ℕ, Bool, false, List, [], ◌∷◌, ◌++◌, ◌==◌, ◌||◌, ◌&&◌, not, Option, Some, None, map, take, drop, length, if◌then◌else◌, codes}
+use Rattle.std.specs.{Str.str_eq_ignore_ascii_case, Str.Lines.strip_carriage_return}
 use Rattle.mime.specs.Grammar.{is_space}
-use Rattle.mime_http.specs.HttpList.{trim_start, trimmed}
+use Rattle.mime_http.specs.HttpList.{trimmed}
 use Rattle.mime_io.specs.Lines.{lines_of}
 
 -- a line without the mark that `curl -v` writes before it, `>` or `<` and a space, which begins no field's name
@@ -27,38 +26,33 @@ begins label line = str_eq_ignore_ascii_case (take (length label) line) label
 abbrev pub is_indented : List ℕ → Bool
 is_indented line = begins (codes "  http/") line
 
-abbrev pub without_indent : Bool → List ℕ → List ℕ
-without_indent indented line = if indented && begins (codes "  ") line then drop 2 line else line
+abbrev pub without_indent : List ℕ → List ℕ
+without_indent line = if begins (codes "  ") line then drop 2 line else line
 
--- a head ends with the first line that has nothing but a mark, before a line that begins an indented head, or with the input
-abbrev pub until_end : List (List ℕ) → List (List ℕ)
-until_end [] = []
-until_end (line ∷ lines) = if length line == 0 || is_indented line then [] else line ∷ until_end lines
+abbrev pub has_indent : List (List ℕ) → Bool
+has_indent [] = false
+has_indent (line ∷ lines) = is_indented line
 
-abbrev pub head_of : List (List ℕ) → List (List ℕ)
-head_of [] = []
-head_of (line ∷ lines) = if length line == 0 then [] else map (without_indent (is_indented line)) (line ∷ until_end lines)
+abbrev pub unindented : List (List ℕ) → List (List ℕ)
+unindented head = if has_indent head then map without_indent head else head
 
--- the lines after a head's, without one that has nothing but a mark
-abbrev pub after_end : List (List ℕ) → List (List ℕ)
-after_end [] = []
-after_end (line ∷ lines) = if length line == 0 then lines else if is_indented line then line ∷ lines else after_end lines
+-- a line that begins with `HTTP/`, or with two spaces and `HTTP/`, begins a head after another, and any other begins none
+abbrev pub begun : List ℕ → Option (List (List ℕ))
+begun line = if begins (codes "http/") line || is_indented line then Some (line ∷ []) else None
 
-abbrev pub after_head : List (List ℕ) → List (List ℕ)
-after_head [] = []
-after_head (line ∷ lines) = if length line == 0 then lines else after_end lines
+-- The heads of lines that follow the first lines of a head, or follow a head. A head ends with the first line that has nothing but a mark,
+-- before a line that begins an indented head, or with the input; in an input that is cut off, it counts only if a line follows its end.
+abbrev pub heads_from : Bool → Option (List (List ℕ)) → List (List ℕ) → List (List (List ℕ))
+heads_from cut None [] = []
+heads_from cut None (line ∷ lines) = heads_from cut (begun line) lines
+heads_from cut (Some head) [] = if cut then [] else head ∷ []
+heads_from cut (Some head) (line ∷ lines) =
+    if length line == 0 then (if cut && length lines == 0 then [] else head ∷ heads_from cut None lines) else
+    if is_indented line && not (length head == 0) then head ∷ heads_from cut (begun line) lines else
+    heads_from cut (Some (head ++ (line ∷ []))) lines
 
--- and, of these, those from the first of the next head on, which begins with `HTTP/`, or with two spaces and `HTTP/`
-abbrev pub from_status : List (List ℕ) → List (List ℕ)
-from_status [] = []
-from_status (line ∷ lines) = if begins (codes "http/") line || is_indented line then line ∷ lines else from_status lines
-
--- the lines from the next head on; of an input that is cut off, a head counts only if a line follows its end
-abbrev pub is_counted : Bool → List (List ℕ) → Bool
-is_counted cut lines = not cut || not (length (after_head lines) == 0)
-
-abbrev pub next_head : Bool → List (List ℕ) → List (List ℕ)
-next_head cut lines = if is_counted cut (from_status (after_head lines)) then from_status (after_head lines) else []
+abbrev pub heads_of : Bool → List (List ℕ) → List (List (List ℕ))
+heads_of cut lines = map unindented (heads_from cut (Some []) lines)
 
 -- a line that begins with white space goes on with the field before it: one space stands for the white space between them (RFC 9112, 5.2)
 abbrev pub goes_on : List ℕ → Bool
@@ -83,10 +77,6 @@ title_of [] = []
 title_of (line ∷ lines) = if begins (codes "*") line then title_of lines else line
 
 -- a line has a field's name and then white space before a colon, so it is no header (RFC 9112, 5.1)
-abbrev pub is_colon_first : List ℕ → Bool
-is_colon_first [] = false
-is_colon_first (b ∷ line) = b == 58
-
 abbrev pub is_spaced : List ℕ → List ℕ → Bool
 is_spaced name line =
-    begins name line && (goes_on (drop (length name) line) && is_colon_first (trim_start (drop (length name) line)))
+    begins name line && (goes_on (drop (length name) line) && begins (codes ":") (trimmed (drop (length name) line)))

@@ -1,28 +1,23 @@
--- What the program writes of a head and of offers: of each `Content-Type`, of `Accept`, and of each offer (RFC 9110, 8.3, 12.5.1 and 15.5.7).
-use Rattle.std.specs.Prelude.{◌≡◌, ◌≢◌, ℕ, ◌+◌, ◌/◌, ◌%◌, Bool, true, false, List, [], ◌∷◌, ◌++◌, ◌==◌, ◌||◌, ◌&&◌, Option, Some, None, is_some, option_map, unwrap_or, position, map, flat_map, length, slice_get, replicate, nat_lt, not, if◌then◌else◌, codes}
-use Rattle.std.specs.Char.{is_ascii_graphic}
-use Rattle.std.specs.Fmt.{decimal}
-use Rattle.std.specs.Str.{IsUtf8}
-use Rattle.mime.specs.Bytes.{comma_byte}
-use Rattle.mime.specs.Values.{MediaType, suffix_of}
-use Rattle.mime.specs.declared.scan.fault.ParseError.{ParseError}
-use Rattle.mime.specs.declared.scan.fault.ParseError.TheVariants.{InvalidToken}
-use Rattle.mime_http.specs.Boundary.{IsBoundaryOf}
-use Rattle.mime_http.specs.HttpFaults.{HttpExplains}
-use Rattle.mime_http.specs.HttpList.{trimmed, IsPrinted, IsPiece, BeginsPiece, lines_or_any}
-use Rattle.mime_http.specs.HttpMediaType.{HttpReads}
-use Rattle.mime_http.specs.HttpPrinted.{field_error_text}
-use Rattle.mime_http.specs.Ranges.{weight_of, first_value}
-use Rattle.mime_http.specs.Ranking.{is_qvalue, is_lacking, IsRanking}
-use Rattle.mime_http.specs.Unescaped.{unescaped}
-use Rattle.mime_http.specs.declared.ranking.RankedOffer.{RankedOffer}
-use Rattle.mime_http.specs.declared.value.FieldError.{FieldError}
-use Rattle.mime_http.specs.declared.value.FieldError.TheVariants.{NotUtf8, Invalid, NoMemory}
-use Rattle.mime_io.specs.Lines.{row, suffix_row}
-use Rattle.mime_io.specs.Stops.{limit}
-use Rattle.mime_headers.specs.Head.{bare_lines, head_of, is_counted, is_spaced, next_head, title_of, values_of}
-use Rattle.mime_headers.specs.Shown.{without_controls}
+-- What the program writes of heads and of offers: of each `Content-Type`, of `Accept`, and of each offer (RFC 9110, 8.3, 12.5.1 and 15.5.7).
+use Rattle.std.specs.Prelude.{◌≡◌, ◌≢◌, ℕ, ◌+◌, ◌/◌, ◌%◌, Bool, true, false, List, [], ◌∷◌, ◌++◌, ◌==◌, ◌||◌, ◌&&◌, Option, Some, None, Result, Ok, Err, MatchOption, is_some, option_map, unwrap_or, position, map, flat_map, length, slice_get, replicate, nat_lt, if◌then◌else◌, codes}
+use Rattle.std.specs.{Char.is_ascii_graphic, Fmt.decimal, List.FoldsTo, Str.IsUtf8}
+use Rattle.mime.specs.{Values.MediaType, Values.suffix_of, declared.scan.fault.ParseError.ParseError, declared.scan.fault.ParseError.TheVariants.InvalidToken}
+use Rattle.mime_http.specs.{Boundary.IsBoundaryOf, HttpFaults.HttpExplains, HttpList.trimmed, HttpList.AreBetweenCommas, HttpList.IsPrinted, HttpList.IsPiece, HttpList.BeginsPiece, HttpMediaType.HttpReads, HttpPrinted.field_error_text, Ranges.weight_of, Ranges.first_value, Ranking.is_qvalue, Ranking.is_lacking, Ranking.IsRanking, Unescaped.unescaped, declared.ranking.RankedOffer.RankedOffer, declared.value.FieldError.FieldError, declared.value.FieldError.TheVariants.NotUtf8, declared.value.FieldError.TheVariants.Invalid, declared.value.FieldError.TheVariants.NoMemory}
+use Rattle.mime_io.specs.{Lines.row, Stops.limit}
+use Rattle.mime_headers.specs.{Head.bare_lines, Head.heads_of, Head.is_spaced, Head.title_of, Head.values_of, Shown.without_controls}
 use Rattle.mime_headers.specs.declared.verdict.Verdict.{Verdict}
+
+-- what is read of a value of a field: a media type, with the kept text that is printed of it, or the fault of a value that is none
+abbrev pub IsRead : List ℕ → Result MediaType FieldError → Type 0
+IsRead value (Ok media) = IsUtf8 value × HttpReads value media × IsPrinted value media
+IsRead value (Err error) = (error ≢ NoMemory) × HttpExplains value error
+
+-- what is known after some heads: the report, whether each `Content-Type` is good, and the last choice, if there was one: whether an offer
+-- was acceptable, or there was none
+pub record State : Type 0 where
+  pub text : List ℕ
+  pub are_good : Bool
+  pub choice : Option Bool
 
 -- ---- a rejected value
 
@@ -45,16 +40,10 @@ fault_place value (Invalid fault) = invalid_place value fault
 fault_place value NoMemory = (length value, [])
 
 -- the rows of a rejected value of a field: its fault, and the value over a caret at the byte at fault
-abbrev pub caret_row : ℕ × List ℕ → List ℕ
-caret_row (at, remark) = codes "    " ++ (replicate at 32 ++ (codes "^" ++ (remark ++ codes "\n")))
-
 abbrev pub fault_rows : List ℕ → List ℕ → FieldError → List ℕ
 fault_rows label value error =
-    row label (field_error_text error) ++ (row (codes "    ") (shown value) ++ caret_row (fault_place value error))
-
--- what is read of a value, with the kept text that is printed of it
-abbrev pub ReadsAs : List ℕ → MediaType → Type 0
-ReadsAs value media = HttpReads value media × IsPrinted value media
+    row label (field_error_text error) ++ (row (codes "    ") (shown value) ++ (codes "    "
+    ++ (replicate (fault_place value error).0 32 ++ (codes "^" ++ ((fault_place value error).1 ++ codes "\n")))))
 
 -- ---- Content-Type
 
@@ -62,103 +51,89 @@ ReadsAs value media = HttpReads value media × IsPrinted value media
 abbrev pub param_row : List ℕ × List ℕ → List ℕ
 param_row (name, value) = row (codes "param ") (name ++ (codes "=" ++ unescaped value))
 
--- the rows of a media type: its kept text, its essence, its suffix if there is one, and each parameter
-abbrev pub media_rows : MediaType → List ℕ
-media_rows media =
-    row (codes "Content-Type ") media.kept
-    ++ (row (codes "essence ") media.essence
-    ++ (suffix_row (suffix_of media)
-    ++ flat_map param_row media.pairs))
+-- a row, if there is one
+abbrev pub row_if : List ℕ → Option (List ℕ) → List ℕ
+row_if label None = []
+row_if label (Some text) = row label text
 
--- a report before and after the row of its boundary, if it has one
-pub data AddsBoundary (media : MediaType) (old : List ℕ) : List ℕ → Type 0 where
-  bounded : (bytes : List ℕ) → IsBoundaryOf media bytes → AddsBoundary media old (old ++ row (codes "boundary ") bytes)
-  unbounded : ((bytes : List ℕ) → ¬ (IsBoundaryOf media bytes)) → AddsBoundary media old old
+-- the rows of a media type: its kept text, its essence, its suffix if there is one, each parameter, and its boundary if there is one
+abbrev pub media_rows : MediaType → Option (List ℕ) → List ℕ
+media_rows media boundary =
+    codes "Content-Type " ++ (media.kept ++ (codes "\nessence " ++ (media.essence ++ (codes "\n"
+    ++ (row_if (codes "suffix ") (suffix_of media) ++ (flat_map param_row media.pairs ++ row_if (codes "boundary ") boundary))))))
 
--- and a value, and whether that is good: of a media type its rows are added, and otherwise those of its fault
-pub data AddsType (value old : List ℕ) : List ℕ → Bool → Type 0 where
-  good : {new : List ℕ} (media : MediaType) → IsUtf8 value → ReadsAs value media → AddsBoundary media (old ++ media_rows media) new
-      → AddsType value old new true
-  bad : (error : FieldError) → error ≢ NoMemory → HttpExplains value error
-      → AddsType value old (old ++ fault_rows (codes "bad Content-Type ") value error) false
+-- a report before and after what is read of a value of `Content-Type`, and whether all values so far are good; and a value, which is read
+-- without the white space around it (RFC 9110, 5.5)
+abbrev pub AddsReading : List ℕ × Bool → List ℕ → Result MediaType FieldError → List ℕ × Bool → Type 0
+AddsReading (text, are_good) value (Ok media) new =
+    (boundary : Option (List ℕ)) × MatchOption boundary ((bytes : List ℕ) → ¬ (IsBoundaryOf media bytes)) (IsBoundaryOf media)
+    × (new ≡ (text ++ media_rows media boundary, are_good))
+AddsReading (text, are_good) value (Err error) new = new ≡ (text ++ fault_rows (codes "bad Content-Type ") value error, false)
 
--- and all values, one after another, each without the white space around it (RFC 9110, 5.5), with whether all so far are good
-pub data AddsTypes : List (List ℕ) → List ℕ → Bool → List ℕ → Bool → Type 0 where
-  no_more : {text : List ℕ} {are_good : Bool} → AddsTypes [] text are_good text are_good
-  one_more : {value old between new : List ℕ} {are_good is_good all_good : Bool} {values : List (List ℕ)} → AddsType (trimmed value) old between is_good
-      → AddsTypes values between (are_good && is_good) new all_good → AddsTypes (value ∷ values) old are_good new all_good
+abbrev pub AddsType : List ℕ × Bool → List ℕ → List ℕ × Bool → Type 0
+AddsType old value new =
+    (reading : Result MediaType FieldError) × IsRead (trimmed value) reading × AddsReading old (trimmed value) reading new
 
 -- the row which says that there is no `Content-Type`, or more than one
 abbrev pub count_row : List (List ℕ) → List ℕ
-count_row [] = row (codes "no Content-Type") []
+count_row [] = codes "no Content-Type\n"
 count_row (value ∷ []) = []
-count_row (value ∷ other ∷ values) = row (codes "several Content-Type lines (HTTP allows one)") []
+count_row (value ∷ other ∷ values) = codes "several Content-Type lines (HTTP allows one)\n"
 
 -- ---- Accept
 
--- the last digit of a number, and a weight in thousandths with its three decimals, as 0.800
-abbrev pub digit : ℕ → ℕ
-digit number = 48 + number % 10
-
+-- a weight in thousandths with its three decimals, as 0.800
 abbrev pub weight_text : ℕ → List ℕ
-weight_text weight = digit (weight / 1000) ∷ 46 ∷ digit (weight / 100) ∷ digit (weight / 10) ∷ digit weight ∷ []
+weight_text weight = (48 + weight / 1000 % 10) ∷ 46 ∷ (48 + weight / 100 % 10) ∷ (48 + weight / 10 % 10) ∷ (48 + weight % 10) ∷ []
 
 -- a weight and a media type's kept text
 abbrev pub weighed_text : List ℕ → ℕ → MediaType → List ℕ
 weighed_text label weight media = label ++ (weight_text weight ++ (codes " " ++ media.kept))
 
 -- the row of a range, with a word if its `q` is no weight
-abbrev pub weight_remark : MediaType → List ℕ
-weight_remark range = if unwrap_or (option_map is_qvalue (first_value (codes "q") range.pairs)) true then [] else codes " (q is no weight)"
-
 abbrev pub range_row : MediaType → List ℕ
-range_row range = weighed_text (codes "Accept ") (weight_of range) range ++ (weight_remark range ++ codes "\n")
+range_row range =
+    weighed_text (codes "Accept ") (weight_of range) range
+    ++ (if unwrap_or (option_map is_qvalue (first_value (codes "q") range.pairs)) true then codes "\n" else codes " (q is no weight)\n")
 
--- a report before and after an entry, and the ranges so far: one that is a range is taken
-pub data AddsEntry (entry old : List ℕ) (ranges : List MediaType) : List ℕ → List MediaType → Type 0 where
-  nothing : entry ≡ [] → AddsEntry entry old ranges old ranges
-  a_range : (range : MediaType) → IsUtf8 entry → ReadsAs entry range → AddsEntry entry old ranges (old ++ range_row range) (ranges ++ (range ∷ []))
-  a_bad : (error : FieldError) → entry ≢ [] → error ≢ NoMemory → HttpExplains entry error
-      → AddsEntry entry old ranges (old ++ fault_rows (codes "bad Accept ") entry error) ranges
+-- a report and its ranges before and after an entry: nothing isn't reported, and what is read as a range is one
+abbrev pub with_entry : List ℕ × List MediaType → List ℕ → Result MediaType FieldError → List ℕ × List MediaType
+with_entry (text, ranges) entry (Ok range) = (text ++ range_row range, ranges ++ (range ∷ []))
+with_entry (text, ranges) entry (Err error) = (text ++ fault_rows (codes "bad Accept ") entry error, ranges)
 
--- and of lines, entry by entry between the commas outside strings, each without the white space around it
-pub data AddsLines : List (List ℕ) → List ℕ → List MediaType → List ℕ → List MediaType → Type 0 where
-  no_line : {text : List ℕ} {ranges : List MediaType} → AddsLines [] text ranges text ranges
-  line_end : {text old between new : List ℕ} {ranges some all : List MediaType} {lines : List (List ℕ)} → BeginsPiece text
-      → AddsEntry (trimmed text) old ranges between some → AddsLines lines between some new all → AddsLines (text ∷ lines) old ranges new all
-  comma : {text line old between new : List ℕ} {ranges some all : List MediaType} {lines : List (List ℕ)} → IsPiece text
-      → AddsEntry (trimmed text) old ranges between some → AddsLines (line ∷ lines) between some new all
-      → AddsLines ((text ++ (comma_byte ∷ line)) ∷ lines) old ranges new all
+abbrev pub AddsEntry : List ℕ × List MediaType → List ℕ → List ℕ × List MediaType → Type 0
+AddsEntry old [] new = new ≡ old
+AddsEntry old (b ∷ entry) new =
+    (reading : Result MediaType FieldError) × IsRead (b ∷ entry) reading × (new ≡ with_entry old (b ∷ entry) reading)
 
--- the row which says that there is no `Accept`
-abbrev pub none_row : List (List ℕ) → List ℕ
-none_row [] = row (codes "no Accept") []
-none_row (line ∷ lines) = []
+-- and the entries of lines, between the commas outside strings, each without the white space around it
+pub record AddsLines (lines : List (List ℕ)) (old new : List ℕ × List MediaType) : Type 0 where
+  pub pieces : List (List ℕ)
+  pub cut : AreBetweenCommas IsPiece BeginsPiece lines pieces
+  pub entries : FoldsTo AddsEntry old (map trimmed pieces) new
 
 -- ---- offers
 
--- a range's place among the ranges, from 1, and its kept text
-abbrev pub place_text : List ℕ → ℕ → Option MediaType → List ℕ → List ℕ
-place_text before at None after = []
-place_text before at (Some range) after = before ++ (decimal (at + 1) ++ (codes " " ++ (range.kept ++ after)))
+-- a range's place among the ranges, from 1, and its kept text, between other words, or a word if there is none
+abbrev pub place_of : List ℕ → ℕ → Option MediaType → List ℕ → List ℕ
+place_of before at None after = []
+place_of before at (Some range) after = before ++ (decimal (at + 1) ++ (codes " " ++ (range.kept ++ after)))
 
--- which range decides, if one does; and which an offer lacks a parameter of, if it weighs nothing
-abbrev pub by_text : List MediaType → Option ℕ → List ℕ
-by_text ranges None = codes " by none"
-by_text ranges (Some at) = place_text (codes " by ") at (slice_get ranges at) []
+abbrev pub place_text : List MediaType → List ℕ → Option ℕ → List ℕ → List ℕ → List ℕ
+place_text ranges before None after none = none
+place_text ranges before (Some at) after none = place_of before at (slice_get ranges at) after
 
-abbrev pub lacking_text : List MediaType → Option ℕ → List ℕ
-lacking_text ranges None = []
-lacking_text ranges (Some at) = place_text (codes " (lacks a parameter of ") at (slice_get ranges at) (codes ")")
-
-abbrev pub lacking_remark : List MediaType → ℕ → MediaType → List ℕ
-lacking_remark ranges weight offer = if weight == 0 then lacking_text ranges (position (is_lacking offer) ranges) else []
+-- the range that an offer lacks a parameter of, if it weighs nothing
+abbrev pub lacking_at : List MediaType → ℕ → MediaType → Option ℕ
+lacking_at ranges weight offer = if weight == 0 then position (is_lacking offer) ranges else None
 
 -- the row of an offer: its weight, its kept text, and why it weighs so much
 abbrev pub offer_row : List MediaType → RankedOffer → Option MediaType → List ℕ
 offer_row ranges one None = []
 offer_row ranges one (Some offer) =
-    weighed_text (codes "offer ") one.weight offer ++ (by_text ranges one.range ++ (lacking_remark ranges one.weight offer ++ codes "\n"))
+    weighed_text (codes "offer ") one.weight offer
+    ++ (place_text ranges (codes " by ") one.range [] (codes " by none")
+    ++ place_text ranges (codes " (lacks a parameter of ") (lacking_at ranges one.weight offer) (codes ")\n") (codes "\n"))
 
 abbrev pub offer_rows : List MediaType → List MediaType → List RankedOffer → List ℕ
 offer_rows ranges offers ranking = flat_map (λ one. offer_row ranges one (slice_get offers one.offer)) ranking
@@ -168,10 +143,9 @@ abbrev pub best_of : List MediaType → List RankedOffer → Option MediaType
 best_of offers [] = None
 best_of offers (one ∷ ranking) = if one.weight == 0 then None else slice_get offers one.offer
 
-abbrev pub best_rows : List MediaType → Option MediaType → List ℕ
-best_rows [] best = []
-best_rows (offer ∷ offers) None = row (codes "406 Not Acceptable") []
-best_rows (offer ∷ offers) (Some best) = row (codes "best ") best.kept
+abbrev pub best_row : List MediaType → Option MediaType → List ℕ
+best_row offers (Some best) = row (codes "best ") best.kept
+best_row offers None = if length offers == 0 then [] else codes "406 Not Acceptable\n"
 
 -- whether an offer is acceptable, or there is none
 abbrev pub is_acceptable : List MediaType → Option MediaType → Bool
@@ -179,19 +153,20 @@ is_acceptable offers best = length offers == 0 || is_some best
 
 -- ---- heads
 
--- whether offers are chosen under a head with these lines of `Accept`: if it has one, or if it is the last and none has
-abbrev pub chooses : List (List ℕ) → Option Bool → Bool → Bool
-chooses lines before is_last = not (length lines == 0) || (is_last && not (is_some before))
+-- a state before and after the lines of `Accept`, which are one list (5.3), and offers, if there are lines
+pub record IsChoice (offers : List MediaType) (lines : List (List ℕ)) (old new : State) : Type 0 where
+  pub read : List ℕ × List MediaType
+  pub are_read : AddsLines lines (old.text, []) read
+  pub ranking : List RankedOffer
+  pub is_ranking : IsRanking read.1 offers ranking
+  pub is_new : new ≡ record old {
+    text = read.0 ++ (offer_rows read.1 offers ranking ++ best_row offers (best_of offers ranking));
+    choice = Some (is_acceptable offers (best_of offers ranking));
+  }
 
--- a report before and after the lines of `Accept`, which are one list (5.3), and offers, if they are chosen there; and whether, in the last
--- choice, one was acceptable
-pub data AddsChoice (lines : List (List ℕ)) (offers : List MediaType) (old : List ℕ) (before : Option Bool)
-    : Bool → List ℕ → Option Bool → Type 0 where
-  elsewhere : AddsChoice lines offers old before false old before
-  here : {text : List ℕ} {ranges : List MediaType} {ranking : List RankedOffer} → AddsLines (lines_or_any lines) (old ++ none_row lines) [] text ranges
-      → IsRanking ranges offers ranking
-      → AddsChoice lines offers old before true (text ++ (offer_rows ranges offers ranking ++ best_rows offers (best_of offers ranking)))
-      (Some (is_acceptable offers (best_of offers ranking)))
+abbrev pub AddsChoice : List MediaType → List (List ℕ) → State → State → Type 0
+AddsChoice offers [] old new = new ≡ old
+AddsChoice offers (line ∷ lines) old new = IsChoice offers (line ∷ lines) old new
 
 -- the row of a head, if there are many
 abbrev pub title_row : Bool → List (List ℕ) → List ℕ
@@ -202,42 +177,40 @@ abbrev pub spaced_row : List ℕ → List ℕ
 spaced_row line =
     if is_spaced (codes "content-type") line || is_spaced (codes "accept") line then row (codes "white space before the colon: ") (shown line) else []
 
--- what is known after some heads: the report, whether each `Content-Type` is good, and the last choice
-pub record State : Type 0 where
-  pub text : List ℕ
-  pub are_good : Bool
-  pub choice : Option Bool
+-- a state before and after a head
+pub record AddsHead (offers : List MediaType) (many : Bool) (old : State) (head : List (List ℕ)) (new : State) : Type 0 where
+  pub between : List ℕ × Bool
+  pub types : FoldsTo AddsType (old.text ++ (title_row many head ++ flat_map spaced_row head), old.are_good)
+      (values_of (codes "content-type:") head) between
+  pub choice : AddsChoice offers (values_of (codes "accept:") head)
+      (record { text = between.0 ++ count_row (values_of (codes "content-type:") head); are_good = between.1; choice = old.choice }) new
 
--- before and after a head
-pub record AddsHead (offers : List MediaType) (many : Bool) (head : List (List ℕ)) (is_last : Bool) (old new : State) : Type 0 where
-  pub text : List ℕ
-  pub types :
-      AddsTypes (values_of (codes "content-type:") head) (old.text ++ (title_row many head ++ flat_map spaced_row head)) old.are_good text new.are_good
-  pub choice : AddsChoice (values_of (codes "accept:") head) offers (text ++ count_row (values_of (codes "content-type:") head)) old.choice
-      (chooses (values_of (codes "accept:") head) old.choice is_last) new.text new.choice
+-- the row which says that no head has an `Accept`, and the line that is read in its place, under the last head
+abbrev pub none_row : Option Bool → List ℕ
+none_row None = codes "no Accept\n"
+none_row (Some choice) = []
 
--- and all heads of lines, one after another
-pub data AddsHeads (offers : List MediaType) (cut many : Bool) : List (List ℕ) → State → State → Type 0 where
-  last_head : {lines : List (List ℕ)} {old new : State} → next_head cut lines ≡ [] → AddsHead offers many (head_of lines) true old new
-      → AddsHeads offers cut many lines old new
-  a_head : {lines next : List (List ℕ)} {old between new : State} → next_head cut lines ≡ next → next ≢ []
-      → AddsHead offers many (head_of lines) false old between → AddsHeads offers cut many next between new → AddsHeads offers cut many lines old new
+abbrev pub none_lines : Option Bool → List (List ℕ)
+none_lines None = codes "*/*" ∷ []
+none_lines (Some choice) = []
 
 -- the row of an input that is cut off
 abbrev pub cut_row : Bool → List ℕ
-cut_row cut = if cut then row (codes "not read after 1048576 bytes") [] else []
+cut_row cut = if cut then codes "not read after 1048576 bytes\n" else []
 
 -- the verdict on values that are all good or not, and on the last choice
 abbrev pub verdict_of : Bool → Option Bool → Verdict
 verdict_of are_good choice = if are_good && unwrap_or choice true then Verdict.Acceptable else Verdict.NotAcceptable
 
--- the text is the report on these lines and offers; of an input that is cut off, the first head is ended within
-pub record IsReport (offers : List MediaType) (cut : Bool) (lines : List (List ℕ)) (text : List ℕ) (verdict : Verdict) : Type 0 where
+-- the text is the report on these heads and offers, and the verdict is the last choice's, unless a `Content-Type` is bad
+pub record IsReport (offers : List MediaType) (cut : Bool) (heads : List (List (List ℕ))) (text : List ℕ) (verdict : Verdict) : Type 0 where
   pub state : State
-  pub counted : is_counted cut lines ≡ true
-  pub heads : AddsHeads offers cut (not (length (next_head cut lines) == 0)) lines (record { text = []; are_good = true; choice = None }) state
-  pub is_text : text ≡ without_controls (state.text ++ cut_row cut)
-  pub is_verdict : verdict ≡ verdict_of state.are_good state.choice
+  pub last : State
+  pub some : heads ≢ []
+  pub adds : FoldsTo (AddsHead offers (nat_lt 1 (length heads))) (record { text = []; are_good = true; choice = None }) heads state
+  pub chosen : AddsChoice offers (none_lines state.choice) (record state { text = state.text ++ none_row state.choice }) last
+  pub is_text : text ≡ without_controls (last.text ++ cut_row cut)
+  pub is_verdict : verdict ≡ verdict_of last.are_good last.choice
 
 -- an input of more bytes than the limit is cut off: it is read to one byte past it, which only shows that the line before has ended
 abbrev pub is_cut : List ℕ → Bool
@@ -245,4 +218,4 @@ is_cut bytes = nat_lt limit (length bytes)
 
 -- the text is the report on the bytes that were read, and on offers
 abbrev pub IsReportOf : List MediaType → List ℕ → List ℕ → Verdict → Type 0
-IsReportOf offers bytes text verdict = IsReport offers (is_cut bytes) (bare_lines bytes) text verdict
+IsReportOf offers bytes text verdict = IsReport offers (is_cut bytes) (heads_of (is_cut bytes) (bare_lines bytes)) text verdict

@@ -1,9 +1,9 @@
 //! One run of the program, from a source to a sink.
 
-ghost use Rattle.std.specs.Prelude.{◌≡◌, ◌≢◌, ℕ, List, ◌≤◌, ◌+◌, length, map, true, false, OnOk, IfOk, IfErr};
+ghost use Rattle.std.specs.Prelude.{◌≡◌, ◌≢◌, ℕ, List, ◌≤◌, ◌+◌, [], length, map, true, OnOk, IfOk, IfErr};
 ghost use Rattle.std.specs.Io.KnownBytes.{Consumes, Appends, IsAtEnd};
 ghost use Rattle.mime_io.specs.Stops.{limit};
-ghost use Rattle.mime_headers.specs.Head.{bare_lines, is_counted};
+ghost use Rattle.mime_headers.specs.Head.{bare_lines, heads_of};
 ghost use Rattle.mime_headers.specs.Report.{IsReportOf};
 
 use crate::report::report_of;
@@ -39,7 +39,7 @@ pub fn run<S: Source, T: Sink>(
     ensures sink_unfailed { result ≢ Err RunError.Write → T.has_failed sink.new ≡ T.has_failed sink.old }
     // If the result is `TooLong`, the run has read one byte more than the limit, and the first head doesn't end within the limit.
     ensures too_long { result ≡ Err RunError.TooLong → (bytes : List ℕ) × Consumes (S.left source.old) (S.left source.new) bytes
-        × (length bytes ≡ limit + 1) × (is_counted true (bare_lines bytes) ≡ false) }
+        × (length bytes ≡ limit + 1) × (heads_of true (bare_lines bytes) ≡ []) }
     // Nothing is written before the report is complete.
     ensures untouched { IfErr result (λ error. error ≢ RunError.Write → sink.new ≡ sink.old) }
 {
@@ -48,9 +48,9 @@ pub fn run<S: Source, T: Sink>(
     let Ok(answer) = report_of(alloc, input.as_slice(), is_cut, offers) else {
         return Err(RunError::NoMemory);
     };
-    let Some(report) = answer else {
+    let Some((report, verdict)) = answer else {
         return Err(RunError::TooLong);
     };
-    write_report(sink, report.text.as_slice())?;
-    Ok(report.verdict)
+    write_report(sink, report.as_slice())?;
+    Ok(verdict)
 }

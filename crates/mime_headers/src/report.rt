@@ -1,510 +1,140 @@
 //! The report on heads.
 
-ghost use Rattle.std.specs.Prelude.{◌≡◌, ◌++◌, ◌∷◌, [], ℕ, List, false, map, flat_map, slice_get, replicate, OnOk, IfOk, MatchOption, option_map};
+ghost use Rattle.std.specs.Prelude.{◌≡◌, ◌<◌, ◌++◌, [], length, map, flat_map, slice_get, if◌then◌else◌, OnOk, IfOk, IfSome, MatchOption, option_map};
+ghost use Rattle.std.specs.List.{FoldsTo};
 ghost use Rattle.std.specs.Vec.{vec_items};
-ghost use Rattle.mime.specs.Values.{MediaType, suffix_of};
-ghost use Rattle.mime_http.specs.HttpList.{lines_or_any};
-ghost use Rattle.mime_io.specs.Lines.{row, suffix_row};
-ghost use Rattle.mime_headers.specs.Head.{bare_lines, head_of, is_counted};
-ghost use Rattle.mime_headers.specs.Report.{shown_byte, shown, param_row, media_rows, AddsBoundary, fault_place, caret_row, fault_rows, AddsType, AddsTypes, none_row, count_row, spaced_row, digit, weight_text};
-ghost use Rattle.mime_headers.specs.Report.{weighed_text, weight_remark, range_row, AddsEntry, AddsLines, place_text, by_text, lacking_remark, offer_row, offer_rows, best_of, best_rows, is_acceptable, verdict_of, chooses, title_row, AddsChoice, AddsHead, cut_row, IsReport};
+ghost use Rattle.mime_io.specs.Lines.{row};
+ghost use Rattle.mime_headers.specs.Head.{bare_lines, heads_of};
+ghost use Rattle.mime_headers.specs.Inner.{state_of};
+ghost use Rattle.mime_headers.specs.Report.{AddsChoice, AddsEntry, AddsHead, AddsLines, AddsType, IsReport, best_of, best_row, count_row, fault_place, fault_rows, is_acceptable, media_rows, none_lines, none_row, offer_row};
+ghost use Rattle.mime_headers.specs.Report.{offer_rows, param_row, place_text, range_row, row_if, shown, shown_byte, spaced_row, verdict_of, weighed_text};
 
-use crate::head::{Head, is_spaced, next_head, read_head, title_of, trimmed, values_of};
+use crate::head::{heads_of, is_spaced, title_of, values_of};
 use crate::shown::without_controls;
 use crate::verdict::Verdict;
 use mime::{Mime, ParseError};
 use mime_http::{
     FieldError, RankedOffer, boundary, content_type, first_entry, has_weight, lacking, rank_offers,
-    unescape, weight_of,
+    trimmed, unescape, weight_of,
 };
 use std::alloc::{AllocError, Global};
 
-/// The text of a report, and its verdict.
-#[derive(Drop)]
-pub(crate) struct Report {
-    pub(crate) text: Vec<u8>,
-    pub(crate) verdict: Verdict,
-}
-
-/// Returns the report on the heads of an input and on offers, or `None` if the input is cut off and nothing follows its first head.
+/// Returns the text and the verdict of the report on the heads of an input and on offers, or `None` if the input is cut off and nothing
+/// follows its first head.
 pub(crate) fn report_of(
     alloc: Global,
     input: &[u8],
     is_cut: bool,
     offers: &[Mime],
-) -> Result<Option<Report>, AllocError>
-    ensures { IfOk result (λ answer. MatchOption answer (is_counted is_cut (bare_lines input.now) ≡ false) (λ report.
-        IsReport (map (λ offer. offer.media) offers.now) is_cut (bare_lines input.now) (vec_items report.text) report.verdict)) }
+) -> Result<Option<(Vec<u8>, Verdict)>, AllocError>
+    ensures { IfOk result (λ answer. MatchOption answer (heads_of is_cut (bare_lines input.now) ≡ []) (λ report.
+        IsReport (map (λ offer. offer.media) offers.now) is_cut (heads_of is_cut (bare_lines input.now)) (vec_items report.0) report.1)) }
 {
-    let mut head = read_head(alloc, input)?;
-    if !head.is_counted(is_cut) {
+    let heads = heads_of(alloc, input, is_cut)?;
+    if heads.is_empty() {
         return Ok(None);
     }
-    let mut rows = Rows {
-        alloc,
+    let mut report = Report {
         text: Vec::new(alloc),
-    };
-    let mut seen = Seen {
         are_good: true,
         choice: None,
     };
-    let mut next = next_head(alloc, is_cut, &head)?;
-    let many = next.is_some();
-    while let Some(after) = next {
-        seen = rows.push_head(offers, many, &head, false, seen)?;
-        next = next_head(alloc, is_cut, &after)?;
-        head = after;
+    let many = heads.len() > 1;
+    for head in &heads {
+        report.push_head(alloc, offers, many, head)?;
     }
-    seen = rows.push_head(offers, many, &head, true, seen)?;
-    rows.push_cut(is_cut)?;
-    let text = without_controls(alloc, rows.text)?;
-    let verdict = verdict_of(seen);
-    Ok(Some(Report { text, verdict }))
+    report.push_missing(alloc, offers)?;
+    let cut = choose(is_cut, b"not read after 1048576 bytes\n", b"");
+    push(&mut report.text, &[cut])?;
+    let verdict = verdict_of(report.are_good, report.choice);
+    let text = without_controls(alloc, report.text)?;
+    Ok(Some((text, verdict)))
 }
 
-/// The state after some heads: whether each `Content-Type` was accepted, and the outcome of the last choice, if there was one: whether an
-/// offer was acceptable or there were no offers.
-#[derive(Clone, Copy)]
-struct Seen {
+/// The report on some heads: its text, whether each `Content-Type` was accepted, and the outcome of the last choice, if there was one:
+/// whether an offer was acceptable or there were no offers.
+#[derive(Drop)]
+struct Report {
+    text: Vec<u8>,
     are_good: bool,
     choice: Option<bool>,
 }
 
-/// The rows of a report.
-#[derive(Drop)]
-struct Rows {
-    alloc: Global,
-    text: Vec<u8>,
-}
-
-impl Rows {
-    /// Adds the rows of a head. Returns the state after it.
-    fn push_head(
-        &mut self,
-        offers: &[Mime],
-        many: bool,
-        head: &Head<'_>,
-        is_last: bool,
-        before: Seen,
-    ) -> Result<Seen, AllocError>
-        ensures { IfOk result (λ seen. AddsHead (map (λ offer. offer.media) offers.now) many (head_of (bare_lines head.now.input.now)) is_last
-            (record { text = vec_items self.old.text; are_good = before.are_good; choice = before.choice })
-            (record { text = vec_items self.new.text; are_good = seen.are_good; choice = seen.choice })) }
+impl Report {
+    /// Adds the rows of a head.
+    fn push_head(&mut self, alloc: Global, offers: &[Mime], many: bool, head: &[&[u8]]) -> Pushed
+        ensures { OnOk result (AddsHead (map (λ offer. offer.media) offers.now) many (state_of self.old)
+            (map (λ line. line.now) head.now) (state_of self.new)) }
     {
-        let types = values_of(self.alloc, b"content-type:", &head.lines)?;
-        let lines = values_of(self.alloc, b"accept:", &head.lines)?;
-        self.push_title(many, &head.lines)?;
-        self.push_spaced(&head.lines)?;
-        let are_good = self.push_types(&types, before.are_good)?;
-        self.push_count(&types)?;
-        let is_here = chooses(&lines, before.choice, is_last);
-        let choice = self.push_choice(&lines, offers, before.choice, is_here)?;
-        Ok(Seen { are_good, choice })
-    }
-
-    /// Adds the row with a head's title, if there are several heads.
-    fn push_title(&mut self, many: bool, head: &[&[u8]]) -> Result<(), AllocError>
-        ensures { OnOk result (vec_items self.new.text ≡ vec_items self.old.text ++ title_row many (map (λ line. line.now) head.now)) }
-    {
-        if many {
-            self.push_shown("head ", title_of(head))
-        } else {
-            Ok(())
-        }
-    }
-
-    /// Adds a row for each line with white space between the name `Content-Type` or `Accept` and its colon.
-    fn push_spaced(&mut self, head: &[&[u8]]) -> Result<(), AllocError>
-        ensures { OnOk result (vec_items self.new.text ≡ vec_items self.old.text ++ flat_map spaced_row (map (λ line. line.now) head.now)) }
-    {
-        for line in head {
-            self.push_if_spaced(line)?;
-        }
+        let types = values_of(alloc, b"content-type:", head)?;
+        let accepts = values_of(alloc, b"accept:", head)?;
+        push_shown(&mut self.text, many, b"head ", title_of(head))?;
+        push_spaced(&mut self.text, head)?;
+        push_types(&mut self.text, &mut self.are_good, &types)?;
+        push(&mut self.text, &[count_row(&types)])?;
+        self.push_choice(alloc, offers, &accepts)?;
         Ok(())
     }
 
-    /// Adds a row if a line has white space between the name `Content-Type` or `Accept` and its colon.
-    fn push_if_spaced(&mut self, line: &[u8]) -> Result<(), AllocError>
-        ensures { OnOk result (vec_items self.new.text ≡ vec_items self.old.text ++ spaced_row line.now) }
-    {
-        if is_spaced(b"content-type", line) || is_spaced(b"accept", line) {
-            self.push_shown("white space before the colon: ", line)
-        } else {
-            Ok(())
-        }
-    }
-
-    /// Adds a row if there is no `Content-Type`, or more than one.
-    fn push_count(&mut self, values: &[Vec<u8>]) -> Result<(), AllocError>
-        ensures { OnOk result (vec_items self.new.text ≡ vec_items self.old.text ++ count_row (map vec_items values.now)) }
-    {
-        match values {
-            [] => self.push_row("no Content-Type", b""),
-            [_] => Ok(()),
-            _ => self.push_row("several Content-Type lines (HTTP allows one)", b""),
-        }
-    }
-
-    /// Adds the rows of the `Accept` lines and of the offers, and returns whether an offer is acceptable or there are no offers. If not
-    /// `is_here`, adds nothing and returns `before`.
-    fn push_choice(
-        &mut self,
-        lines: &[Vec<u8>],
-        offers: &[Mime],
-        before: Option<bool>,
-        is_here: bool,
-    ) -> Result<Option<bool>, AllocError>
-        ensures { IfOk result (λ after. AddsChoice (map vec_items lines.now) (map (λ offer. offer.media) offers.now) (vec_items self.old.text) before is_here
-            (vec_items self.new.text) after) }
-    {
-        if !is_here {
-            return Ok(before);
-        }
-        let mut ranges = Vec::new(self.alloc);
-        self.push_lines(&mut ranges, lines)?;
-        let ranking = rank_offers(self.alloc, &ranges, offers)?;
-        self.push_offers(&ranges, offers, &ranking)?;
-        let best = best_of(offers, &ranking);
-        self.push_best(offers, best)?;
-        Ok(Some(is_acceptable(offers, best)))
-    }
-
-    /// Adds the rows of each value of `Content-Type`. Returns `before`, or `false` if a value is rejected.
-    fn push_types(&mut self, values: &[Vec<u8>], before: bool) -> Result<bool, AllocError>
-        ensures { IfOk result (λ are_good. AddsTypes (map vec_items values.now) (vec_items self.old.text) before (vec_items self.new.text) are_good) }
-    {
-        let mut are_good = before;
-        for value in values {
-            are_good &= self.push_type(trimmed(value))?;
-        }
-        Ok(are_good)
-    }
-
-    /// Adds the rows of a value of `Content-Type`: of its media type, or of its fault. Returns `true` if the value is accepted.
-    fn push_type(&mut self, value: &[u8]) -> Result<bool, AllocError>
-        ensures { IfOk result (λ is_good. AddsType value.now (vec_items self.old.text) (vec_items self.new.text) is_good) }
-    {
-        match content_type(self.alloc, value) {
-            Ok(mime) => {
-                self.push_media(&mime)?;
-                self.push_boundary(&mime)?;
-                Ok(true)
-            }
-            Err(FieldError::NoMemory) => Err(AllocError),
-            Err(error) => {
-                self.push_fault("bad Content-Type ", value, error)?;
-                Ok(false)
-            }
-        }
-    }
-
-    /// Adds the rows of a media type.
-    fn push_media(&mut self, mime: &Mime) -> Result<(), AllocError>
-        ensures { OnOk result (vec_items self.new.text ≡ vec_items self.old.text ++ media_rows mime.now.media) }
-    {
-        self.push_row("Content-Type ", mime.as_str().as_bytes())?;
-        self.push_row("essence ", mime.essence_str().as_bytes())?;
-        self.push_suffix(mime)?;
-        self.push_params(mime)
-    }
-
-    /// Adds the row of the suffix, if there is one.
-    fn push_suffix(&mut self, mime: &Mime) -> Result<(), AllocError>
-        ensures { OnOk result (vec_items self.new.text ≡ vec_items self.old.text ++ suffix_row (suffix_of mime.now.media)) }
-    {
-        match mime.suffix() {
-            Some(suffix) => self.push_row("suffix ", suffix.as_str().as_bytes()),
-            None => Ok(()),
-        }
-    }
-
-    /// Adds a row for each parameter, with the meaning of its value.
-    fn push_params(&mut self, mime: &Mime) -> Result<(), AllocError>
-        ensures { OnOk result (vec_items self.new.text ≡ vec_items self.old.text ++ flat_map param_row mime.now.media.pairs) }
-    {
-        for (name, value) in mime.params() {
-            self.push_param(name.as_str(), value.as_str())?;
-        }
-        Ok(())
-    }
-
-    /// Adds the row of a parameter.
-    fn push_param(&mut self, name: &str, value: &str) -> Result<(), AllocError>
-        ensures { OnOk result (vec_items self.new.text ≡ vec_items self.old.text ++ param_row (name.now, value.now)) }
-    {
-        self.push("param ")?;
-        self.push(name)?;
-        self.push("=")?;
-        unescape(value, &mut self.text)?;
-        self.push("\n")
-    }
-
-    /// Adds the row of the boundary, if there is one.
-    fn push_boundary(&mut self, mime: &Mime) -> Result<(), AllocError>
-        ensures { OnOk result (AddsBoundary mime.now.media (vec_items self.old.text) (vec_items self.new.text)) }
-    {
-        match boundary(self.alloc, mime)? {
-            Some(bytes) => self.push_row("boundary ", bytes.as_slice()),
-            None => Ok(()),
-        }
-    }
-
-    /// Adds the rows of a rejected value of a field.
-    fn push_fault(&mut self, label: &str, value: &[u8], error: FieldError) -> Result<(), AllocError>
-        ensures { OnOk result (vec_items self.new.text ≡ vec_items self.old.text ++ fault_rows label.now value.now error) }
-    {
-        let text = format!(in self.alloc; "{error}")?;
-        self.push_row(label, text.as_bytes())?;
-        self.push_shown("    ", value)?;
-        let (at, remark) = fault_place(value, error);
-        self.push_caret(at, remark)
-    }
-
-    /// Adds a row: a margin, `at` spaces, a caret and a remark.
-    fn push_caret(&mut self, at: usize, remark: &str) -> Result<(), AllocError>
-        ensures { OnOk result (vec_items self.new.text ≡ vec_items self.old.text ++ caret_row (at, remark.now)) }
-    {
-        self.push("    ")?;
-        self.push_spaces(at)?;
-        self.push("^")?;
-        self.push(remark)?;
-        self.push("\n")
-    }
-
-    /// Adds `count` spaces.
-    fn push_spaces(&mut self, count: usize) -> Result<(), AllocError>
-        ensures { OnOk result (vec_items self.new.text ≡ vec_items self.old.text ++ replicate count 32) }
-    {
-        for _ in 0..count {
-            self.text.push(b' ')?;
-        }
-        Ok(())
-    }
-
-    /// Adds a row: a label and bytes, with a dot for each byte that isn't printable ASCII.
-    fn push_shown(&mut self, label: &str, bytes: &[u8]) -> Result<(), AllocError>
-        ensures { OnOk result (vec_items self.new.text ≡ vec_items self.old.text ++ row label.now (shown bytes.now)) }
-    {
-        self.push(label)?;
-        for byte in bytes {
-            self.text.push(shown(*byte))?;
-        }
-        self.push("\n")
-    }
-
-    /// Adds the rows of the lines of `Accept`, and pushes their ranges to `ranges`. If there are no lines, adds a row that says this, and
-    /// reads `*/*`.
-    fn push_lines(&mut self, ranges: &mut Vec<Mime>, lines: &[Vec<u8>]) -> Result<(), AllocError>
-        ensures { OnOk result (AddsLines (lines_or_any (map vec_items lines.now)) (vec_items self.old.text ++ none_row (map vec_items lines.now))
-            (map (λ range. range.media) (vec_items ranges.old)) (vec_items self.new.text) (map (λ range. range.media) (vec_items ranges.new))) }
+    /// Adds the rows of the lines of `Accept` and of the offers, if there are lines.
+    fn push_choice(&mut self, alloc: Global, offers: &[Mime], lines: &[Vec<u8>]) -> Pushed
+        ensures { OnOk result (AddsChoice (map (λ offer. offer.media) offers.now) (map vec_items lines.now) (state_of self.old)
+            (state_of self.new)) }
     {
         if lines.is_empty() {
-            self.push_row("no Accept", b"")?;
-            return self.push_line(ranges, b"*/*");
+            return Ok(());
         }
-        for line in lines {
-            self.push_line(ranges, line)?;
-        }
+        let mut ranges = Vec::new(alloc);
+        push_lines(&mut self.text, &mut ranges, lines)?;
+        let ranking = rank_offers(alloc, &ranges, offers)?;
+        push_offers(&mut self.text, &ranges, offers, &ranking)?;
+        let best = best_of(offers, &ranking);
+        self.choice = Some(push_best(&mut self.text, offers, best)?);
         Ok(())
     }
 
-    /// Adds the rows of a line's entries, and pushes its ranges to `ranges`.
-    fn push_line(&mut self, ranges: &mut Vec<Mime>, line: &[u8]) -> Result<(), AllocError>
-        ensures { (lines : List (List ℕ)) (text : List ℕ) (all : List MediaType) → OnOk result
-            (AddsLines lines (vec_items self.new.text) (map (λ range. range.media) (vec_items ranges.new)) text all
-            → AddsLines (line.now ∷ lines) (vec_items self.old.text) (map (λ range. range.media) (vec_items ranges.old)) text all) }
+    /// Adds the rows of the offers if no head has an `Accept`, since a request without one accepts everything.
+    fn push_missing(&mut self, alloc: Global, offers: &[Mime]) -> Pushed
+        ensures { OnOk result (AddsChoice (map (λ offer. offer.media) offers.now) (none_lines self.old.choice)
+            (record (state_of self.old) { text = vec_items self.old.text ++ none_row self.old.choice }) (state_of self.new)) }
     {
-        let mut left = Some(line);
-        while let Some(text) = left {
-            let (entry, rest) = first_entry(text);
-            self.push_entry(ranges, trimmed(entry))?;
-            left = rest;
-        }
-        Ok(())
-    }
-
-    /// Adds the rows of an entry, and pushes it to `ranges` if it is a range.
-    fn push_entry(&mut self, ranges: &mut Vec<Mime>, entry: &[u8]) -> Result<(), AllocError>
-        ensures { OnOk result (AddsEntry entry.now (vec_items self.old.text)
-            (map (λ range. range.media) (vec_items ranges.old)) (vec_items self.new.text) (map (λ range. range.media) (vec_items ranges.new))) }
-    {
-        if entry.is_empty() {
+        if self.choice.is_some() {
             return Ok(());
         }
-        match content_type(self.alloc, entry) {
-            Ok(range) => {
-                self.push_range(&range)?;
-                ranges.push(range)?;
-                Ok(())
-            }
-            Err(FieldError::NoMemory) => Err(AllocError),
-            Err(error) => self.push_fault("bad Accept ", entry, error),
-        }
-    }
-
-    /// Adds the row of a range.
-    fn push_range(&mut self, range: &Mime) -> Result<(), AllocError>
-        ensures { OnOk result (vec_items self.new.text ≡ vec_items self.old.text ++ range_row range.now.media) }
-    {
-        self.push_weighed("Accept ", weight_of(range), range)?;
-        self.push(weight_remark(range))?;
-        self.push("\n")
-    }
-
-    /// Adds a label, a weight with three decimals, and a media type. `weight` is in thousandths.
-    fn push_weighed(&mut self, label: &str, weight: u16, mime: &Mime) -> Result<(), AllocError>
-        ensures { OnOk result (vec_items self.new.text ≡ vec_items self.old.text ++ weighed_text label.now weight mime.now.media) }
-    {
-        self.push(label)?;
-        self.text.extend_from_slice(&decimals(weight))?;
-        self.push(" ")?;
-        self.push(mime.as_str())
-    }
-
-    /// Adds the rows of offers in the order in which they are ranked.
-    fn push_offers(
-        &mut self,
-        ranges: &[Mime],
-        offers: &[Mime],
-        ranking: &[RankedOffer],
-    ) -> Result<(), AllocError>
-        ensures { OnOk result (vec_items self.new.text ≡ vec_items self.old.text
-            ++ offer_rows (map (λ range. range.media) ranges.now) (map (λ offer. offer.media) offers.now) ranking.now) }
-    {
-        for one in ranking {
-            self.push_offer(ranges, offers, one)?;
-        }
-        Ok(())
-    }
-
-    /// Adds the row of a ranked offer, or nothing if `offers` has no offer at its position.
-    fn push_offer(
-        &mut self,
-        ranges: &[Mime],
-        offers: &[Mime],
-        one: &RankedOffer,
-    ) -> Result<(), AllocError>
-        ensures { OnOk result (vec_items self.new.text ≡ vec_items self.old.text
-            ++ offer_row (map (λ range. range.media) ranges.now) one.now (slice_get (map (λ offer. offer.media) offers.now) one.now.offer)) }
-    {
-        let Some(offer) = offers.get(one.offer) else {
-            return Ok(());
-        };
-        self.push_weighed("offer ", one.weight, offer)?;
-        self.push_by(ranges, one.range)?;
-        self.push_lacking(ranges, one.weight, offer)?;
-        self.push("\n")
-    }
-
-    /// Adds ` by `, the number of the range at a position, counted from 1, and its text, or ` by none` if there is no position.
-    fn push_by(&mut self, ranges: &[Mime], at: Option<usize>) -> Result<(), AllocError>
-        ensures { OnOk result (vec_items self.new.text ≡ vec_items self.old.text ++ by_text (map (λ range. range.media) ranges.now) at) }
-    {
-        match at {
-            Some(at) => self.push_place(" by ", ranges, at, ""),
-            None => self.push(" by none"),
-        }
-    }
-
-    /// Adds the range that demands a parameter that an offer of weight 0 lacks, if there is such a range.
-    fn push_lacking(&mut self, ranges: &[Mime], weight: u16, offer: &Mime) -> Result<(), AllocError>
-        ensures { OnOk result (vec_items self.new.text ≡ vec_items self.old.text
-            ++ lacking_remark (map (λ range. range.media) ranges.now) weight offer.now.media) }
-    {
-        if weight > 0 {
-            return Ok(());
-        }
-        match lacking(ranges, offer) {
-            Some(at) => self.push_place(" (lacks a parameter of ", ranges, at, ")"),
-            None => Ok(()),
-        }
-    }
-
-    /// Adds the place, counted from 1, and the text of the range at a position, between two strings. Adds nothing if there is no such
-    /// range.
-    fn push_place(
-        &mut self,
-        before: &str,
-        ranges: &[Mime],
-        at: usize,
-        after: &str,
-    ) -> Result<(), AllocError>
-        ensures { OnOk result (vec_items self.new.text ≡ vec_items self.old.text
-            ++ place_text before.now at (slice_get (map (λ range. range.media) ranges.now) at) after.now) }
-    {
-        let Some(range) = ranges.get(at) else {
-            return Ok(());
-        };
-        let place = at + 1;
-        self.push(before)?;
-        self.push(format!(in self.alloc; "{place}")?.as_str())?;
-        self.push(" ")?;
-        self.push(range.as_str())?;
-        self.push(after)
-    }
-
-    /// Adds the row of the best offer, or `406 Not Acceptable` if no offer is acceptable. Adds nothing if there are no offers.
-    fn push_best(&mut self, offers: &[Mime], best: Option<&Mime>) -> Result<(), AllocError>
-        ensures { OnOk result (vec_items self.new.text ≡ vec_items self.old.text
-            ++ best_rows (map (λ offer. offer.media) offers.now) (option_map (λ best. best.now.media) best.entry)) }
-    {
-        if offers.is_empty() {
-            return Ok(());
-        }
-        match best {
-            Some(best) => self.push_row("best ", best.as_str().as_bytes()),
-            None => self.push_row("406 Not Acceptable", b""),
-        }
-    }
-
-    /// Adds a row if the input is cut off.
-    fn push_cut(&mut self, is_cut: bool) -> Result<(), AllocError>
-        ensures { OnOk result (vec_items self.new.text ≡ vec_items self.old.text ++ cut_row is_cut) }
-    {
-        if is_cut {
-            self.push_row("not read after 1048576 bytes", b"")
-        } else {
-            Ok(())
-        }
-    }
-
-    /// Adds a row: a label, bytes and a line feed.
-    fn push_row(&mut self, label: &str, text: &[u8]) -> Result<(), AllocError>
-        ensures { OnOk result (vec_items self.new.text ≡ vec_items self.old.text ++ row label.now text.now) }
-    {
-        self.push(label)?;
-        self.text.extend_from_slice(text)?;
-        self.push("\n")
-    }
-
-    /// Adds a string.
-    fn push(&mut self, text: &str) -> Result<(), AllocError>
-        ensures { OnOk result (vec_items self.new.text ≡ vec_items self.old.text ++ text.now) }
-    {
-        self.text.extend_from_slice(text.as_bytes())
+        push(&mut self.text, &[b"no Accept\n"])?;
+        let any = values_of(alloc, b"accept:", &[b"accept:*/*"])?;
+        self.push_choice(alloc, offers, &any)
     }
 }
 
-/// Returns `true` if an offer is chosen for a head with these lines of `Accept`: if there are lines, or if the head is the last one and
-/// `before` is `None`.
-fn chooses(lines: &[Vec<u8>], before: Option<bool>, is_last: bool) -> bool
-    ensures { result ≡ chooses (map vec_items lines.now) before is_last }
+/// The result of adding to a report.
+type Pushed = Result<(), AllocError>;
+
+/// Adds pieces of text.
+#[inline(always)]
+fn push(text: &mut Vec<u8>, pieces: &[&[u8]]) -> Pushed
+    ensures { OnOk result (vec_items text.new ≡ vec_items text.old ++ flat_map (λ piece. piece.now) pieces.now) }
 {
-    !lines.is_empty() || (is_last && before.is_none())
+    for piece in pieces {
+        text.extend_from_slice(piece)?;
+    }
+    Ok(())
 }
 
-/// Returns the position of the byte at fault, or the value's length if something is missing at its end. Also returns a remark, which is
-/// empty unless that byte begins a comment.
-fn fault_place(value: &[u8], error: FieldError) -> (usize, &'static str)
-    ensures { (result.0, result.1.now) ≡ fault_place value.now error }
+/// Returns one of two pieces of text: the first if `is_first`.
+fn choose(is_first: bool, first: &'static [u8], second: &'static [u8]) -> &'static [u8]
+    ensures { result.now ≡ (if is_first then first.now else second.now) }
 {
-    match error {
-        FieldError::NotUtf8 { pos } => (pos, ""),
-        FieldError::Invalid(ParseError::InvalidToken { pos, byte: b'(' }) => {
-            (pos, " (HTTP has no comments)")
-        }
-        FieldError::Invalid(ParseError::InvalidToken { pos, .. }) => (pos, ""),
-        _ => (value.len(), ""),
+    if is_first { first } else { second }
+}
+
+/// Adds a row, if there is one.
+fn push_if(text: &mut Vec<u8>, label: &[u8], bytes: Option<&[u8]>) -> Pushed
+    ensures { OnOk result (vec_items text.new ≡ vec_items text.old ++ row_if label.now (option_map (λ bytes. bytes.now) bytes.entry)) }
+{
+    match bytes {
+        Some(bytes) => push(text, &[label, bytes, b"\n"]),
+        None => Ok(()),
     }
 }
 
@@ -519,35 +149,274 @@ fn shown(byte: u8) -> u8
     }
 }
 
-/// Returns the text of a weight with three decimals. `weight` is in thousandths.
-fn decimals(weight: u16) -> [u8; 5]
-    ensures { result ≡ weight_text weight }
+/// Adds a row with bytes, if `is_wanted`. A dot replaces each byte that isn't printable ASCII.
+fn push_shown(text: &mut Vec<u8>, is_wanted: bool, label: &[u8], bytes: &[u8]) -> Pushed
+    ensures { OnOk result (vec_items text.new ≡ vec_items text.old ++ (if is_wanted then row label.now (shown bytes.now) else [])) }
 {
-    [
-        digit(weight / 1000),
-        b'.',
-        digit(weight / 100),
-        digit(weight / 10),
-        digit(weight),
-    ]
-}
-
-/// Returns the last digit of a number.
-fn digit(number: u16) -> u8
-    ensures { result ≡ digit number }
-{
-    b'0' + (number % 10) as u8
-}
-
-/// Returns a remark if a range's `q` isn't a weight, and an empty string otherwise.
-fn weight_remark(range: &Mime) -> &'static str
-    ensures { result.now ≡ weight_remark range.now.media }
-{
-    if has_weight(range) {
-        ""
-    } else {
-        " (q is no weight)"
+    if !is_wanted {
+        return Ok(());
     }
+    push(text, &[label])?;
+    for byte in bytes {
+        text.push(shown(*byte))?;
+    }
+    push(text, &[b"\n"])
+}
+
+/// Adds a row for each line with white space between the name `Content-Type` or `Accept` and its colon.
+fn push_spaced(text: &mut Vec<u8>, head: &[&[u8]]) -> Pushed
+    ensures { OnOk result (vec_items text.new ≡ vec_items text.old ++ flat_map spaced_row (map (λ line. line.now) head.now)) }
+{
+    for line in head {
+        let is_wanted = is_spaced(b"content-type", line) || is_spaced(b"accept", line);
+        push_shown(text, is_wanted, b"white space before the colon: ", line)?;
+    }
+    Ok(())
+}
+
+/// Adds the rows of values of `Content-Type`. Clears `are_good` if a value is rejected.
+fn push_types(text: &mut Vec<u8>, are_good: &mut bool, values: &[Vec<u8>]) -> Pushed
+    ensures { OnOk result (FoldsTo AddsType (vec_items text.old, are_good.old) (map vec_items values.now)
+        (vec_items text.new, are_good.new)) }
+{
+    for value in values {
+        push_type(text, are_good, value)?;
+    }
+    Ok(())
+}
+
+/// Adds the rows of a value of `Content-Type`, without the white space around it: of its media type, or of its fault. Clears `are_good` if
+/// the value is rejected.
+fn push_type(text: &mut Vec<u8>, are_good: &mut bool, value: &[u8]) -> Pushed
+    ensures { OnOk result (AddsType (vec_items text.old, are_good.old) value.now (vec_items text.new, are_good.new)) }
+{
+    let value = trimmed(value);
+    match content_type(*text.allocator(), value) {
+        Ok(mime) => {
+            let boundary = boundary(*text.allocator(), &mime)?;
+            push_media(text, &mime, boundary.as_deref())?;
+            Ok(())
+        }
+        Err(FieldError::NoMemory) => Err(AllocError),
+        Err(error) => {
+            *are_good = false;
+            push_fault(text, b"bad Content-Type ", value, error)?;
+            Ok(())
+        }
+    }
+}
+
+/// Returns the row that says that there is no `Content-Type`, or more than one.
+fn count_row(values: &[Vec<u8>]) -> &'static [u8]
+    ensures { result.now ≡ count_row (map vec_items values.now) }
+{
+    match values {
+        [] => b"no Content-Type\n",
+        [_] => b"",
+        _ => b"several Content-Type lines (HTTP allows one)\n",
+    }
+}
+
+/// Adds the rows of a media type.
+fn push_media(text: &mut Vec<u8>, mime: &Mime, boundary: Option<&[u8]>) -> Pushed
+    ensures { OnOk result (vec_items text.new ≡ vec_items text.old
+        ++ media_rows mime.now.media (option_map (λ bytes. bytes.now) boundary.entry)) }
+{
+    let (kept, essence) = (mime.as_str().as_bytes(), mime.essence_str().as_bytes());
+    push(
+        text,
+        &[b"Content-Type ", kept, b"\nessence ", essence, b"\n"],
+    )?;
+    let suffix = mime.suffix().map(|suffix| suffix.as_str().as_bytes());
+    push_if(text, b"suffix ", suffix)?;
+    push_params(text, mime)?;
+    push_if(text, b"boundary ", boundary)?;
+    Ok(())
+}
+
+/// Adds a row for each parameter, with the meaning of its value.
+fn push_params(text: &mut Vec<u8>, mime: &Mime) -> Pushed
+    ensures { OnOk result (vec_items text.new ≡ vec_items text.old ++ flat_map param_row mime.now.media.pairs) }
+{
+    for (name, value) in mime.params() {
+        push(text, &[b"param ", name.as_str().as_bytes(), b"="])?;
+        unescape(value.as_str(), text)?;
+        text.push(b'\n')?;
+    }
+    Ok(())
+}
+
+/// Adds the rows of a rejected value of a field.
+fn push_fault(text: &mut Vec<u8>, label: &[u8], value: &[u8], error: FieldError) -> Pushed
+    ensures { OnOk result (vec_items text.new ≡ vec_items text.old ++ fault_rows label.now value.now error) }
+{
+    let said = format!(in *text.allocator(); "{error}")?;
+    push(text, &[label])?;
+    push(text, &[said.as_bytes(), b"\n"])?;
+    push_shown(text, true, b"    ", value)?;
+    let (at, remark) = fault_place(value, error);
+    push(text, &[b"    "])?;
+    for _ in 0..at {
+        text.push(b' ')?;
+    }
+    push(text, &[b"^", remark, b"\n"])
+}
+
+/// Returns the position of the byte at fault, or the value's length if something is missing at its end. Also returns a remark, which is
+/// empty unless that byte begins a comment.
+fn fault_place(value: &[u8], error: FieldError) -> (usize, &'static [u8])
+    ensures { (result.0, result.1.now) ≡ fault_place value.now error }
+{
+    match error {
+        FieldError::NotUtf8 { pos } => (pos, b""),
+        FieldError::Invalid(ParseError::InvalidToken { pos, byte: b'(' }) => {
+            (pos, b" (HTTP has no comments)")
+        }
+        FieldError::Invalid(ParseError::InvalidToken { pos, .. }) => (pos, b""),
+        _ => (value.len(), b""),
+    }
+}
+
+/// Adds the rows of the entries of lines of `Accept`, and pushes their ranges to `ranges`.
+fn push_lines(text: &mut Vec<u8>, ranges: &mut Vec<Mime>, lines: &[Vec<u8>]) -> Pushed
+    ensures { OnOk result (AddsLines (map vec_items lines.now) (vec_items text.old, map (λ range. range.media) (vec_items ranges.old))
+        (vec_items text.new, map (λ range. range.media) (vec_items ranges.new))) }
+{
+    for line in lines {
+        let mut left = Some(line.as_slice());
+        while let Some(entries) = left {
+            let (entry, rest) = first_entry(entries);
+            push_entry(text, ranges, trimmed(entry))?;
+            left = rest;
+        }
+    }
+    Ok(())
+}
+
+/// Adds the rows of an entry, and pushes it to `ranges` if it is a range.
+fn push_entry(text: &mut Vec<u8>, ranges: &mut Vec<Mime>, entry: &[u8]) -> Pushed
+    ensures { OnOk result (AddsEntry (vec_items text.old, map (λ range. range.media) (vec_items ranges.old)) entry.now
+        (vec_items text.new, map (λ range. range.media) (vec_items ranges.new))) }
+{
+    if entry.is_empty() {
+        return Ok(());
+    }
+    match content_type(*text.allocator(), entry) {
+        Ok(range) => {
+            push_range(text, &range)?;
+            ranges.push(range)?;
+            Ok(())
+        }
+        Err(FieldError::NoMemory) => Err(AllocError),
+        Err(error) => {
+            push_fault(text, b"bad Accept ", entry, error)?;
+            Ok(())
+        }
+    }
+}
+
+/// Adds the row of a range.
+fn push_range(text: &mut Vec<u8>, range: &Mime) -> Pushed
+    ensures { OnOk result (vec_items text.new ≡ vec_items text.old ++ range_row range.now.media) }
+{
+    push_weighed(text, b"Accept ", weight_of(range), range)?;
+    let end = choose(has_weight(range), b"\n", b" (q is no weight)\n");
+    push(text, &[end])?;
+    Ok(())
+}
+
+/// Adds a label, a weight with three decimals, and a media type. `weight` is in thousandths.
+fn push_weighed(text: &mut Vec<u8>, label: &[u8], weight: u16, mime: &Mime) -> Pushed
+    ensures { OnOk result (vec_items text.new ≡ vec_items text.old ++ weighed_text label.now weight mime.now.media) }
+{
+    let decimals = [
+        b'0' + (weight / 1000 % 10) as u8,
+        b'.',
+        b'0' + (weight / 100 % 10) as u8,
+        b'0' + (weight / 10 % 10) as u8,
+        b'0' + (weight % 10) as u8,
+    ];
+    push(text, &[label, &decimals, b" ", mime.as_str().as_bytes()])
+}
+
+/// Adds the rows of offers in the order in which they are ranked.
+fn push_offers(
+    text: &mut Vec<u8>,
+    ranges: &[Mime],
+    offers: &[Mime],
+    ranking: &[RankedOffer],
+) -> Pushed
+    ensures { OnOk result (vec_items text.new ≡ vec_items text.old
+        ++ offer_rows (map (λ range. range.media) ranges.now) (map (λ offer. offer.media) offers.now) ranking.now) }
+{
+    for one in ranking {
+        push_offer(text, ranges, one, nth(offers, one.offer))?;
+    }
+    Ok(())
+}
+
+/// Returns the media type at a position, or `None` if there is none.
+fn nth(mimes: &[Mime], at: usize) -> Option<&Mime>
+    ensures found { option_map (λ mime. mime.now.media) result ≡ slice_get (map (λ mime. mime.media) mimes.now) at }
+    ensures within { IfSome result (λ _. at < length mimes.now) }
+{
+    mimes.get(at)
+}
+
+/// Adds the row of a ranked offer, or nothing if there is no offer.
+fn push_offer(
+    text: &mut Vec<u8>,
+    ranges: &[Mime],
+    one: &RankedOffer,
+    offer: Option<&Mime>,
+) -> Pushed
+    ensures { OnOk result (vec_items text.new ≡ vec_items text.old
+        ++ offer_row (map (λ range. range.media) ranges.now) one.now (option_map (λ offer. offer.now.media) offer.entry)) }
+{
+    let Some(offer) = offer else {
+        return Ok(());
+    };
+    push_weighed(text, b"offer ", one.weight, offer)?;
+    push_place(text, ranges, b" by ", one.range, b"", b" by none")?;
+    let lacking = if one.weight > 0 {
+        None
+    } else {
+        lacking(ranges, offer)
+    };
+    push_place(
+        text,
+        ranges,
+        b" (lacks a parameter of ",
+        lacking,
+        b")\n",
+        b"\n",
+    )
+}
+
+/// Adds the number, counted from 1, and the text of the range at a position, between two strings. If there is no position, adds `none`.
+fn push_place(
+    text: &mut Vec<u8>,
+    ranges: &[Mime],
+    before: &[u8],
+    at: Option<usize>,
+    after: &[u8],
+    none: &[u8],
+) -> Pushed
+    ensures { OnOk result (vec_items text.new ≡ vec_items text.old
+        ++ place_text (map (λ range. range.media) ranges.now) before.now at after.now none.now) }
+{
+    let Some(at) = at else {
+        return push(text, &[none]);
+    };
+    let Some(range) = nth(ranges, at) else {
+        return Ok(());
+    };
+    let place = at + 1;
+    let number = format!(in *text.allocator(); "{place}")?;
+    push(text, &[before])?;
+    push(text, &[number.as_bytes()])?;
+    push(text, &[b" ", range.as_str().as_bytes(), after])?;
+    Ok(())
 }
 
 /// Returns the best offer, or `None` if no offer is acceptable.
@@ -558,21 +427,31 @@ fn best_of<'o>(offers: &'o [Mime], ranking: &[RankedOffer]) -> Option<&'o Mime>
     if first.weight == 0 {
         return None;
     }
-    offers.get(first.offer)
+    nth(offers, first.offer)
 }
 
-/// Returns `true` if there is a best offer, or there are no offers.
-fn is_acceptable(offers: &[Mime], best: Option<&Mime>) -> bool
-    ensures { result ≡ is_acceptable (map (λ offer. offer.media) offers.now) (option_map (λ best. best.now.media) best.entry) }
+/// Adds the row of the best offer, or `406 Not Acceptable` if no offer is acceptable. Adds nothing if there are no offers. Returns whether
+/// an offer is acceptable or there are no offers.
+fn push_best(text: &mut Vec<u8>, offers: &[Mime], best: Option<&Mime>) -> Result<bool, AllocError>
+    ensures rows { OnOk result (vec_items text.new ≡ vec_items text.old
+        ++ best_row (map (λ offer. offer.media) offers.now) (option_map (λ best. best.now.media) best.entry)) }
+    ensures acceptable { IfOk result (λ acceptable. acceptable
+        ≡ is_acceptable (map (λ offer. offer.media) offers.now) (option_map (λ best. best.now.media) best.entry)) }
 {
-    offers.is_empty() || best.is_some()
+    let Some(best) = best else {
+        let none = offers.is_empty();
+        push(text, &[choose(none, b"", b"406 Not Acceptable\n")])?;
+        return Ok(none);
+    };
+    push(text, &[b"best ", best.as_str().as_bytes(), b"\n"])?;
+    Ok(true)
 }
 
 /// Returns the verdict on all heads.
-fn verdict_of(seen: Seen) -> Verdict
-    ensures { result ≡ verdict_of seen.are_good seen.choice }
+fn verdict_of(are_good: bool, choice: Option<bool>) -> Verdict
+    ensures { result ≡ verdict_of are_good choice }
 {
-    if seen.are_good && seen.choice.unwrap_or(true) {
+    if are_good && choice.unwrap_or(true) {
         Verdict::Acceptable
     } else {
         Verdict::NotAcceptable

@@ -39,17 +39,9 @@ pub(crate) fn without_controls(alloc: Global, bytes: Vec<u8>) -> Result<Vec<u8>,
     ensures { IfOk result (λ text. vec_items text ≡ without_controls (vec_items bytes)) }
 {
     // Most reports have no control character.
-    if may_have_controls(&bytes) {
-        dotted(alloc, &bytes)
-    } else {
-        Ok(bytes)
+    if !may_have_controls(&bytes) {
+        return Ok(bytes);
     }
-}
-
-/// Returns a copy of bytes with a dot in place of each control character.
-fn dotted(alloc: Global, bytes: &[u8]) -> Result<Vec<u8>, AllocError>
-    ensures { IfOk result (λ text. vec_items text ≡ without_controls bytes.now) }
-{
     let mut text = Vec::new(alloc);
     let mut passed = 0;
     for (at, &byte) in bytes.iter().enumerate() {

@@ -56,6 +56,7 @@ mod value;
 mod weights;
 
 pub use crate::accept::Accept;
+pub use crate::list::trimmed;
 pub use crate::multipart::{boundary, is_boundary};
 pub use crate::parameter::{with_boundary, with_charset, with_parameter};
 pub use crate::quoted::unescape;

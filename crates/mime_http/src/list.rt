@@ -2,7 +2,7 @@
 
 ghost use Rattle.std.specs.Prelude.{◌≡◌, ◌<◌, ◌≤◌, ◌+◌, length, drop};
 ghost use Rattle.mime.specs.{Bytes.comma_byte, Bytes.quote_byte, Grammar.is_space};
-ghost use Rattle.mime_http.specs.{HttpList.trim_start, HttpList.trim_end, LineCut.Outside, LineCut.Quoted, LineCut.IsNextOutside, LineCut.before_mark, LineCut.piece_len};
+ghost use Rattle.mime_http.specs.{HttpList.trim_start, HttpList.trim_end, HttpList.trimmed, LineCut.Outside, LineCut.Quoted, LineCut.IsNextOutside, LineCut.before_mark, LineCut.piece_len};
 
 use mime_search::{Class, content_end, first_stop};
 
@@ -136,4 +136,12 @@ pub(crate) fn trim_end(piece: &[u8]) -> &[u8]
         return piece;
     }
     trim_spaces_after(piece)
+}
+
+/// Returns bytes without the white space around them: `a b` for ` a b `. White space is spaces and tabs (RFC 9110, 5.5 and 5.6.3).
+#[inline(always)]
+pub fn trimmed(bytes: &[u8]) -> &[u8]
+    ensures { result.now ≡ trimmed bytes.now }
+{
+    trim_end(trim_start(bytes))
 }

@@ -29,7 +29,7 @@ use crate::http::{
     show, show_accept, show_accept_in_latin_1, show_best, show_boundary,
     show_content_type_in_latin_1, show_covers, show_order, show_text, show_unescaped,
     show_unescaped_in_room, show_value, show_weight_of, show_weights, show_with_boundary,
-    show_with_charset, show_with_parameter,
+    show_with_charset, show_with_parameter, shown,
 };
 use crate::items::{show_again, show_items, show_list};
 use crate::recipes::{
@@ -47,7 +47,7 @@ use mime_examples::answer::{refusal, refusal_of_body, status_of};
 use mime_examples::callers::{has_suffix, reads_alike};
 use mime_examples::reader::reader_of;
 use mime_examples::utf8::says_utf8;
-use mime_http::{FieldError, content_type, is_boundary};
+use mime_http::{FieldError, content_type, is_boundary, trimmed};
 use std::alloc::Global;
 
 /// Writes the answers to a row.
@@ -106,6 +106,7 @@ fn show_of_headers(alloc: Global, out: &mut String, word: &str, strings: &[Strin
         "covers" => show_covers(alloc, out, one, two),
         "is_boundary" => show(out, &is_boundary(one.as_bytes())),
         "order" => show_order(alloc, out, strings),
+        "trimmed" => show_text(out, Some(shown(trimmed(one.as_bytes())))),
         "unescape" => show_unescaped(alloc, out, one, two),
         "unescape in room" => show_unescaped_in_room(alloc, out, one, two),
         "weight" => show_weights(alloc, out, strings),

@@ -1,8 +1,5 @@
 -- The first line loses its end and its mark.
-use Rattle.std.proofs.Common.{◌≡◌, ℕ, List, ◌∷◌, map, ap, sym, ◌∙◌}
-use Rattle.std.specs.Str.Lines.{strip_carriage_return}
-use Rattle.mime_io.specs.Lines.{lines_of}
-use Rattle.mime_headers.specs.Head.{bare_lines, without_mark}
+use Rattle.mime_headers.proofs.Common.{List, ap, bare_lines, lines_of, map, strip_carriage_return, sym, without_mark, ℕ, ◌∙◌, ◌∷◌, ◌≡◌}
 use Rattle.mime_headers.proofs.head.bare_line.Goals as goal
 
 -- an input's first line, without its end and its mark

@@ -1,6 +1,5 @@
 -- All lines so far are remarks.
-use Rattle.std.proofs.Common.{◌≡◌, drop, map}
-use Rattle.mime_headers.specs.Head.{title_of}
+use Rattle.mime_headers.proofs.Common.{drop, map, title_of, ◌≡◌}
 use Rattle.mime_headers.proofs.head.title_of.Given as goal
 
 abbrev pub invariant-loop-line : goal.invariant-loop-line

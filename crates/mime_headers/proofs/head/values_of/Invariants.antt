@@ -1,6 +1,5 @@
 -- The values that were found, and those that are left to find, are all.
-use Rattle.std.proofs.Common.{◌≡◌, ◌++◌, drop, map, vec_items}
-use Rattle.mime_headers.specs.Head.{values_of}
+use Rattle.mime_headers.proofs.Common.{drop, map, values_of, vec_items, ◌++◌, ◌≡◌}
 use Rattle.mime_headers.proofs.head.values_of.Given as goal
 
 abbrev pub invariant-loop-at : goal.invariant-loop-at

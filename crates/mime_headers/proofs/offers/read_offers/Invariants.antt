@@ -1,0 +1,12 @@
+-- The answer to the words that are left is the answer to all.
+use Rattle.mime_headers.proofs.Common.{AreOffers, BadOffer, List, MediaType, Result, [], drop, into_iter_items, into_iter_len, map, string_bytes, take, vec_items}
+use Rattle.mime_headers.proofs.offers.read_offers.Given as goal
+
+abbrev pub invariant-loop-word : goal.invariant-loop-word
+invariant-loop-word l =
+    (all : Result (List MediaType) BadOffer)
+    → AreOffers (map string_bytes (take (into_iter_len l.arguments) (into_iter_items l.arguments))) (map (λ offer. offer.media) (vec_items l.offers)) all
+    → AreOffers (map string_bytes (drop 1 (take (into_iter_len l.fn.arguments) (into_iter_items l.fn.arguments)))) [] all
+
+abbrev pub decreases-loop-word : goal.decreases-loop-word
+decreases-loop-word l = into_iter_len l.arguments

@@ -1,8 +1,0 @@
--- What is added and what is left to add make up the rows.
-use Rattle.std.proofs.Common.{◌≡◌, ◌++◌, vec_items}
-use Rattle.mime_headers.proofs.Rows.{given_rows}
-use Rattle.mime_headers.proofs.report.Rows.push_params.Given as goal
-
-abbrev pub invariant-loop-name : goal.invariant-loop-name
-invariant-loop-name l =
-    vec_items l.self.text ++ given_rows l.name-iterator ≡ vec_items l.initial.self.text ++ given_rows l.initial.name-iterator

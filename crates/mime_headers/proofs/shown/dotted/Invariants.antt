@@ -1,7 +1,0 @@
--- What is added, and what is left to show, make up what is shown.
-use Rattle.std.proofs.Common.{◌≡◌, ◌++◌, drop, vec_items}
-use Rattle.mime_headers.specs.Shown.{shown_after, without_controls}
-use Rattle.mime_headers.proofs.shown.dotted.Given as goal
-
-abbrev pub invariant-loop-at : goal.invariant-loop-at
-invariant-loop-at l = vec_items l.text ++ shown_after l.passed (drop l.at l.bytes) ≡ without_controls l.fn.bytes
