@@ -3,18 +3,20 @@ use Rattle.mime_headers.proofs.Common.{AddsHead, Bool, List, Some, [], ap, appen
 use Rattle.mime_headers.proofs.Rows.{folds-next}
 use Rattle.mime_headers.proofs.report.report_of.Goals as goal
 
--- an input that isn't cut off has a head
+-- heads with a head before them are some
 one_of : {X : Type 0} (is_end begins : Bool) (head : X) (heads others more : List X) → more ≢ []
     → (if is_end then head ∷ heads else if begins then head ∷ others else more) ≢ []
 one_of true begins head heads others more some none = absurd (cc)
 one_of false true head heads others more some none = absurd (cc)
 one_of false false head heads others more some none = some none
 
+-- lines of an input that isn't cut off have a head
 some_head : (head lines : List (List ℕ)) → heads_from false (Some head) lines ≢ []
 some_head head [] none = absurd (cc)
 some_head head (line ∷ lines) none =
     one_of (length line == 0) (is_indented line && not (length head == 0)) head _ _ _ (some_head (head ++ (line ∷ [])) lines) none
 
+-- so an input that has none is cut off
 none_cut : (cut : Bool) (lines : List (List ℕ)) → heads_of cut lines ≡ [] → (cut ≡ true) × (heads_of true lines ≡ [])
 none_cut true lines none = (refl, none)
 none_cut false lines none =
