@@ -1,6 +1,6 @@
 -- Heads, rows and verdicts for which each definition is true, and others for which it is false, so that a page that says less or more
 -- doesn't check.
-use Rattle.mime_headers.proofs.Common.{AreOffers, BadOffer, Bool, Err, Fault, FieldError, Global, Invalid, InvalidToken, IsHttpMediaType, IsRead, List, MediaType, MissingSubtype, None, NotUtf8, Ok, Some, String, Verdict, [], a_word, bad_word, bare_lines, begins, best_of, best_row, codes, continued, control_len, count_row, cut_row, decimal, false, fault_place, fault_rows, flat_map, goes_on, heads_of, is_acceptable, is_cut, lacking_at, length, map, media_rows, no_memory, no_word, none_lines, none_row, offer_rows, place_text, range_row, refl, shown, spaced_row, string_bytes, title_row, trimmed, true, unindented, values_of, verdict_of, weight_text, with_entry, without_controls, without_mark, ℕ, ◌++◌, ◌∷◌, ◌≡◌, ◌≢◌}
+use Rattle.mime_headers.proofs.Common.{AreOffers, BadOffer, Bool, Err, Fault, FieldError, Global, Invalid, InvalidToken, IsHttpMediaType, IsRead, List, MediaType, MissingSubtype, None, NotUtf8, Ok, Some, String, Verdict, [], a_word, bad_word, bare_lines, begins, best_of, best_row, codes, continued, control_len, count_row, cut_row, decimal, false, fault_place, fault_rows, flat_map, goes_on, heads_of, is_acceptable, is_cut, lacking_at, length, map, media_rows, no_memory, no_word, none_lines, none_row, offer_rows, place_text, range_row, refl, shown, spaced_row, string_bytes, title_row, trimmed, true, values_of, verdict_of, weight_text, with_entry, without_controls, without_mark, ℕ, ◌++◌, ◌∷◌, ◌≡◌, ◌≢◌}
 
 -- white space before and after, which a form feed and a carriage return aren't; a mark with its space, alone, and no mark
 bare :

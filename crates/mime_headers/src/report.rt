@@ -1,6 +1,6 @@
 //! The report on heads.
 
-ghost use Rattle.std.specs.Prelude.{◌≡◌, ◌<◌, ◌++◌, [], length, map, flat_map, slice_get, if◌then◌else◌, OnOk, IfOk, IfSome, MatchOption, option_map};
+ghost use Rattle.std.specs.Prelude.{◌≡◌, ◌<◌, ◌++◌, [], length, map, flat_map, slice_get, true, if◌then◌else◌, OnOk, IfOk, IfSome, MatchOption, option_map};
 ghost use Rattle.std.specs.List.{FoldsTo};
 ghost use Rattle.std.specs.Vec.{vec_items};
 ghost use Rattle.mime_io.specs.Lines.{row};
@@ -27,7 +27,7 @@ pub(crate) fn report_of(
     is_cut: bool,
     offers: &[Mime],
 ) -> Result<Option<(Vec<u8>, Verdict)>, AllocError>
-    ensures { IfOk result (λ answer. MatchOption answer (heads_of is_cut (bare_lines input.now) ≡ []) (λ report.
+    ensures { IfOk result (λ answer. MatchOption answer ((is_cut ≡ true) × (heads_of true (bare_lines input.now) ≡ [])) (λ report.
         IsReport (map (λ offer. offer.media) offers.now) is_cut (heads_of is_cut (bare_lines input.now)) (vec_items report.0) report.1)) }
 {
     let heads = heads_of(alloc, input, is_cut)?;
