@@ -75,8 +75,8 @@ pub trait ParamKey: Drop {
     fn accepts(&self, name: Name<'_>) -> bool
         ensures { IsTrue result ↔ Accepts self.now name.entry.text.now name.entry.ignores_case };
 
-    /// Returns the text that equals, ignoring ASCII case, each name that the key accepts, if there is such a text: `P`
-    /// for `TextKey("P")`. The text makes a look-up faster, and doesn't change its result. The default is `None`.
+    /// Returns the text that every accepted name equals, ignoring ASCII case, if there is such a text: `P` for
+    /// `TextKey("P")`. The text makes a look-up faster, and doesn't change its result. The default is `None`.
     #[inline]
     fn text(&self) -> Option<&str>
         ensures { IfSome result (λ text. (name : List ℕ) → Accepts self.now name true → lowered name ≡ lowered text.now) }

@@ -20,8 +20,8 @@ pub use crate::scan::fault::{FromStrError, ParseError};
 pub(crate) use crate::scan::reader::{ByteReader, NEAR};
 
 /// The positions of an accepted string's parts, in bytes from 0, and the number of its parameters. The order of the
-/// fields matters for speed: if the byte of another variant of `Scanned` were beside a position, the compiler would
-/// move this position in two parts.
+/// fields matters for speed: the compiler would move a position in two parts if it were beside the byte of another
+/// variant of `Scanned`.
 #[derive(Clone, Copy)]
 pub(crate) struct Positions {
     /// The plus before the suffix.

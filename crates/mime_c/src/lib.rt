@@ -402,7 +402,7 @@ pub extern "C" fn mime_accept(
     MIME_OK
 }
 
-/// Reads an `Accept` header of one line, or of no lines if not `is_there`. Bad entries aren't kept.
+/// Reads an `Accept` header of one line, or of none if `is_there` is false. Bad entries aren't kept.
 fn accepted(alloc: Global, is_there: bool, line: &[u8]) -> Result<Accept, AllocError>
     ensures header { IfOk result (λ accept. (header : Header) × IsHeader (lines_of is_there line.now) header × (accept.ranges ≡ header.ranges)) }
     ensures nothing { HaveNoEntry (lines_of is_there line.now) → IsOk result }

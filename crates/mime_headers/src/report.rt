@@ -393,7 +393,7 @@ fn push_offer(
     )
 }
 
-/// Adds the number, counted from 1, and the text of the range at a position, between two strings. If there is no position, adds `none`.
+/// Adds `before`, the number (from 1) and the text of the range at a position, and `after`; or `none`, if there is no position.
 fn push_place(
     text: &mut Vec<u8>,
     ranges: &[Mime],

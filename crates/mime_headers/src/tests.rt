@@ -20,7 +20,7 @@ struct Calls {
 }
 
 impl Calls {
-    /// Removes the next expected call if it is `call` or fails.
+    /// Removes the next expected call if it is `call` or `x`.
     fn take(&mut self, call: u8) -> io::Result<()> {
         match self.left.split_first() {
             Some((next, left)) if *next == call || *next == b'x' => {

@@ -107,9 +107,9 @@ fn read_written(alloc: Global, text: &[u8]) -> Result<Mime, FieldError>
     }
 }
 
-/// Returns the fault of a value, if it follows from `fault`, the fault or `NoMemory` that `mime` returns for the value without the white
-/// space around it. At a byte that `mime` rejects, HTTP rejects the value, too, unless the byte is white space or a semicolon. What `mime`
-/// finds missing at the value's end is missing for HTTP, too, unless white space is there.
+/// Returns the fault of a value, if it follows from `fault`, which `mime` returns for the value without the white space around it. At a
+/// byte that `mime` rejects, HTTP rejects the value, too, unless the byte is white space or a semicolon. What `mime` finds missing at the
+/// value's end is missing for HTTP, too, unless white space is there.
 /// This function isn't inlined, since it would take registers of the caller.
 #[inline(never)]
 fn same_fault_far(value: &[u8], fault: ParseError) -> Option<ParseError>

@@ -189,7 +189,7 @@ fn texts_of(alloc: Global, shapes: &[Shape], random: &mut Random) -> Result<Vec<
     Ok(texts)
 }
 
-/// Adds the essence of a media type, and the results of looking up, hashing, comparing, cloning and walking the parameters.
+/// Adds a media type's essence, and the results of look-ups, a hash, comparisons, a clone and a walk over the parameters.
 fn look_up(alloc: Global, mime: &Mime, digest: &mut Digest) -> Result<(), AllocError> {
     digest.media_type(mime);
     digest.found(mime.get_param(CHARSET));

@@ -50,8 +50,8 @@ fn end_of_token(text: &[u8], from: usize, with_plus: bool) -> usize
     at
 }
 
-/// Returns the same as `end_of_token` if `with_plus` is false. This function isn't inlined: beside other loops, its
-/// loop would have twice as many instructions.
+/// Returns `end_of_token(text, from, false)`. This function isn't inlined: beside other loops, its loop would have
+/// twice as many instructions.
 #[inline(never)]
 fn end_at_plus(text: &[u8], from: usize) -> usize
     requires { from ≤ length text.now }
@@ -61,7 +61,7 @@ fn end_at_plus(text: &[u8], from: usize) -> usize
     end_of_token(text, from, false)
 }
 
-/// Returns the same as `end_of_token` if `with_plus` is true. Like `end_at_plus`, it isn't inlined.
+/// Returns `end_of_token(text, from, true)`. Like `end_at_plus`, it isn't inlined.
 #[inline(never)]
 fn end_past_pluses(text: &[u8], from: usize) -> usize
     requires { from ≤ length text.now }
