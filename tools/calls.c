@@ -1,7 +1,7 @@
 /* SPDX-License-Identifier: MIT */
 /* Makes calls of include/mime.h for tools/calls.py. For each call standard input has a line: its name, the size of its buffer, whether it
- * may do without memory that is refused, and the lengths of three strings; then it has the strings. Each of them, and the buffer, ends where
- * a page begins that can't be touched. Standard output has, as numbers of eight bytes, what the call answers and finds, its requests for
+ * may do without memory that is refused, and the lengths of three strings; then it has these. Each of them, and the buffer, ends where a
+ * page begins that can't be touched. Standard output has, as numbers of eight bytes, what the call answers and finds, its requests for
  * memory, the largest, the most blocks and bytes that it held, its bytes of stack, and the count of bytes that it wrote; then these.
  *
  * Each call is also made with each smaller buffer, where it has no room, and with each of its requests for memory refused. What is wrong
