@@ -1,9 +1,8 @@
 /* SPDX-License-Identifier: MIT */
 /* Makes calls of include/mime.h for tools/calls.py. For each call standard input has a line: its name, the size of its buffer, whether it
- * may do without memory that is refused, and the lengths of three strings; then it has the strings. Each of them, and the buffer, ends
- * where a page begins that can't be touched. Standard output has, as numbers of eight bytes, what the call answers and finds, its requests
- * for memory, the largest, the most blocks and bytes that it held, its bytes of stack, and the count of bytes that it wrote; then it has
- * these.
+ * may do without memory that is refused, and the lengths of three strings; then it has these. Each of them, and the buffer, ends where a
+ * page begins that can't be touched. Standard output has, as numbers of eight bytes, what the call answers and finds, its requests for
+ * memory, the largest, the most blocks and bytes that it held, its bytes of stack, and the count of bytes that it wrote; then these.
  *
  * Each call is also made with each smaller buffer, where it has no room, and with each of its requests for memory refused. What is wrong
  * there ends this program with status 1. With an argument each call is made once, on a stack of its own, which is measured.
@@ -102,9 +101,8 @@ static void check(int is_so)
 /* How many bytes the call has written, from the start of its buffer on, or less. */
 static size_t written(void)
 {
-    size_t count = call == ORDER ? found.length * sizeof(size_t) : found.length + (call > LIST);
-    if (answer != MIME_OK || call >= BEST)
-        count = 0;
+    const size_t all = call == ORDER ? found.length * sizeof(size_t) : found.length + (call > LIST);
+    const size_t count = answer == MIME_OK && call < BEST ? all : 0;
     check(count <= out_len && memcmp(out_end - out_len - 8, untouched, 8) == 0
           && memcmp(out_end - out_len + count, untouched, out_len - count) == 0);
     return count;
@@ -127,13 +125,12 @@ static void look_up_each(void)
     static char name[ROOM];
     check(mime_param(out, &found, answer == MIME_OK ? "/" : "q") == NULL);
     for (const char *it = answer == MIME_OK ? mime_next(out) : out; it < out + found.printed; it = mime_next(mime_next(it))) {
-        size_t size = strlen(it);
+        const size_t size = strlen(it);
         look_up(it);
-        for (size_t i = 0; i < size; i++)
-            name[i] = (char)toupper((unsigned char)it[i]);
-        name[size] = 'x';
-        for (size_t left = size + 2; left-- > 0;) {
-            name[left] = 0;
+        look_up("");
+        for (size_t i = 0; i <= size; i++) {
+            name[i] = i < size ? (char)toupper((unsigned char)it[i]) : 'x';
+            name[i + 1] = 0;
             look_up(name);
         }
     }
@@ -181,7 +178,6 @@ static size_t stack_of_call(void)
 int main(int argc, char **argv)
 {
     char name[16], *ends[STRINGS + 1];
-    size_t stack = 0;
     int may_do_without;
     (void)argv;
     for (int i = 0; i <= STRINGS; i++) {
@@ -192,19 +188,16 @@ int main(int argc, char **argv)
     out_end = ends[STRINGS];
     memset(untouched, 'U', ROOM);
     while (scanf("%15s%zu%d%zu%zu%zu", name, &out_len, &may_do_without, &len[0], &len[1], &len[2]) == 6 && getchar() == '\n') {
-        for (int i = 0; i < STRINGS; i++) {
-            in[i] = ends[i] - len[i];
-            if (fread(in[i], 1, len[i], stdin) != len[i])
+        for (int i = 0; i < STRINGS; i++)
+            if (fread(in[i] = ends[i] - len[i], 1, len[i], stdin) != len[i])
                 return 2;
-        }
         for (call = 0; call < NONE && strcmp(names[call], name) != 0; call++)
             ;
-        if (argc > 1)
-            stack = stack_of_call();
-        else
+        const size_t stack = argc > 1 ? stack_of_call() : 0;
+        if (argc == 1)
             make_each(may_do_without);
-        size_t count = written();
-        size_t said[] = {answer, found.length, found.params, found.printed, found.slash, found.subtype_end, found.pos, found.byte,
+        const size_t count = written();
+        const size_t said[] = {answer, found.length, found.params, found.printed, found.slash, found.subtype_end, found.pos, found.byte,
                          requests, largest, most_blocks, most_held, stack, count};
         fwrite(said, sizeof said, 1, stdout);
         fwrite(out_end - out_len, 1, count, stdout);

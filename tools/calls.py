@@ -1,5 +1,5 @@
-"""What the calls of include/mime.h have to answer: tools/c_calls tries this. tools/calls.c makes the calls. Each check of a text is a
-generator that yields calls, is sent what they gave, and compares it with what the model of mime_http says, or other calls do."""
+"""What the calls of include/mime.h, which tools/calls.c makes for tools/c_calls, have to answer. Each check of a text is a generator that
+yields calls, is sent what they gave, and compares it with what the model of mime_http says, or other calls do."""
 
 import io
 import random
@@ -20,16 +20,10 @@ OK, _, MISSING_SUBTYPE, _, _, _, INVALID_BYTE, NO_MEMORY, NOT_UTF8, _, NOT_ACCEP
 # The length of the longest media type that asks for no memory.
 SHORT = 40
 # The size of the buffer that a call needs, if it needs one.
-ROOMS = {
-    "read": lambda text: 2 * len(text) + 2,
-    "content_type": lambda value: 3 * len(value) + 2,
-    "accept": lambda text: 3 * len(text) + 3,
-    "list": lambda text: 2 * len(text),
-    "order": lambda accept, offers: 8 * offers.count(",") + 8,
-    "boundary": lambda value: 71,
-    "unescape": lambda value: len(value) + 1,
-    "set_parameter": lambda text, name, value: 2 * len(text) + len(name) + 2 * len(value) + 6,
-}
+ROOMS = {"read": lambda text: 2 * len(text) + 2, "content_type": lambda value: 3 * len(value) + 2,
+         "accept": lambda text: 3 * len(text) + 3, "list": lambda text: 2 * len(text),
+         "order": lambda accept, offers: 8 * offers.count(",") + 8, "boundary": lambda value: 71, "unescape": lambda value: len(value) + 1,
+         "set_parameter": lambda text, name, value: 2 * len(text) + len(name) + 2 * len(value) + 6}
 OFFERS = ["text/html", "image/svg+xml;p=x", "a/b", "text/html"]
 # What the texts near the grammar are made of.
 PIECES = ["a", "text", "/", "/", ";", ";", "; ", "=", "=", '"', '"', "\\", "+", ",", "*/*", "a/b", "text/html;q=0.5", " ",
@@ -38,6 +32,8 @@ PIECES = ["a", "text", "/", "/", ";", ";", "; ", "=", "=", '"', '"', "\\", "+", 
 # The numbers that tools/calls.c gives for a call, the last of which counts the bytes that it gives then; and those as strings, too.
 NUMBERS = struct.Struct("14N")
 Given = namedtuple("Given", "answer length params printed slash subtype_end pos byte requests largest blocks held stack written strings")
+# What a call writes for these strings: a zero behind each.
+written = lambda *strings: "".join(f"{it}\0" for it in strings)
 
 
 def call(name, *strings, may_do_without=False):
@@ -67,7 +63,7 @@ def header(value):
 def check_found(it, text):
     """Checks the strings that were found, or the fault, which lies within the text, at the byte that was found, or at one past ASCII."""
     if it.answer == OK:
-        essence, printed = it.strings[0], it.strings[-1]
+        essence, *_, printed = it.strings
         assert len(it.strings) == 2 * it.params + 2 and it.printed == it.length - len(printed) - 1
         assert it.slash == essence.index("/") and (essence[it.subtype_end : it.subtype_end + 1] or "+") == "+"
         assert it.subtype_end <= len(essence) and not re.search(r"[\1-\10\12-\37\177]", it.written)
@@ -85,10 +81,8 @@ def check_read(text):
     asked = int(is_read and len(text) > SHORT)
     assert it.answer <= NOT_UTF8 and it.answer != NO_MEMORY and it.requests == asked and it.largest <= len(text)
     rows = [(text, text, it.answer, is_read, 2 * asked), ("*/*", text, it.answer, it.strings == ["*/*"] * 2, asked),
-            (text, "a/", MISSING_SUBTYPE if is_read else it.answer, 0, asked), ("a/", text, MISSING_SUBTYPE, 0, 0)]
-    if is_read:
-        printed = it.strings[-1]
-        rows.append((text, printed, OK, 1, asked + (len(printed) > SHORT)))
+            (text, "a/", MISSING_SUBTYPE if is_read else it.answer, 0, asked), ("a/", text, MISSING_SUBTYPE, 0, 0),
+            *((text, printed, OK, 1, asked + (len(printed) > SHORT)) for printed in it.strings[-1:])]
     for one, other, *wanted in rows:
         equal = yield call("equal", one, other)
         assert [equal.answer, equal.length, equal.requests] == wanted and equal.blocks <= 2 and equal.largest <= len(text)
@@ -102,10 +96,6 @@ def check_list(text):
     for item in it.strings:
         read = yield call("read", item[1:])
         assert read.strings[-1:] == [item[1:]] if item[:1] == "+" else item[:1] == "-" and read.answer != OK
-
-
-def written(*texts):
-    return "".join(f"{it}\0" for it in texts)
 
 
 def check_content_type(text):
@@ -149,8 +139,7 @@ def check_order(text):
 
 
 def check_unescape(text):
-    it = yield call("unescape", text)
-    # RFC 9110, 5.6.4
+    it = yield call("unescape", text)  # RFC 9110, 5.6.4
     assert (it.answer, it.written, it.requests) == (OK, re.sub(r"(?s)\\(.?)", r"\1", text) + "\0", 0)
 
 
@@ -174,9 +163,6 @@ def check_set_parameter(text):
         assert it.answer == (before.answer if printed or before.answer != OK else BAD_PARAMETER)
 
 
-CHECKS = check_read, check_list, check_content_type, check_accept, check_order, check_boundary, check_unescape, check_set_parameter
-
-
 def near_grammar(count):
     """As many texts near the grammar, the same each time."""
     chance = random.Random(1)
@@ -190,11 +176,12 @@ def next_call(check, given):
 
 def holds(words, texts):
     """Whether all checks hold of these texts."""
+    checks = check_read, check_list, check_content_type, check_accept, check_order, check_boundary, check_unescape, check_set_parameter
     texts, count = iter(dict.fromkeys(texts)), 0
     try:
         while some := [*islice(texts, 4000)]:
             count += len(some)
-            left, given = [check(it) for it in some for check in CHECKS], repeat(None)
+            left, given = [check(it) for it in some for check in checks], repeat(None)
             while left:
                 asked = [*map(next_call, left, given)]
                 left = [it for it, asks in zip(left, asked) if asks]

@@ -99,8 +99,7 @@ def exit_status(tries, least=1):
     """The exit status of a tool, after its last line. Each try says whether it passed; an error ends them; fewer than the least fail."""
     results = []
     try:
-        for well in tries:
-            results.append(bool(well))
+        results.extend(map(bool, tries))
     except OSError as error:
         print(f"{TOOL}: {error}")
         results.append(False)
@@ -159,8 +158,7 @@ def instructions(words, given):
     """How many instructions a whole run takes, as valgrind counts them. Its cachegrind takes half the time of callgrind."""
     counting = ["valgrind", "--tool=cachegrind", "--cache-sim=no", "--cachegrind-out-file=/dev/null"]
     text = run([*counting, *words], given=given, stdout=subprocess.DEVNULL).stderr
-    found = re.search(rb"I +refs: +([\d,]+)", text)
-    if not found:
+    if not (found := re.search(rb"I +refs: +([\d,]+)", text)):
         raise OSError(f"valgrind counted nothing:\n{text[-600:].decode(errors='replace')}")
     return int(found[1].replace(b",", b""))
 
@@ -214,8 +212,7 @@ def build(crate, command, log):
 
 @functools.lru_cache(None)
 def program(crate, kind=""):
-    """The program of a crate, of one of these kinds, that rt ci proved or that was built from the same sources. Otherwise rt proves and
-    builds it, once no other run does."""
+    """The program of a crate, of one kind, that was proved and built from its sources; if none was, rt does so, once no other run does."""
     out, sources, command = f"{TOP}/crates/{crate}/out", run_ok("tools/sources", crate), KINDS[kind]
     made, began, log = f"{out}/{crate}{kind}", f"{out}/build.began", f"{out}/build.log"
     is_current = lambda: all(map(os.path.exists, (made, f"{made}.sources"))) and Path(f"{made}.sources").read_text("utf-8") == sources
@@ -223,8 +220,7 @@ def program(crate, kind=""):
         return made
     say(f"{crate}: `{command}` proves and builds the program, and the libraries {' '.join(below(crate)[:-1])}, as far as they aren't up to "
         "date. This may take some minutes and some hundred MB of disk.")
-    version = run_ok("rt", "version").strip()
-    if not version.endswith(LOGIC):
+    if not (version := run_ok("rt", "version").strip()).endswith(LOGIC):
         say(f"{crate}: made for the logic {LOGIC}; the command rt here is of '{version}', and may not be able to build it")
     write(began, "")
     with open(f"{out}/build.lock", "w", encoding="utf-8") as lock:

@@ -12,8 +12,7 @@
 
 extern void *__libc_malloc(size_t), *__libc_calloc(size_t, size_t), *__libc_realloc(void *, size_t);
 
-static size_t refused_at, requests, bytes;
-static int counting;
+static size_t refused_at, requests, bytes, counting;
 
 __attribute__((constructor)) static void begin(void)
 {
