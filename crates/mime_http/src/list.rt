@@ -143,5 +143,9 @@ pub(crate) fn trim_end(piece: &[u8]) -> &[u8]
 pub fn trimmed(bytes: &[u8]) -> &[u8]
     ensures { result.now ≡ trimmed bytes.now }
 {
+    // Most values have no white space around them.
+    if !bytes.is_empty() && bytes[0] > b' ' && bytes[bytes.len() - 1] > b' ' {
+        return bytes;
+    }
     trim_end(trim_start(bytes))
 }

@@ -87,7 +87,7 @@ pub(crate) fn text_of_piece(piece: &[u8], is_ascii: bool) -> Result<&str, Utf8Er
 fn trimmed(text: &str) -> &str
     ensures { result.now ≡ trimmed text.now }
 {
-    let left = trim_end(trim_start(text.as_bytes()));
+    let left = crate::list::trimmed(text.as_bytes());
     // SAFETY: white space is ASCII.
     unsafe { str::from_utf8_unchecked(left) }
 }

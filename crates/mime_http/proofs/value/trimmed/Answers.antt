@@ -5,5 +5,5 @@ use Rattle.mime_http.proofs.value.trimmed.Goals as goal
 
 pub from_utf8_unchecked-requires : goal.from_utf8_unchecked-requires
 from_utf8_unchecked-requires c =
-    let left : c.trim_end-left.result.now ≡ trimmed c.args.text.now = search rules in
+    let left : c.trimmed-left.result.now ≡ trimmed c.args.text.now = search rules in
     subst IsUtf8 (sym left) (utf8_trimmed c.args.text.now c.utf8.text)

@@ -1,0 +1,17 @@
+-- Nothing is left out of bytes of which the first and the last are no white space.
+use Rattle.std.proofs.Common.{ap, arith, get_or, refl, sym, List, [], ℕ, ◌<◌, ◌∙◌, ◌∷◌, ◌≡◌, false}
+use Rattle.mime_http.proofs.Common.{is_space, nat_tests, trim_end, trim_start}
+use Rattle.mime_http.proofs.Around.{nothing_after}
+use Rattle.mime_http.proofs.list.trimmed.Goals as goal
+
+no_space : (b : ℕ) → 32 < b → is_space b ≡ false
+no_space b more = grind (arith, nat_tests, more)
+
+nothing_before : (bytes : List ℕ) → is_space (get_or bytes 0 0) ≡ false → trim_start bytes ≡ bytes
+nothing_before [] other = refl
+nothing_before (b ∷ bytes) other = rw other refl
+
+pub returns-then-bytes-gt32-2 : goal.returns-then-bytes-gt32-2
+returns-then-bytes-gt32-2 c =
+    sym (ap trim_end (nothing_before c.args.bytes.now (no_space _ c.if-bytes-gt32.true))
+    ∙ nothing_after c.args.bytes.now (λ some. no_space _ c.if-bytes-gt32-2.true))
