@@ -75,7 +75,7 @@ impl Accept {
     {
         // SAFETY: the trimmed piece is UTF-8, and the white space around it is ASCII.
         let text = unsafe { str::from_utf8_unchecked(piece) };
-        match read_rejected(alloc, text, &fault) {
+        match read_rejected(alloc, text, fault) {
             Ok(range) => self.take(range),
             Err(error) => match error {
                 FieldError::NoMemory => Err(AllocError),

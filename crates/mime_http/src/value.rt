@@ -209,9 +209,9 @@ fn read_in_block(alloc: Global, value: &str, accepted: bool, len: usize) -> Resu
 pub(crate) fn read_rejected(
     alloc: Global,
     value: &str,
-    fault: &ParseError,
+    fault: ParseError,
 ) -> Result<Mime, FieldError>
-    requires { Explains (trimmed value.now) fault.now }
+    requires { Explains (trimmed value.now) fault }
     ensures http { IfOk result (λ mime. HttpReads value.now mime.media × IsPrinted value.now mime.media) }
     ensures explained { IfErr result (λ error. HttpExplains value.now error) }
 {
@@ -222,7 +222,7 @@ pub(crate) fn read_rejected(
             ..
         } => false,
         ParseError::NoMemory => true,
-        _ => match same_fault(value.as_bytes(), *fault) {
+        _ => match same_fault(value.as_bytes(), fault) {
             Some(fault) => return Err(FieldError::Invalid(fault)),
             None => false,
         },
@@ -277,6 +277,6 @@ pub fn content_type(alloc: Global, value: &[u8]) -> Result<Mime, FieldError>
     };
     match Mime::from_str(alloc, trimmed(text)) {
         Ok(mime) => Ok(mime),
-        Err(error) => read_rejected(alloc, text, error.fault()),
+        Err(error) => read_rejected(alloc, text, *error.fault()),
     }
 }

@@ -6,7 +6,7 @@ use Rattle.mime_http.proofs.value.read_rejected.Goals as goal
 
 pub read_into-requires-clause-other : goal.read_into-requires-clause-other
 read_into-requires-clause-other c = λ no. elim c.match-fault.branch [
-  | in-InvalidToken-default-eq32 w ↦ not_accepted (trimmed c.args.value.now) c.args.fault.now (search rules) c.requires
+  | in-InvalidToken-default-eq32 w ↦ not_accepted (trimmed c.args.value.now) c.args.fault (search rules) c.requires
   | in-NoMemory w ↦ absurd (cc (no, w.accepted-is))
-  | in_default+in-None w ↦ not_accepted (trimmed c.args.value.now) c.args.fault.now (search rules) c.requires
+  | in_default+in-None w ↦ not_accepted (trimmed c.args.value.now) c.args.fault (search rules) c.requires
 ]
