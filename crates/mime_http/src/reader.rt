@@ -312,7 +312,11 @@ pub(crate) fn write_anew(value: &[u8], room: &mut [u8]) -> Result<usize, ParseEr
     };
     let mut len = put(room, 0, &value[begin..end]);
     let mut at = spaces_end(value, end);
-    while is_at(value, at, b';') {
+    while at < value.len() {
+        let byte = value[at];
+        if byte != b';' {
+            return Err(ParseError::InvalidToken { pos: at, byte });
+        }
         at = spaces_end(value, at + 1);
         if is_token_at(value, at) {
             let spans = match parameter_at(value, start, at) {
@@ -322,10 +326,6 @@ pub(crate) fn write_anew(value: &[u8], room: &mut [u8]) -> Result<usize, ParseEr
             len = put_parameter(room, len, value, at, spans);
             at = spaces_end(value, spans.end);
         }
-    }
-    if at < value.len() {
-        let byte = value[at];
-        return Err(ParseError::InvalidToken { pos: at, byte });
     }
     Ok(len)
 }

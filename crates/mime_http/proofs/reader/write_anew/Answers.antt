@@ -11,8 +11,8 @@ to_next parts value at to so_far within is end most =
     so_far ∙ over_byte value at (before_semicolon parts) (after_semicolon parts) within (ap (next (before_semicolon parts)) is)
     ∙ over_white_at (after_semicolon parts) (keeps_inside parts) value (at + 1) to (run_is is_space value (at + 1) to end) most
 
-pub loop-start-init : goal.loop-start-init
-loop-start-init c =
+pub loop-at-init : goal.loop-at-init
+loop-at-init c =
     let value = c.args.value.now in
     let ends = c.in-Ok.essence in
     let is : IsEssenceAt value ends.0 ends.1 = c.in-Ok.ensures in
@@ -34,23 +34,21 @@ loop-start-init c =
 
 pub returns-in-Err-parameter_at-clause-answer : goal.returns-in-Err-parameter_at-clause-answer
 returns-in-Err-parameter_at-clause-answer c =
-    let keeps = c.loop-start.invariant in
-    let next = c.spaces_end-at-in-loop-start in
-    let sign = c.is_at.ensures.yes c.loop-start-test.true in
-    to_next keeps.parts c.args.value.now c.loop-start.at next.result keeps.read sign.0 sign.1 next.ensures.end next.ensures.within
+    let keeps = c.loop-at.invariant in
+    let next = c.spaces_end-at-in-loop-at in
+    to_next keeps.parts c.args.value.now c.loop-at.at next.result keeps.read c.loop-at-test.true c.if-byte-ne59.false next.ensures.end next.ensures.within
     ∙ c.in-Err-parameter_at.ensures keeps.parts
 
-pub loop-start-preserved-then-is_token_at : goal.loop-start-preserved-then-is_token_at
-loop-start-preserved-then-is_token_at c =
+pub loop-at-preserved-then-is_token_at : goal.loop-at-preserved-then-is_token_at
+loop-at-preserved-then-is_token_at c =
     let value = c.args.value.now in
-    let keeps = c.loop-start.invariant in
-    let next = c.spaces_end-at-in-loop-start in
-    let sign = c.is_at.ensures.yes c.loop-start-test.true in
+    let keeps = c.loop-at.invariant in
+    let next = c.spaces_end-at-in-loop-at in
     let (name, front, is) = c.in-Ok-parameter_at.ensures in
     let spans = c.in-Ok-parameter_at.spans in
     let parts : Parts = with_parameter keeps.parts name is.content in
     let at = c.spaces_end-at-then-is_token_at in
-    let inside = run_is is_space value (c.loop-start.at + 1) next.result next.ensures.end in
+    let inside = run_is is_space value (c.loop-at.at + 1) next.result next.ensures.end in
     let white = run_is is_space value spans.end at.result at.ensures.end in
     let put = c.put_parameter-len in
     let one = ap₂ (λ xs ys. codes "; " ++ (xs ++ ys)) (sym front) (sym is.written)
@@ -58,7 +56,7 @@ loop-start-preserved-then-is_token_at c =
     let text = ap (λ xs. text_of_parts keeps.parts ++ xs) one ∙ one_written keeps.parts name is.content in
     record {
       parts = parts;
-      read = to_next keeps.parts value c.loop-start.at next.result keeps.read sign.0 sign.1 next.ensures.end next.ensures.within
+      read = to_next keeps.parts value c.loop-at.at next.result keeps.read c.loop-at-test.true c.if-byte-ne59.false next.ensures.end next.ensures.within
           ∙ is.read keeps.parts
           ∙ over_white_at (before_semicolon parts) (keeps_after parts) value spans.end at.result white at.ensures.within;
       holds = subst (Holds put.new.room put.result) text (put.ensures.holds (text_of_parts keeps.parts) keeps.holds);
@@ -68,16 +66,15 @@ loop-start-preserved-then-is_token_at c =
       room = put.ensures.room ∙ keeps.room;
     }
 
-pub loop-start-preserved : goal.loop-start-preserved
-loop-start-preserved c =
+pub loop-at-preserved : goal.loop-at-preserved
+loop-at-preserved c =
     let value = c.args.value.now in
-    let keeps = c.loop-start.invariant in
-    let next = c.spaces_end-at-in-loop-start in
-    let sign = c.is_at.ensures.yes c.loop-start-test.true in
-    let inside = run_is is_space value (c.loop-start.at + 1) next.result next.ensures.end in
+    let keeps = c.loop-at.invariant in
+    let next = c.spaces_end-at-in-loop-at in
+    let inside = run_is is_space value (c.loop-at.at + 1) next.result next.ensures.end in
     record {
       parts = keeps.parts;
-      read = to_next keeps.parts value c.loop-start.at next.result keeps.read sign.0 sign.1 next.ensures.end next.ensures.within
+      read = to_next keeps.parts value c.loop-at.at next.result keeps.read c.loop-at-test.true c.if-byte-ne59.false next.ensures.end next.ensures.within
           ∙ nothing_between keeps.parts value next.result inside.stops (c.is_token_at.ensures.no c.if-is_token_at.false);
       holds = keeps.holds;
       within = next.ensures.within;

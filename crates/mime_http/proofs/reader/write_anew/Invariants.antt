@@ -2,8 +2,8 @@
 use Rattle.mime_http.proofs.Common.{Parts, answer_of, before_semicolon, false, is_space, length, text_of_parts, ◌*◌, ◌-◌, ◌<◌, ◌≡◌, ◌≤◌, slice_index, Holds, answer_at}
 use Rattle.mime_http.proofs.reader.write_anew.Given as goal
 
-abbrev pub invariant-loop-start : goal.invariant-loop-start
-invariant-loop-start l = record {
+abbrev pub invariant-loop-at : goal.invariant-loop-at
+invariant-loop-at l = record {
   parts : Parts;
   read : answer_of l.value ≡ answer_at l.value (before_semicolon parts) l.at;
   holds : Holds l.room l.len (text_of_parts parts);
@@ -13,5 +13,5 @@ invariant-loop-start l = record {
   room : length l.room ≡ length l.fn.room;
 }
 
-abbrev pub decreases-loop-start : goal.decreases-loop-start
-decreases-loop-start l = length l.value - l.at
+abbrev pub decreases-loop-at : goal.decreases-loop-at
+decreases-loop-at l = length l.value - l.at
