@@ -194,8 +194,8 @@ pub(crate) fn separators(reader: &mut ByteReader<'_>) -> Option<u8>
     None
 }
 
-/// Reads a string, whose first byte was read already, to its end, or up to and including the first byte with which no
-/// media type continues.
+/// Reads the rest of a string after its first byte. Stops at the end, or after the first byte with which no media type
+/// continues.
 #[tactic(auto, using(crate::proofs::ScanLemmas::Passing::given_sum))]
 #[inline(always)]
 pub(crate) fn scan_after(first: u8, reader: &mut ByteReader<'_>) -> Scanned

@@ -277,7 +277,7 @@ fn fault_place(value: &[u8], error: FieldError) -> (usize, &'static [u8])
     }
 }
 
-/// Adds the rows of the entries of lines of `Accept`, and pushes their ranges to `ranges`.
+/// Adds the rows of each entry in lines of `Accept`, and pushes the ranges to `ranges`.
 fn push_lines(text: &mut Vec<u8>, ranges: &mut Vec<Mime>, lines: &[Vec<u8>]) -> Pushed
     ensures { OnOk result (AddsLines (map vec_items lines.now) (vec_items text.old, map (λ range. range.media) (vec_items ranges.old))
         (vec_items text.new, map (λ range. range.media) (vec_items ranges.new))) }

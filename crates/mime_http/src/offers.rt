@@ -119,7 +119,7 @@ pub(crate) fn best_of(ranges: &[Mime], offers: &[Mime]) -> Option<usize>
     if most.0 > 0 { best } else { None }
 }
 
-/// An offer's rank and its position. Of two offers, the lower of these comes first.
+/// An offer's rank and its position. The better of two offers has the lower `Ranked`.
 pub(crate) type Ranked = (Reverse<(u16, u8, usize, usize)>, usize);
 
 /// Returns the offers that weigh at least `least`, the best first.

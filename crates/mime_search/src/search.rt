@@ -79,7 +79,7 @@ pub fn first_stop_far(text: &[u8], from: usize, class: &Class) -> usize
     first_stop(text, from, class)
 }
 
-/// Returns the position of the first byte, from a position on, at which a search stops, or the length if there is none.
+/// Returns the position of the first byte at or after `from` that stops a search, or the length if there is none.
 #[tactic(auto, using(crate::proofs::Searches::run_within))]
 #[inline(always)]
 pub fn first_stop(text: &[u8], from: usize, class: &Class) -> usize

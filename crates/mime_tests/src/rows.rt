@@ -63,7 +63,7 @@ pub(crate) fn show_row(rt: &HostRuntime, out: &mut String, word: &str, strings: 
     }
 }
 
-/// Writes the answers of `mime` to a row, and returns `true`, if the row is about `mime`.
+/// Writes the answers to a row about `mime`, and returns `true`. Returns `false` for any other row.
 fn show_of_library(alloc: Global, out: &mut String, word: &str, strings: &[String]) -> bool {
     let one = string_at(strings, 0);
     let two = string_at(strings, 1);
@@ -91,7 +91,7 @@ fn show_of_library(alloc: Global, out: &mut String, word: &str, strings: &[Strin
     true
 }
 
-/// Writes the answers of `mime_http` to a row, and returns `true`, if the row is about `mime_http`.
+/// Writes the answers to a row about `mime_http`, and returns `true`. Returns `false` for any other row.
 fn show_of_headers(alloc: Global, out: &mut String, word: &str, strings: &[String]) -> bool {
     let one = string_at(strings, 0);
     let two = string_at(strings, 1);
@@ -119,7 +119,7 @@ fn show_of_headers(alloc: Global, out: &mut String, word: &str, strings: &[Strin
     true
 }
 
-/// Writes the answers of the recipes to a row, and returns `true`, if the row is about a recipe.
+/// Writes the answers to a row about a recipe, and returns `true`. Returns `false` for any other row.
 fn show_of_recipes(rt: &HostRuntime, out: &mut String, word: &str, strings: &[String]) -> bool {
     let alloc = rt.alloc();
     let one = string_at(strings, 0);

@@ -18,7 +18,7 @@ pub(crate) struct ByteReader<'a> {
     text: &'a [u8],
     /// The position of the next byte.
     at: usize,
-    /// The count before the first byte.
+    /// The number of bytes counted before this reader.
     before: u128,
     /// The number of known bytes at the start of the string: those that `stops` describes.
     known: usize,

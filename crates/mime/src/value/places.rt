@@ -41,7 +41,7 @@ impl Places {
         (self.plus != 0).then_some(self.plus)
     }
 
-    /// Returns the position of the semicolon after the essence, which ends at `end`, or `None` without parameters.
+    /// Returns the position of the semicolon after the essence, which ends at `end`, or `None` if there is none.
     #[inline(always)]
     pub(crate) fn semicolon(&self, end: usize) -> Option<usize>
         ensures { result ≡ (positions_at self.now end).semicolon }
