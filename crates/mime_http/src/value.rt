@@ -147,9 +147,9 @@ fn same_fault(value: &[u8], fault: ParseError) -> Option<ParseError>
     }
 }
 
-/// Reads a value, which is written anew into `room`. `accepted` says whether `mime` accepts the value without the white space around it, and
-/// memory ran out. Then, only a value that is printed as its essence, in at most 40 bytes, is read. This doesn't allocate if at most 40 bytes
-/// are printed. Otherwise, it allocates a block for these bytes and one for the media type.
+/// Reads a value by writing it anew into `room`. If `mime` accepts the value without the white space around it, but memory ran
+/// out, `accepted` is `true`. Such a value is read only if it is printed as its essence, in at most 40 bytes. This doesn't allocate if at
+/// most 40 bytes are printed. Otherwise, it allocates a block for these bytes and one for the media type.
 #[cycle(rejected)]
 #[inline(never)]
 fn read_into(

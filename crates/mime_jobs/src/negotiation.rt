@@ -95,7 +95,7 @@ fn all_offers(alloc: Global) -> Result<Vec<Vec<Mime>>, AllocError> {
     Ok(all)
 }
 
-/// Reads a header. Each tenth header has a second line.
+/// Reads a header. Every tenth header has a second line.
 fn accept_of(alloc: Global, text: &Text, at: usize) -> Result<Accept, AllocError> {
     let first = text.bytes();
     if at % 10 == 0 {

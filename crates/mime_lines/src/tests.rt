@@ -104,9 +104,9 @@ impl Read for Reader<'_> {
     }
 }
 
-/// A writer that accepts `bytes`, and then accepts them `again` more times, at most `most` in a write and in at most
-/// `writes` writes. It fails at any other bytes, and at a flush after `flushes` flushes. A writer that fails only once
-/// accepts any bytes after the failure.
+/// A writer that accepts `bytes`, and then the same bytes `again` more times. It accepts at most `most` bytes in a
+/// write, and at most `writes` writes. It fails at any other bytes, and at a flush after `flushes` flushes. A writer
+/// that fails only once accepts any bytes after the failure.
 #[derive(Drop)]
 struct Writer<'a> {
     bytes: &'a [u8],

@@ -78,8 +78,8 @@ fn after_quoted_pairs_among(text: &[u8], from: usize, size: usize, stops: u64) -
     end
 }
 
-/// Skips bytes up to the next quote or backslash. If the first block has one of them, skips the block with its quoted pairs
-/// instead, up to the first quote outside these pairs. Returns the position after the skipped bytes.
+/// Skips bytes up to the next quote or backslash. If the first block has one of them, instead skips the block with its
+/// quoted pairs, but stops at a quote outside these pairs. Returns the position after the skipped bytes.
 #[inline(always)]
 fn after_plain(text: &[u8], from: usize) -> usize
     requires { from ≤ length text.now }

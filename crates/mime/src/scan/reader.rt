@@ -116,8 +116,8 @@ impl<'a> ByteReader<'a> {
         }
     }
 
-    /// Returns a reader of all bytes of `text`, whose count begins at 0. The reader looks at blocks of bytes, which may
-    /// go beyond the next byte. It is for callers that don't count steps.
+    /// Returns a reader of all bytes of `text`, with a count of 0. The reader looks at blocks of bytes, which may go
+    /// beyond the next byte. It is for callers that don't count steps.
     #[inline(always)]
     pub(crate) fn by_blocks(text: &'a str) -> ByteReader<'a>
         ensures left { result.left ≡ text.now }
