@@ -4,7 +4,7 @@ use Rattle.std.specs.Fmt.{digits, decimal}
 use Rattle.mime.specs.declared.scan.fault.ParseError.{ParseError}
 use Rattle.mime.specs.declared.scan.fault.ParseError.TheVariants.{MissingSlash, MissingSubtype, MissingEqual, MissingValue, MissingQuote, InvalidToken, NoMemory}
 
--- a byte in capital hexadecimal without leading zeros, and its position (in bytes from 0) in decimal
+-- a byte in uppercase hexadecimal without leading zeros, and its position (in bytes from 0) in decimal
 abbrev pub token_text : ℕ → ℕ → List ℕ
 token_text pos byte =
     codes "an invalid token was encountered, " ++ (digits 16 true byte ++ (codes " at position " ++ decimal pos))

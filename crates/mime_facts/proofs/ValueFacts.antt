@@ -240,14 +240,14 @@ views : (name value : Name)
     × ((item_seen (name, value)).value_ignores_case ≡ value.ignores_case)
 views name value = (refl, refl, refl, refl, refl, refl)
 
--- a byte in capital hexadecimal without leading zeros, and its position
+-- a byte in uppercase hexadecimal without leading zeros, and its position
 printed_tokens :
     (token_text 10 11 ≡ codes "an invalid token was encountered, B at position 10")
     × (token_text 0 250 ≡ codes "an invalid token was encountered, FA at position 0")
 unfolding digits
 printed_tokens = (refl, refl)
 
--- what a fault prints, with a byte in capital hexadecimal without leading zeros
+-- what a fault prints, with a byte in uppercase hexadecimal without leading zeros
 printed_faults :
     map fault_text (MissingSlash ∷ MissingSubtype ∷ MissingEqual ∷ MissingValue ∷ MissingQuote ∷ InvalidToken 10 11 ∷ NoMemory ∷ [])
     ≡ codes "a slash (/) was missing between the type and subtype"
