@@ -23,7 +23,7 @@
 //!
 //! # Errors
 //! A string that isn't a media type is rejected with its fault, a [`ParseError`]. The fault is what is missing at the
-//! string's end, or else the first byte that no media type could have at its position. Positions count bytes from 0.
+//! string's end, or else the first byte that can't continue a media type. Positions count bytes from 0.
 //! [`MimeIter`] yields a piece that isn't a media type as [`Bad::Piece`]. A bad entry doesn't affect the entries after
 //! it, unless it ends in an open quoted string. The last entry isn't yielded if it is only the beginning of a media
 //! type, such as `text/`.
@@ -40,8 +40,8 @@
 //! allows this only after the last semicolon: it reads `a/b;`, but not `a/b;;p=x`.
 //!
 //! # Left out
-//! This crate doesn't interpret media types: `mime_http` has ranges, weights, the choice according to `Accept`, and
-//! quoted pairs. A recipe has file extensions. docs/DIFFERENCES.md lists the differences from the Rust crate and from
+//! This crate doesn't interpret media types. `mime_http` interprets ranges, weights, `Accept` and quoted pairs. A
+//! recipe maps file extensions to media types. docs/DIFFERENCES.md lists the differences from the Rust crate and from
 //! RFC 7231, crates/mime/CALLING.md lists every contract, and docs/RECIPES.md solves common tasks.
 //!
 //! This is version 1.0.0. README.md says what may change within 1.x.

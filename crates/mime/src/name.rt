@@ -13,13 +13,13 @@ use std::fmt;
 /// A part of a media type: a type, a subtype, a suffix, a parameter's name or its value (RFC 7231,
 /// 3.1.1.1). The type of `Text/Plain` is `Name { text: "text", ignores_case: true }`, and equals [`TEXT`](crate::TEXT).
 ///
-/// Two names are equal if their texts and their flags `ignores_case` are. Names are ordered by the bytes of the text,
-/// and then by the flag, `false` first. To compare a name with a string, see [`name_eq_str`].
+/// Two names are equal if they have the same text and the same flag `ignores_case`. Names are ordered by the bytes of
+/// the text, and then by the flag, `false` first. To compare a name with a string, see [`name_eq_str`].
 #[derive(Clone, Copy, PartialEq, Eq, PartialOrd, Ord, Hash)]
 pub struct Name<'a> {
     /// The part's text. If this crate returns a name that ignores case, its text has no ASCII capital.
     pub text: &'a str,
-    /// Whether the name is compared with a string ignoring ASCII case.
+    /// Whether ASCII case is ignored when the name is compared with a string.
     pub ignores_case: bool,
 }
 
@@ -104,8 +104,8 @@ impl ParamKey for TextKey<'_> {
     }
 }
 
-/// A string is a key that accepts the same names as its [`TextKey`]: `"Charset"` accepts `charset`, so that
-/// `get_param("charset")` returns `utf-8` for `text/html; charset=UTF-8` (names ignore case: RFC 7231, 3.1.1.1).
+/// A string is a key that accepts the same names as its [`TextKey`]: `"Charset"` accepts `charset`, so
+/// `get_param("Charset")` returns `utf-8` for `text/html; charset=UTF-8` (names ignore case: RFC 7231, 3.1.1.1).
 impl ParamKey for &str {
     ghost Accepts = { λ key name ignores_case. NameIs name ignores_case key.now };
 

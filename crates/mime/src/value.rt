@@ -1,4 +1,4 @@
-//! Media types: reading them, their parts and their parameters.
+//! Reads media types, and returns their parts and their parameters.
 
 ghost use Rattle.std.specs.Prelude.{◌≡◌, ◌≤◌, true, IfOk, IfErr, IsOk, IfSome, codes, option_map, length, string_bytes};
 ghost use Rattle.std.specs.List.{AllByRecursion};
@@ -31,7 +31,7 @@ use crate::value::short::{SHORT, ShortText};
 use std::alloc::{AllocError, Global};
 use std::marker::Model;
 
-/// The kept text of a media type. If it was made from at most `SHORT` bytes, it is stored in the value itself.
+/// The kept text of a media type. If it was made from at most `SHORT` bytes, it is stored in the `Mime` itself.
 /// Otherwise it is allocated.
 #[derive(Drop)]
 enum Text {
@@ -97,8 +97,8 @@ impl Model for Mime {
 
 impl Mime {
     /// Reads a media type from the whole of `s` (RFC 7231, 3.1.1.1, with the departures that docs/DIFFERENCES.md
-    /// lists). If `s` is a media type of more than 40 bytes, this allocates once, for the kept text. Otherwise it
-    /// doesn't allocate.
+    /// lists). If `s` is a media type of more than 40 bytes, this function allocates once, for the kept text. Otherwise
+    /// it doesn't allocate.
     ///
     /// `TEXT/PLAIN; CHARSET=UTF-8; FOO=BAR` is kept as `text/plain; charset=utf-8; foo=BAR`, and
     /// `text/plain; ` as `text/plain`.
@@ -106,8 +106,8 @@ impl Mime {
     /// # Errors
     /// Returns the fault of a string that isn't a media type. If something is missing at the string's end, the fault is
     /// `MissingSlash`, `MissingSubtype`, `MissingEqual`, `MissingValue` or `MissingQuote`: `MissingEqual` for `a/b;p`.
-    /// Otherwise the fault is `InvalidToken`, with the first byte that no media type could have at its position, and
-    /// this position in bytes from 0: 5 for `text/;`. Rejecting a string doesn't allocate. Returns
+    /// Otherwise the fault is `InvalidToken`, with the first byte that can't continue a media type, and this byte's
+    /// position in bytes from 0: 5 for `text/;`. Rejecting a string doesn't allocate. Returns
     /// [`ParseError::NoMemory`] if memory runs out, which can happen only for a media type of more than 40 bytes.
     pub fn from_str(alloc: Global, s: &str) -> Result<Mime, FromStrError>
         // The result is the value of the string.
@@ -299,8 +299,8 @@ impl Mime {
         self.text.as_str()
     }
 
-    /// Returns an iterator over the parameters, in order of appearance and with duplicates, as pairs of a name and a
-    /// value without its quotes (RFC 7231, 3.1.1.1): `p` with `1` and `p` with `;` for `a/b;p=1;P=";"`.
+    /// Returns an iterator over the parameters in order of appearance, with duplicates (RFC 7231, 3.1.1.1). It yields
+    /// each as a name and a value without quotes: `p` with `1`, and then `p` with `;`, for `a/b;p=1;P=";"`.
     pub fn params(&self) -> Params<'_>
         ensures items { result ≡ items_of self.now.media.pairs }
         ensures low { AllByRecursion IsLowItem result }
@@ -333,8 +333,8 @@ impl Mime {
         self.places.pair_count
     }
 
-    /// Returns the positions of the parts of a string that begins with the essence and a semicolon, before its
-    /// parameters are read.
+    /// Returns the positions of the parts of a string that begins with the essence and a semicolon. The number of
+    /// parameters is 0, since none has been read yet.
     #[inline(always)]
     pub(crate) fn before_list(&self) -> Positions
         ensures { result ≡ positions_before_list self.now.media }

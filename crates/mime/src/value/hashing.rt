@@ -13,7 +13,7 @@ const WORD: usize = 8;
 /// The byte that ends a part, which is a name or a value. It never occurs in UTF-8.
 const END: u8 = 0xff;
 
-/// Returns `rest`, which has at most one byte, and then `END`, as a little-endian number.
+/// Returns `rest` followed by `END`, as a little-endian number. `rest` has at most one byte.
 #[inline(always)]
 fn number_up_to_one(rest: &[u8]) -> u64
     requires { length rest.now < 2 }
@@ -26,7 +26,7 @@ fn number_up_to_one(rest: &[u8]) -> u64
     rest[0] as u64 + END as u64 * 0x100
 }
 
-/// Returns `rest`, which has at most three bytes, and then `END`, as a little-endian number.
+/// Returns `rest` followed by `END`, as a little-endian number. `rest` has at most three bytes.
 #[inline(always)]
 fn number_up_to_three(rest: &[u8]) -> u64
     requires { length rest.now < 4 }
@@ -40,7 +40,7 @@ fn number_up_to_three(rest: &[u8]) -> u64
     low as u64 + number_up_to_one(&rest[2..]) * 0x1_0000
 }
 
-/// Returns `rest`, which has at most seven bytes, and then `END`, as a little-endian number.
+/// Returns `rest` followed by `END`, as a little-endian number. `rest` has at most seven bytes.
 #[inline(always)]
 fn number_up_to_seven(rest: &[u8]) -> u64
     requires { length rest.now < WORD }

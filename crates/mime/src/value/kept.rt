@@ -1,4 +1,4 @@
-//! The kept text of an accepted string that isn't short, in one allocation.
+//! Makes the kept text of an accepted string of more than `SHORT` bytes, with one allocation.
 
 ghost use Rattle.std.specs.Prelude.{◌≡◌, ◌+◌, ◌-◌, ◌++◌, ◌<◌, if◌then◌else◌, ◌≤◌, ◌↔◌, IsFalse, IfOk, take, drop, length, slice_get, slice_range, string_bytes};
 ghost use Rattle.mime.specs.Bytes.{semicolon_byte};
@@ -58,7 +58,7 @@ fn lowercase_start(bytes: &mut [u8], len: usize)
     lowercase_range(bytes, len - BLOCK, len);
 }
 
-/// Returns how many bytes of a parameter's value are lowercased: all of them if its name is `charset`, otherwise none.
+/// Returns how many bytes of a parameter's value are lowercased: all if the parameter's name is `charset`, else none.
 #[inline(always)]
 fn low_len(name: &str, value: &str) -> usize
     ensures { result ≡ if is_charset name.now then length value.now else 0 }
@@ -109,7 +109,7 @@ fn keep_pairs(
     Ok(unsafe { String::from_utf8_unchecked(bytes) })
 }
 
-/// Returns the positions of the parts in the kept text, from which an empty parameter list is dropped.
+/// Returns the positions of a string's parts in its kept text, which has no semicolon if there is no parameter.
 #[inline(always)]
 pub(crate) fn positions_in_kept(positions: Positions) -> Positions
     ensures { result ≡ kept_positions positions }

@@ -37,8 +37,8 @@ impl<'a> Model for KnownText<'a> {
 
 impl<'a> KnownText<'a> {
     /// Returns the media type that [`Mime::from_str`] reads from the text, without scanning the text (RFC 7231,
-    /// 3.1.1.1). If the text has at most 40 bytes or no spare capacity, this doesn't allocate. Otherwise it allocates
-    /// once.
+    /// 3.1.1.1). If the text has at most 40 bytes, or its `String` has no spare capacity, this function doesn't
+    /// allocate. Otherwise it allocates once.
     ///
     /// # Errors
     /// Returns `AllocError` if memory runs out, which can happen only for a text of more than 40 bytes.

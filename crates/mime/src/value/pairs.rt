@@ -20,14 +20,14 @@ use std::marker::Model;
 #[derive(Drop)]
 pub(crate) struct Pair<'a> {
     pub(crate) name: &'a str,
-    /// The position of the value in the list, in bytes from 0. A quoted value begins after its opening quote.
+    /// The position of the value in the list, in bytes from 0. A value in quotes begins after its opening quote.
     pub(crate) value_start: usize,
     /// The value without its quotes.
     pub(crate) value: &'a str,
     pub(crate) rest: Rest<'a>,
 }
 
-/// Returns the length in bytes of a quoted string's content. The first quote in the content may be in a quoted pair.
+/// Returns the length in bytes of a quoted string's content, even if the first quote in `text` is in a quoted pair.
 /// This function isn't inlined: few values have a backslash before their first quote.
 #[cold]
 #[inline(never)]
@@ -37,8 +37,8 @@ fn content_len_past_quoted_pairs(text: &[u8]) -> usize
     content_end(text, 0)
 }
 
-/// Returns the length in bytes of a quoted string's content, up to its first unpaired quote or the end. `quote` is the
-/// position of the first quote, or the length if there is none.
+/// Returns the length in bytes of a quoted string's content. The content ends before the first quote outside a quoted
+/// pair, or else at the end of `text`. `quote` is the position of the first quote, or the length if there is none.
 #[inline(always)]
 fn content_len(text: &[u8], quote: usize) -> usize
     requires { quote ≡ first_position quote_byte text.now }
@@ -154,8 +154,8 @@ fn cut_name<'a>(list: &Rest<'a>) -> (&'a str, Rest<'a>)
     without_spaces(list).split_at_first(b'=')
 }
 
-/// Cuts the first `size` bytes off a list as its first name, if an equals sign or the end of the list follows them;
-/// otherwise returns `None`. The name itself may contain an equals sign.
+/// Cuts the first `size` bytes off a list as its first name, if an equals sign or the end of the list follows them.
+/// Otherwise returns `None`. The name itself may contain an equals sign.
 #[inline(always)]
 fn cut_name_of_size<'a>(list: &Rest<'a>, size: usize) -> Option<(&'a str, Rest<'a>)>
     ensures other { result ≡ None → first_position equals_byte list.now ≢ size }

@@ -1,4 +1,4 @@
-//! The positions of a kept text's parts, as a value stores them.
+//! The positions of a kept text's parts, as a `Mime` stores them.
 
 ghost use Rattle.std.specs.Prelude.{◌≡◌, ◌≢◌, Some};
 ghost use Rattle.mime.specs.Inner.KeptText.{kept_semicolon};

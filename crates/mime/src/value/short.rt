@@ -1,4 +1,4 @@
-//! A short kept text, which is stored in the value itself: making, cloning and dropping it doesn't allocate.
+//! A short kept text, which is stored in the `Mime` itself: making, cloning and dropping it doesn't allocate.
 
 ghost use Rattle.std.specs.Prelude.{◌≡◌, ◌<◌, ◌≤◌, ◌-◌, IfSome, None, Some, IsUtf8, length, take, drop, slice_get, replicate};
 ghost use Rattle.mime_search.specs.Differences.{DifferAt};
@@ -18,7 +18,7 @@ pub(crate) const SHORT: usize = 40;
 /// The size of the buffer in which a short text is lowercased: a multiple of 16, so that whole vectors are lowercased.
 const PADDED: usize = 48;
 
-/// A text of at most `SHORT` bytes. The bytes after it are zeros.
+/// A text of at most `SHORT` bytes: the first `len` of `bytes`. All other bytes are zeros.
 #[derive(Drop)]
 pub(crate) struct ShortText {
     len: u32,
@@ -151,8 +151,8 @@ impl ShortText {
         ShortText::of(&bytes, text.len())
     }
 
-    /// Returns the kept text of an accepted string of at most `SHORT` bytes without parameters. An empty parameter list
-    /// is dropped.
+    /// Returns the kept text of an accepted string that has at most `SHORT` bytes and no parameter. An empty parameter
+    /// list is dropped.
     #[inline(always)]
     pub(crate) fn essence(text: &str, positions: Positions) -> ShortText
         requires accepted { HasPositions text.now positions }
@@ -164,8 +164,8 @@ impl ShortText {
         ShortText::lowercased(&text[..end])
     }
 
-    /// Returns the kept text of an accepted string of at most `SHORT` bytes with parameters. Only the parts that ignore
-    /// case are lowercased.
+    /// Returns the kept text of an accepted string that has at most `SHORT` bytes and a parameter. Only the parts that
+    /// ignore case are lowercased.
     #[inline(always)]
     pub(crate) fn with_pairs(text: &str, positions: Positions) -> ShortText
         requires accepted { HasPositions text.now positions }

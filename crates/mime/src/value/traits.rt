@@ -1,4 +1,4 @@
-//! Media types compared, hashed, cloned and printed.
+//! Compares, hashes, clones and prints media types.
 
 ghost use Rattle.std.specs.Prelude.{◌≡◌, ◌↔◌, IfSome, IsTrue, Some, true, length, refl};
 ghost use Rattle.std.specs.Cmp.{partial_equiv_from_equiv, partial_order_from_total, on_equiv, on_total, eq_by_cmp_equiv};
@@ -56,7 +56,7 @@ fn have_same_owned_text(first: &Mime, second: &Mime) -> bool
     }
 }
 
-/// Compares the parameters of two values. Like `same_parts`, it isn't inlined.
+/// Compares the parameters of two values. Like `same_parts`, this function isn't inlined.
 #[inline(never)]
 fn order_pairs(first: &Mime, second: &Mime) -> Ordering
     ensures { result ≡ slice_cmp pair_cmp first.now.media.pairs second.now.media.pairs }
@@ -66,8 +66,8 @@ fn order_pairs(first: &Mime, second: &Mime) -> Ordering
     pairs.cmp(others)
 }
 
-/// Compares two values whose kept texts are short, if the texts are equal or first differ within both essences.
-/// Otherwise returns `None`.
+/// Compares two values if their kept texts are short, and are equal or first differ within both essences. Otherwise
+/// returns `None`.
 #[inline(always)]
 fn order_short(first: &Mime, second: &Mime) -> Option<Ordering>
     ensures { IfSome result (λ order. order ≡ media_cmp first.now.media second.now.media) }
@@ -177,8 +177,8 @@ impl Ord for Mime {
 }
 
 /// Feeds the parameters and the essence to a hasher. Equal values, such as `a/b; p="x"` and `A/B;P=x`, feed the same
-/// bytes. The bytes of a value are never a prefix of the bytes of an unequal value, so a map keyed by `(Mime, String)`
-/// hashes as well as a map keyed by `Mime`. The bytes may change between versions. Hashing doesn't allocate.
+/// bytes. No value feeds a prefix of the bytes that an unequal value feeds, so a map keyed by `(Mime, String)` hashes
+/// as well as a map keyed by `Mime`. The bytes may change between versions. Hashing doesn't allocate.
 impl Hash for Mime {
     ghost hash_input = { λ mime. media_input mime.media };
 
@@ -192,8 +192,8 @@ impl Hash for Mime {
     }
 }
 
-/// Returns a copy with the same kept text. It allocates at most once, and returns `AllocError` if memory runs out.
-/// Cloning a constant, `*/*`, or a value that was read or made from at most 40 bytes doesn't allocate.
+/// Returns a copy with the same kept text, or `AllocError` if memory runs out. Cloning allocates at most once. Cloning
+/// a constant, `*/*`, or a value that was read or made from at most 40 bytes doesn't allocate.
 impl Clone for Mime {
     ghost is_clone = { λ mime copy. copy ≡ mime };
 
