@@ -171,7 +171,7 @@ impl Atom {
         self.constant().0
     }
 
-    /// Returns the constant as a media type (RFC 7231, 3.1.1.1). Neither this nor cloning the result allocates.
+    /// Returns the constant as a media type (RFC 7231, 3.1.1.1). Neither this call nor cloning its result allocates.
     /// `TEXT_PLAIN_UTF_8.mime()` is equal to the media type read from `text/plain;charset="utf-8"`.
     pub fn mime(self) -> Mime
         ensures reads { Reads (atom_text self) result.media }

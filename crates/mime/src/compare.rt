@@ -79,7 +79,7 @@ fn are_pairs(kept: Pairs<'_>, pairs: Pairs<'_>) -> bool
     others.next().is_none()
 }
 
-/// Returns `true` if the first semicolon is at this position, and `count` parameters follow it.
+/// Returns `true` if the first semicolon is at position `semicolon`, and `count` parameters follow it.
 #[inline(always)]
 fn has_shape(positions: Positions, semicolon: usize, count: usize) -> bool
     ensures { IsTrue result ↔ ((positions.semicolon ≡ Some semicolon) × (positions.pair_count ≡ count)) }
@@ -87,8 +87,8 @@ fn has_shape(positions: Positions, semicolon: usize, count: usize) -> bool
     positions.semicolon == Some(semicolon) && positions.pair_count == count
 }
 
-/// Returns `true` if `s` is accepted and has as many parameters as `mime`. `s` begins with the essence of `mime`,
-/// ignoring ASCII case, and a semicolon, so only the rest is scanned. This function isn't inlined: the scan needs the
+/// Returns `true` if `s` is accepted and has as many parameters as `mime`. `s` must begin with the essence of `mime`
+/// and a semicolon, ignoring ASCII case, so only the rest is scanned. This function isn't inlined: the scan needs many
 /// registers.
 #[inline(never)]
 fn has_list_of(mime: &Mime, s: &str) -> bool
@@ -106,8 +106,8 @@ fn has_list_of(mime: &Mime, s: &str) -> bool
 }
 
 /// Returns `true` if a string is equal to a value with parameters. The essences are compared, and then the parameters.
-/// If `equal_ignoring_case` is true, the string equals the kept text ignoring ASCII case, so it is accepted. Otherwise
-/// the string is scanned. This function isn't inlined: few strings need it.
+/// If `equal_ignoring_case` is true, the string equals the kept text ignoring ASCII case, so it is accepted without a
+/// scan. Otherwise the string is scanned. This function isn't inlined: few strings need it.
 #[inline(never)]
 fn eq_by_parts(mime: &Mime, s: &str, equal_ignoring_case: bool) -> bool
     requires reads { Reads mime.now.media.kept mime.now.media }
@@ -129,8 +129,8 @@ fn eq_by_parts(mime: &Mime, s: &str, equal_ignoring_case: bool) -> bool
     equal_ignoring_case || has_list_of(mime, s)
 }
 
-/// Returns `true` if a byte isn't a space, a tab or a quote. If two strings first differ, ignoring ASCII case, at two bytes for
-/// which this is `true`, they aren't read as equal values.
+/// Returns `true` if a byte isn't a space, a tab or a quote. If two strings first differ, ignoring ASCII case, at two
+/// such bytes, they aren't read as equal values.
 #[inline(always)]
 fn reaches_value(byte: u8) -> bool
     ensures { result ≡ reaches_value byte }
@@ -170,8 +170,8 @@ fn compare_texts(kept: &str, text: &str) -> Compared
 
 /// Returns `true` if a string other than the kept text is equal to a value with parameters. The first difference
 /// between the string and the kept text decides most calls. If the two are equal ignoring ASCII case, and the value's
-/// only parameter is a charset, the result is `true`. Otherwise the parts are compared. This function isn't inlined:
-/// most strings are the kept text.
+/// only parameter is a charset, the result is `true`. In all other cases the parts are compared. This function isn't
+/// inlined: most strings are the kept text.
 #[inline(never)]
 fn eq_other_text(mime: &Mime, s: &str) -> bool
     requires { mime.now.media.pairs ≢ [] }

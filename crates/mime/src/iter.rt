@@ -168,7 +168,7 @@ impl<'a> Model for MimeIter<'a> {
 }
 
 impl<'a> MimeIter<'a> {
-    /// Creates an iterator over the media types of `s`, such as `text/html, image/png`. It reads nothing yet, and
+    /// Creates an iterator over the media types of `s`, such as `text/html, image/png`. This call reads nothing, and
     /// doesn't allocate.
     pub fn new(alloc: Global, s: &'a str) -> MimeIter<'a>
         ensures text { result.text ≡ s.now }

@@ -28,8 +28,8 @@ use crate::scan::ParseError;
 use crate::value::Mime;
 use std::hash::Hash;
 
-/// At most one well-formed syntax tree spells a string: only the tree with type `a`, subtype `b` and a plain parameter
-/// spells `a/b;p=x` (RFC 7231, 3.1.1.1).
+/// At most one well-formed syntax tree spells a string: only the tree with type `a`, subtype `b` and a parameter
+/// without quotes spells `a/b;p=x` (RFC 7231, 3.1.1.1).
 #[tactic(auto, using(crate::proofs::GrammarLemmas::Readings::one_tree))]
 pub fn one_tree()
     ensures { OneTree }
@@ -63,8 +63,8 @@ pub fn accepted_is_viable()
     ensures { AcceptedIsViable }
 {}
 
-/// Exactly one of five things is missing from a text that is viable but rejected, and the text with its completion is
-/// accepted: an equals sign is missing from `a/b;p`, and `a/b;p=x` is accepted.
+/// A viable text that is rejected has exactly one of five faults: a missing slash, subtype, equals sign, value or
+/// closing quote. Followed by the fault's completion, the text is accepted, as `a/b;p` followed by `=x` is.
 #[tactic(auto, using(crate::proofs::GrammarLemmas::Faults::one_completion))]
 pub fn one_completion()
     ensures { OneCompletion }
@@ -171,14 +171,14 @@ pub fn bare_text_is()
     ensures { BareTextIs }
 {}
 
-/// A value is equal to the kept text of a value that was read exactly if the two values are equal: the value of
-/// `a/b; p="x"` is equal to the string `a/b;p=x`, the kept text of `A/B;P=x`.
+/// A value that was read is equal to another value exactly if its kept text is equal to the other value: `a/b;p=x`, the
+/// kept text of `A/B;P=x`, is equal to the value of `a/b; p="x"`.
 pub fn kept_text_is()
     ensures { KeptTextIs }
 {}
 
-/// A look-up in a list of parameters has at most one result: a value, or `None`. It has a result if the key either accepts or
-/// rejects each name: `TextKey("P")` finds `1` in `a/b;p=1;p=2`, and nothing else.
+/// A look-up in a list of parameters has at most one result: a value, or `None`. It has a result if each name is either
+/// accepted or rejected by the key: `TextKey("P")` finds `1` in `a/b;p=1;p=2`, and nothing else.
 pub fn one_answer<K: ParamKey>(key: &K)
     ensures most { OneAnswer (K.Accepts key.now) }
     ensures least { HasAnswer (K.Accepts key.now) }
@@ -285,15 +285,15 @@ pub fn run_gives_cut()
     ensures { RunGivesCut }
 {}
 
-/// A run over a string with a comma yields the items of the string before the comma, its rest, and the items of the
-/// string after the comma, unless the rest ends in an open quoted string: over `e, c/d` it yields the bad piece `e`,
-/// which is the rest of the string `e`, and `c/d`.
+/// A run over a string with a comma yields the items of the string before the comma, the rest of that string, and the
+/// items of the string after the comma, unless the rest ends in an open quoted string: over `e, c/d` it yields the rest
+/// `e`, as a bad piece, and `c/d`.
 pub fn comma_contains_on_runs()
     ensures { CommaContainsOnRuns }
 {}
 
-/// If values that were read are printed, and joined with a comma and a space, an iterator over the string yields the same values: over
-/// `a/b, c/d` it yields `a/b` and `c/d`.
+/// If values that were read are printed, and joined with a comma and a space, an iterator over the joined string yields
+/// these values: over `a/b, c/d` it yields `a/b` and `c/d`.
 pub fn printed_list_comes_back()
     ensures { PrintedListComesBack }
 {}

@@ -20,8 +20,8 @@ pub use crate::scan::fault::{FromStrError, ParseError};
 pub(crate) use crate::scan::reader::{ByteReader, NEAR};
 
 /// The positions of an accepted string's parts, in bytes from 0, and the number of its parameters. The order of the
-/// fields matters for speed: the compiler would move a position in two parts if it were beside the byte of another
-/// variant of `Scanned`.
+/// fields matters for speed: the compiler would copy a position in two parts if the position were beside the byte of
+/// another variant of `Scanned`.
 #[derive(Clone, Copy)]
 pub(crate) struct Positions {
     /// The plus before the suffix.
@@ -43,8 +43,8 @@ pub(crate) enum Scanned {
     /// No media type continues with this byte, which was read last, and the string before the byte isn't a media type.
     Stopped(u8),
     /// No media type continues with this byte, which was read last, but the string before the byte is a media type,
-    /// whose parts have these positions. The byte is the last field, so that the positions are where `Accepted` has
-    /// them.
+    /// whose parts have these positions. The byte is the last field, so that the positions are at the same place as in
+    /// `Accepted`.
     Followed(Positions, u8),
 }
 
@@ -74,7 +74,7 @@ fn token(reader: &mut ByteReader<'_>, with_plus: bool) -> Option<u8>
     None
 }
 
-/// Reads optional whitespace, spaces and tabs (OWS of RFC 7230, 3.2.3), and returns the byte that ends it.
+/// Reads optional whitespace (OWS of RFC 7230, 3.2.3: spaces and tabs), and returns the byte that ends it.
 #[inline(always)]
 fn spaces(reader: &mut ByteReader<'_>) -> Option<u8>
     ensures { Passes is_space reader.old reader.new result }
@@ -119,8 +119,8 @@ fn content(reader: &mut ByteReader<'_>) -> Option<u8>
     stop
 }
 
-/// Reads a subtype after its first byte. Returns the position of the last plus that was read, or `None` if no plus was
-/// read, and the byte that ends the subtype. `from` is the reader's count at the start of the string.
+/// Reads a subtype after its first byte. Returns two things: the position of the last plus that was read, if any, and
+/// the byte that ends the subtype. `from` is the reader's count at the start of the string.
 #[inline(always)]
 fn subtype(reader: &mut ByteReader<'_>, from: u128) -> (Option<usize>, Option<u8>)
     requires begun { from < reader.old.count }
@@ -138,7 +138,7 @@ fn subtype(reader: &mut ByteReader<'_>, from: u128) -> (Option<usize>, Option<u8
     (if plus == 0 { None } else { Some(plus) }, stop)
 }
 
-/// Reads a parameter list, after its semicolon. `before` has the positions of the parts before the list, and no pairs.
+/// Reads the parameter list after a semicolon. `before` has the earlier parts' positions, and a `pair_count` of 0.
 #[inline(always)]
 pub(crate) fn parameters(reader: &mut ByteReader<'_>, before: Positions) -> Scanned
     requires { before.pair_count + length reader.old.left < 2 ^ 64 }
@@ -194,8 +194,8 @@ pub(crate) fn separators(reader: &mut ByteReader<'_>) -> Option<u8>
     None
 }
 
-/// Reads the rest of a string after its first byte. Stops at the end, or after the first byte with which no media type
-/// continues.
+/// Reads the rest of a string after its first byte, `first`. Stops at the end, or after the first byte with which no
+/// media type continues.
 #[tactic(auto, using(crate::proofs::ScanLemmas::Passing::given_sum))]
 #[inline(always)]
 pub(crate) fn scan_after(first: u8, reader: &mut ByteReader<'_>) -> Scanned

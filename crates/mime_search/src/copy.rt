@@ -17,7 +17,7 @@ fn copy_ends<const N: usize>(out: &mut [u8], bytes: &[u8])
     Simd::<u8, N>::from_slice(&bytes[last..]).copy_to_slice(&mut out[last..]);
 }
 
-/// Copies a long string. It isn't inlined: few strings are long.
+/// Copies a long string. This function isn't inlined: few strings are long.
 #[inline(never)]
 fn copy_long(out: &mut [u8], bytes: &[u8])
     requires { length out.old ≡ length bytes.now }

@@ -125,8 +125,8 @@ fn eq_of_one_length(a: &[u8], b: &[u8]) -> bool
     eq_byte_by_byte(a, b)
 }
 
-/// Returns `true` if two byte strings are equal ignoring ASCII case. The lengths, which decide most calls, are compared in the
-/// caller's code.
+/// Returns `true` if two byte strings are equal ignoring ASCII case. The lengths, which decide most calls, are compared
+/// in the caller's code.
 #[inline(always)]
 pub fn eq_ignore_ascii_case(a: &[u8], b: &[u8]) -> bool
     ensures { IsTrue result ↔ (lowered a.now ≡ lowered b.now) }

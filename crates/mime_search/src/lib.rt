@@ -1,5 +1,5 @@
-//! Searches of strings, a block of bytes at a time: for the first byte of a class, for the end of a quoted string's content, and for the
-//! first difference, ignoring ASCII case. Short strings are copied without a call.
+//! Searches in strings, a block of bytes at a time: for the first byte of a class, for the end of a quoted string's
+//! content, and for the first difference, also ignoring ASCII case. Short strings are copied without a call.
 #![tactic(auto)]
 
 mod class;

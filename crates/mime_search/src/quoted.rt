@@ -7,7 +7,7 @@ ghost use Rattle.mime_search.specs.Quoted.{quote, backslash, len_from};
 use crate::class::{BLOCK, Class};
 use crate::search::{first_stop, stops_from};
 
-/// Returns the position after the quoted pair, a backslash and a byte, that begins at `from`. A backslash that ends the
+/// Returns the position after the quoted pair (a backslash and a byte) that begins at `from`. A backslash that ends the
 /// text counts as a quoted pair.
 #[inline(always)]
 fn after_quoted_pair(text: &[u8], from: usize) -> usize
@@ -49,8 +49,8 @@ fn after_quoted_pairs(text: &[u8], from: usize) -> usize
 }
 
 /// Returns the position of the first quote outside a quoted pair among the `size` bytes at `from`. If there is no such
-/// quote, returns the end of these bytes, or the end of the quoted pair that extends beyond them. `stops` is the bit
-/// mask of the quotes and backslashes among these bytes.
+/// quote, returns the end of these bytes, or of the quoted pair that extends beyond them. `stops` is the bit mask of
+/// the quotes and backslashes among these bytes.
 #[inline(always)]
 fn after_quoted_pairs_among(text: &[u8], from: usize, size: usize, stops: u64) -> usize
     requires few { size ≤ BLOCK }
@@ -78,7 +78,7 @@ fn after_quoted_pairs_among(text: &[u8], from: usize, size: usize, stops: u64) -
     end
 }
 
-/// Skips bytes up to the next quote or backslash. If the first block has one of them, instead skips the block with its
+/// Skips bytes up to the next quote or backslash. If one of them is in the first block, skips this block with its
 /// quoted pairs, but stops at a quote outside these pairs. Returns the position after the skipped bytes.
 #[inline(always)]
 fn after_plain(text: &[u8], from: usize) -> usize

@@ -1,4 +1,4 @@
-//! Why a string is rejected, and how this is printed.
+//! The reason why a string is rejected, and how the reason is printed.
 
 ghost use Rattle.std.specs.Prelude.{◌≡◌, IfOk, Some};
 ghost use Rattle.std.specs.Fmt.InlineText.{inline_text};
@@ -23,7 +23,7 @@ pub enum ParseError {
     /// The string ends in a quoted string: its closing `"` is missing, as in `a/b;p="x`. If it ends in an unpaired
     /// backslash, as in `a/b;p="\`, the other byte of the quoted pair is missing, too.
     MissingQuote,
-    /// The string has a byte that no media type has at its position, such as the space in `a b`. Some media type begins
+    /// The string has a byte with which no media type continues, such as the space in `a b`. Some media type begins
     /// with the bytes before this byte, but none with the bytes up to and including it.
     InvalidToken {
         /// The position of the byte, in bytes from 0.
@@ -35,8 +35,8 @@ pub enum ParseError {
     NoMemory,
 }
 
-/// Returns the text that `InvalidToken` prints, of at most 69 bytes. It doesn't use the caller's formatter, whose width
-/// would pad each number.
+/// Returns the text that `InvalidToken` prints, of at most 69 bytes. This function doesn't use the caller's formatter,
+/// whose width would pad each number.
 fn token_text(pos: usize, byte: u8) -> Result<InlineText<80>, fmt::Error>
     ensures { IfOk result (λ text. inline_text text ≡ token_text pos byte) }
 {

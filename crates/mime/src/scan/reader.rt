@@ -18,18 +18,18 @@ pub(crate) struct ByteReader<'a> {
     text: &'a [u8],
     /// The position of the next byte.
     at: usize,
-    /// The number of bytes counted before this reader.
+    /// The count at which this reader begins.
     before: u128,
     /// The number of known bytes at the start of the string: those that `stops` describes.
     known: usize,
     /// Which of the known bytes aren't common token bytes, as a bit mask.
     stops: u64,
-    /// The maximum number of bytes of a token that the caller's loop reads. A call reads the others, which costs more
-    /// for a short token.
+    /// The maximum number of bytes of a token that the caller's loop reads. `next_far` reads the others with a call,
+    /// which is slower for a short token.
     near: usize,
 }
 
-/// The maximum number of bytes of a token that the loop of a `MimeIter` reads. Most tokens are shorter.
+/// The value of `near` in the reader of a `MimeIter`. Most tokens are shorter.
 pub(crate) const NEAR: usize = 24;
 
 /// Returns the position of the first byte, at or after `from`, that ends a token, or the length if there is no such
@@ -99,7 +99,7 @@ impl<'a> Model for ByteReader<'a> {
 impl<'a> ByteReader<'a> {
     /// Returns a reader of all bytes of `text`, whose count begins at `count`. The reader looks only at bytes that it
     /// has counted, and at the next one, so that its count is the number of steps of a `MimeIter`. The caller's loop
-    /// reads at most `near` bytes of a token. A call reads the others.
+    /// reads at most `near` bytes of a token. `next_far` reads the others.
     #[inline(always)]
     pub(crate) fn new(text: &'a str, count: u128, near: usize) -> ByteReader<'a>
         requires { count + length text.now < 2 ^ 128 }
@@ -228,7 +228,7 @@ impl<'a> ByteReader<'a> {
         Some(self.text[stop])
     }
 
-    /// Returns `false` if the token at the next byte ends at a known byte at which the string is rejected.
+    /// Returns `false` if a known byte ends the token that begins at the next byte, and the string is rejected there.
     #[inline(always)]
     fn may_go_on(&self) -> bool {
         if self.at >= self.known {
@@ -242,8 +242,8 @@ impl<'a> ByteReader<'a> {
         stop == b';' || is_token(stop)
     }
 
-    /// Makes all bytes of a window known, if only a block is known and the string isn't rejected where the token at the
-    /// next byte ends. Most rejected strings are rejected earlier.
+    /// Makes all bytes of a window known, if only a block is known and `may_go_on` returns `true`. Most rejected
+    /// strings are rejected before a window is needed.
     #[inline(always)]
     pub(crate) fn look_further(&mut self)
         ensures { self.new ≡ self.old }
@@ -274,8 +274,8 @@ impl<'a> ByteReader<'a> {
         self.before + self.at as u128
     }
 
-    /// Returns the position, in bytes from 0, of the byte that was read last. `from` is what `count` returned at the start
-    /// of the string.
+    /// Returns the position, in bytes from 0, of the byte that was read last. `from` is what `count` returned at the
+    /// start of the string.
     #[inline(always)]
     pub(crate) fn position(&self, from: u128) -> usize
         requires given { from < self.now.count }
