@@ -55,7 +55,7 @@ fn is_indented(line: &[u8]) -> bool
     begins(b"  http/", line)
 }
 
-/// Returns the lines of the head that a line after another head begins, or `None` if the line begins none.
+/// Returns a head that has only this line, or `None` if the line doesn't begin a head. The line comes after another head.
 fn begun(alloc: Global, line: &[u8]) -> Result<Option<Vec<&[u8]>>, AllocError>
     ensures { IfOk result (λ head. option_map lines_now head ≡ begun line.now) }
 {
@@ -129,7 +129,7 @@ fn has_indent(head: &[&[u8]]) -> bool
     }
 }
 
-/// Returns the lines of a head, each without two spaces at its start if the head is indented.
+/// Returns the lines of a head. If the head is indented, removes two spaces from the start of each line that has them.
 fn unindented(alloc: Global, head: Vec<&[u8]>) -> Result<Vec<&[u8]>, AllocError>
     ensures { IfOk result (λ lines. lines_now lines ≡ unindented (lines_now head.entry)) }
 {
@@ -150,8 +150,7 @@ fn goes_on(line: &[u8]) -> bool
     matches!(line, [b' ' | b'\t', ..])
 }
 
-/// Returns a field's value, which begins with `begin` and may continue in the lines `after`. Each line is trimmed, and one space is added
-/// before it.
+/// Returns a field's value: `begin`, and the lines at the start of `after` that continue it. All are trimmed, and joined by single spaces.
 fn whole_value(alloc: Global, begin: &[u8], after: &[&[u8]]) -> Result<Vec<u8>, AllocError>
     ensures { IfOk result (λ value. vec_items value ≡ trimmed begin.now ++ continued (map (λ line. line.now) after.now)) }
 {

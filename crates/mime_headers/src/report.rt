@@ -51,8 +51,8 @@ pub(crate) fn report_of(
     Ok(Some((text, verdict)))
 }
 
-/// The report on some heads: its text, whether each `Content-Type` was accepted, and the outcome of the last choice, if there was one:
-/// whether an offer was acceptable or there were no offers.
+/// The report on some heads: its text, whether each `Content-Type` was accepted, and the outcome of the last choice, if there was one. The
+/// outcome is `true` if an offer was acceptable or there were no offers.
 #[derive(Drop)]
 struct Report {
     text: Vec<u8>,
@@ -128,7 +128,7 @@ fn choose(is_first: bool, first: &'static [u8], second: &'static [u8]) -> &'stat
     if is_first { first } else { second }
 }
 
-/// Adds a row, if there is one.
+/// Adds a row of a label and bytes, or nothing if `bytes` is `None`.
 fn push_if(text: &mut Vec<u8>, label: &[u8], bytes: Option<&[u8]>) -> Pushed
     ensures { OnOk result (vec_items text.new ≡ vec_items text.old ++ row_if label.now (option_map (λ bytes. bytes.now) bytes.entry)) }
 {
@@ -185,8 +185,7 @@ fn push_types(text: &mut Vec<u8>, are_good: &mut bool, values: &[Vec<u8>]) -> Pu
     Ok(())
 }
 
-/// Adds the rows of a value of `Content-Type`, without the white space around it: of its media type, or of its fault. Clears `are_good` if
-/// the value is rejected.
+/// Trims a value of `Content-Type`, and adds the rows of its media type, or of its fault. Clears `are_good` if the value is rejected.
 fn push_type(text: &mut Vec<u8>, are_good: &mut bool, value: &[u8]) -> Pushed
     ensures { OnOk result (AddsType (vec_items text.old, are_good.old) value.now (vec_items text.new, are_good.new)) }
 {
@@ -393,7 +392,7 @@ fn push_offer(
     )
 }
 
-/// Adds `before`, the number (from 1) and the text of the range at a position, and `after`; or `none`, if there is no position.
+/// Adds `before`, the number (from 1) and the text of the range at a position, and `after`. Adds only `none` if there is no position.
 fn push_place(
     text: &mut Vec<u8>,
     ranges: &[Mime],
@@ -430,8 +429,8 @@ fn best_of<'o>(offers: &'o [Mime], ranking: &[RankedOffer]) -> Option<&'o Mime>
     nth(offers, first.offer)
 }
 
-/// Adds the row of the best offer, or `406 Not Acceptable` if no offer is acceptable. Adds nothing if there are no offers. Returns whether
-/// an offer is acceptable or there are no offers.
+/// Adds the row of the best offer, or `406 Not Acceptable` if no offer is acceptable. Adds nothing if there are no offers. Returns `true`
+/// if an offer is acceptable or there are no offers.
 fn push_best(text: &mut Vec<u8>, offers: &[Mime], best: Option<&Mime>) -> Result<bool, AllocError>
     ensures rows { OnOk result (vec_items text.new ≡ vec_items text.old
         ++ best_row (map (λ offer. offer.media) offers.now) (option_map (λ best. best.now.media) best.entry)) }

@@ -10,8 +10,8 @@ const HEAD: &[u8] = b"Accept: a/b\n\n";
 
 const REPORT: &[u8] = b"no Content-Type\nAccept 1.000 a/b\n";
 
-/// A source or a sink that expects these calls in order: `r` is a read that returns the head, `e` a read at the end, `w` a write of the
-/// whole report, `f` a flush, and `x` a call of any kind that fails.
+/// A source or a sink that expects the calls in `left`, in order: `r` is a read that returns the head, `e` a read at the end, `w` a write
+/// of the whole report, `f` a flush, and `x` a call of any kind that fails.
 #[derive(Drop)]
 struct Calls {
     left: &'static [u8],

@@ -57,7 +57,7 @@ impl Accept {
         Ok(())
     }
 
-    /// Adds a piece of a line. `fault` is the fault or `NoMemory` that `mime` returns for the piece without the white space around it. This
+    /// Adds a piece of a line. `fault` is what `mime` returns for the piece without the white space around it: a fault, or `NoMemory`. This
     /// function isn't inlined, so that the code for pieces that `mime` accepts stays short.
     #[inline(never)]
     #[tactic(auto, using(crate::proofs::Around::utf8_around))]
@@ -200,10 +200,11 @@ impl Accept {
     }
 
     /// Returns the position of the offer with the highest weight, or `None` exactly if every offer weighs 0. Of offers with equal weights,
-    /// the best is the offer with the more specific range: the range that names more parts or, if both name equally many, more parameters.
-    /// If neither range is more specific, the best is the offer whose range is earlier in the header, or else the first offer. If two
-    /// ranges are equally specific for an offer and have the same weight, the later one counts. If the result is `None`, reply with 406
-    /// (RFC 9110, 15.5.7). Every reply depends on the header, so send `Vary: Accept` (12.5.5). This doesn't allocate.
+    /// the best is the offer with the more specific range: the range that names more parts (`text/*` names one) or, if both name equally
+    /// many, more parameters. If neither range is more specific, the best is the offer whose range is earlier in the header. Of offers with
+    /// the same range, the first is the best. If two ranges are equally specific for an offer and have the same weight, the later one
+    /// counts. If the result is `None`, reply with 406 (RFC 9110, 15.5.7). Every reply depends on the header, so send `Vary: Accept`
+    /// (12.5.5). This doesn't allocate.
     pub fn best(&self, offers: &[Mime]) -> Option<usize>
         ensures exact { result ≡ best_offer self.now.ranges (map (λ offer. offer.media) offers.now) }
         ensures within { IfSome result (λ at. at < length offers.now) }

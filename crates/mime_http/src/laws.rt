@@ -57,7 +57,7 @@ pub fn one_header()
     ensures { OneHeader }
 {}
 
-/// A bad entry changes no other entry, wherever it is, and no offer's weight: `c/d, a b` and `c/d` have the same ranges.
+/// A bad entry, wherever it is, changes no other entry and no offer's weight: `c/d, a b` and `c/d` have the same ranges.
 #[tactic(auto, using(crate::proofs::Lists::bad_is_alone))]
 pub fn bad_is_alone()
     ensures { BadIsAlone }
@@ -93,8 +93,8 @@ pub fn covers_itself()
     ensures { CoversItself }
 {}
 
-/// Whether a range covers an offer, and how specific it is, depends on what their values mean: `a/b;p="\x"` covers `a/b;p=x` just as
-/// `a/b;p=x` does (RFC 9110, 5.6.4).
+/// Whether a range covers an offer, and how specific the range is, depends on what the values of parameters mean: `a/b;p="\x"` covers
+/// `a/b;p=x` just as `a/b;p=x` does (RFC 9110, 5.6.4).
 #[tactic(auto, using(crate::proofs::Demanded::meaning_counts))]
 pub fn meaning_counts()
     ensures { MeaningCounts }

@@ -165,7 +165,7 @@ fn mime_with(
 /// are printed in the same way, but with only the backslashes that they have: `a/b;p="x"` with the parameter `q` and the value `1` is
 /// `a/b; p=x; q=1`.
 ///
-/// It allocates the text, which may grow, and at most one more block: for the kept text, if that has more than 40 bytes.
+/// It allocates a buffer for the text, which may grow. A text of more than 40 bytes may need one more block.
 ///
 /// # Errors
 /// Returns `AllocError` if memory runs out, which never happens if the result is `None`.

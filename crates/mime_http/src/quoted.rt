@@ -7,7 +7,7 @@ ghost use Rattle.mime_http.specs.{Forms.kind_of, Forms.is_plain, Forms.form_of, 
 
 use std::alloc::AllocError;
 
-/// Appends what a parameter's value means to a buffer: a backslash and the byte after it mean that byte (RFC 9110, 5.6.4). The value `a\"b`
+/// Appends to a buffer what a parameter's value means: a backslash and the byte after it mean that byte (RFC 9110, 5.6.4). The value `a\"b`
 /// of `a/b; p="a\"b"` means `a"b`. A value without backslashes means itself. This allocates at most once, and doesn't allocate if the
 /// buffer has capacity for `value.len()` more bytes.
 ///
@@ -121,8 +121,8 @@ fn kind_of(value: &[u8]) -> u8
     kind
 }
 
-/// Returns the form in which a value is written, or `None` if it has a control character other than the tab, so that no quoted string means
-/// it.
+/// Returns the form in which a value is written, or `None` if the value has a control character other than the tab, which no quoted string
+/// can contain.
 #[tactic(auto, using(crate::proofs::Contents::token_from_kind))]
 pub(crate) fn form_of(value: &str) -> Option<Form>
     ensures { result ≡ (if list_all is_quoted_byte value.now then Some (form_of value.now) else None) }
@@ -151,8 +151,8 @@ fn special_from(value: &str, from: usize) -> usize
     at
 }
 
-/// Adds a run of bytes and a backslash. If the run is only one quote or only one backslash, the run and the backslash after it are added at
-/// once.
+/// Adds a run of bytes and a backslash. If the run is only one quote or only one backslash, the run and the backslash after it are added in
+/// one call.
 #[inline(always)]
 fn push_with_backslash(text: &mut String, run: &str) -> Result<(), AllocError>
     ensures { OnOk result (string_bytes text.new ≡ (string_bytes text.old ++ run.now) ++ (backslash_byte ∷ [])) }

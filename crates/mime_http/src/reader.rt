@@ -21,7 +21,7 @@ static TOKEN_STOPS: Class = Class {
     inside: false,
 };
 
-/// All bytes except the ASCII bytes of quoted text. The tab is in the class, though quoted text may have it.
+/// All bytes except the printable ASCII bytes of quoted text. So the tab is in the class, though quoted text may have it.
 static TEXT_STOPS: Class = Class {
     fold: 0,
     folded: Range(b'#', b'['),
@@ -76,7 +76,7 @@ fn is_token_at(value: &[u8], pos: usize) -> bool
     pos < value.len() && is_token(value[pos])
 }
 
-/// Returns the same position as `token_end_far`. `start` says at which of the value's first bytes a search for that position stops.
+/// Returns the same position as `token_end_far`. `start` says which of the value's first bytes are in `TOKEN_STOPS`.
 #[inline(always)]
 fn token_end(value: &[u8], start: Start, from: usize) -> usize
     requires within { from ≤ length value.now }
@@ -158,8 +158,8 @@ fn string_end(value: &[u8], from: usize) -> Result<usize, ParseError>
     Err(ParseError::MissingQuote)
 }
 
-/// The bytes that are written of a parameter: those from its name up to `first`, and those from `begin` up to `last`. The parameter ends
-/// before `end`.
+/// The bytes that are written of a parameter: those from its name up to `first`, and those from `begin` up to `last`. `end` is the position
+/// after the parameter.
 #[derive(Clone, Copy)]
 struct Spans {
     first: usize,
@@ -296,9 +296,9 @@ fn put_parameter(room: &mut [u8], len: usize, value: &[u8], name: usize, spans: 
     put(room, len, &value[spans.begin..spans.last])
 }
 
-/// Writes the media type of a value anew: its essence, and each parameter as `with_parameter` writes it. Returns the number of bytes that
-/// this takes, or the fault of a value that HTTP doesn't allow. If the buffer `room` has fewer bytes, the text in it isn't complete. This
-/// doesn't allocate.
+/// Writes the media type of a value anew: its essence, and each parameter as `with_parameter` writes it. Returns the length of the whole
+/// text, or the fault of a value that HTTP doesn't allow. If the buffer `room` is shorter than the text, the text in it isn't complete.
+/// This doesn't allocate.
 pub(crate) fn write_anew(value: &[u8], room: &mut [u8]) -> Result<usize, ParseError>
     ensures answer { MatchResult result
         (λ len. (parts : Parts) × (answer_of value.now ≡ read parts) × Holds room.new len (text_of_parts parts))

@@ -34,7 +34,7 @@ pub enum FieldError {
     NoMemory,
 }
 
-/// Returns what `NotUtf8` prints, at most 54 bytes. It doesn't use the caller's formatter, whose width would pad the number.
+/// Returns what `NotUtf8` prints, at most 54 bytes. The caller's formatter isn't used, since its width would pad the number.
 fn not_utf8_text(pos: usize) -> Result<InlineText<64>, fmt::Error>
     ensures { IfOk result (λ text. inline_text text ≡ not_utf8_text pos) }
 {
@@ -107,10 +107,10 @@ fn read_written(alloc: Global, text: &[u8]) -> Result<Mime, FieldError>
     }
 }
 
-/// Returns the fault of a value, if it follows from `fault`, which `mime` returns for the value without the white space around it. At a
+/// Returns the fault of a value, if that follows from `fault`, which `mime` returns for the value without the white space around it. At a
 /// byte that `mime` rejects, HTTP rejects the value, too, unless the byte is white space or a semicolon. What `mime` finds missing at the
-/// value's end is missing for HTTP, too, unless white space is there.
-/// This function isn't inlined, since it would take registers of the caller.
+/// value's end is missing for HTTP, too, unless white space is there. This function isn't inlined, so that it takes no registers of the
+/// caller.
 #[inline(never)]
 fn same_fault_far(value: &[u8], fault: ParseError) -> Option<ParseError>
     requires { Explains (trimmed value.now) fault }
@@ -135,7 +135,7 @@ fn same_fault_far(value: &[u8], fault: ParseError) -> Option<ParseError>
     }
 }
 
-/// Returns the same as `same_fault_far`. The result is matched and made anew, so that the caller reserves no stack for it earlier.
+/// Returns the same as `same_fault_far`. The result is matched and made anew, so that the caller reserves no stack for it before the call.
 #[inline(always)]
 fn same_fault(value: &[u8], fault: ParseError) -> Option<ParseError>
     requires { Explains (trimmed value.now) fault }
@@ -147,9 +147,9 @@ fn same_fault(value: &[u8], fault: ParseError) -> Option<ParseError>
     }
 }
 
-/// Reads a value by writing it anew into `room`. If `mime` accepts the value without the white space around it, but memory ran
-/// out, `accepted` is `true`. Such a value is read only if it is printed as its essence, in at most 40 bytes. This doesn't allocate if at
-/// most 40 bytes are printed. Otherwise, it allocates a block for these bytes and one for the media type.
+/// Reads a value by writing it anew into `room`. `accepted` is `true` if `mime` accepts the value without the white space around it, but
+/// memory ran out. Such a value is read only if it is printed as its essence, in at most 40 bytes. This doesn't allocate if at most 40
+/// bytes are printed. Otherwise, it allocates a block for these bytes and one for the media type.
 #[cycle(rejected)]
 #[inline(never)]
 fn read_into(
@@ -181,7 +181,7 @@ fn read_into(
     Ok(mime)
 }
 
-/// Reads a value for which `len` bytes are written, which are more than 40.
+/// Reads a value for which `len` bytes are written. `len` is more than 40.
 #[cycle(rejected)]
 #[inline(always)]
 fn read_in_block(alloc: Global, value: &str, accepted: bool, len: usize) -> Result<Mime, FieldError>
@@ -234,8 +234,8 @@ pub(crate) fn read_rejected(
 }
 
 /// Reads the media type of a header's value, such as that of a `Content-Type`, from bytes as they are received (RFC 9110, 8.3.1, with
-/// 5.6.3, 5.6.4 and 5.6.6). Accepts each value in UTF-8 that the grammar there allows, even with white space around semicolons and with
-/// empty parameters. White space around the value is allowed, too. A non-ASCII value that isn't UTF-8 (obs-text) is rejected.
+/// 5.6.3, 5.6.4 and 5.6.6). Accepts each value in UTF-8 that the grammar in these sections allows, even with white space around semicolons
+/// and with empty parameters. White space around the value is allowed, too. A non-ASCII value that isn't UTF-8 (obs-text) is rejected.
 ///
 /// A request has at most one `Content-Type` line. Treat two such lines as an error, since programs differ in which line they use. A body
 /// without a `Content-Type` may be treated as `application/octet-stream` (8.3).
@@ -249,8 +249,8 @@ pub(crate) fn read_rejected(
 ///
 /// # Errors
 /// Returns `NotUtf8` if the value isn't valid UTF-8. Returns `Invalid` with the fault if the value isn't a media type. The fault's position
-/// is that in `value`: 7 for `   a/b c`. Returns `NoMemory` if memory runs out, which never happens for a value that isn't a media type,
-/// nor for a value that is printed in at most 40 bytes.
+/// counts from the start of `value`: 7 for `   a/b c`. Returns `NoMemory` if memory runs out, which never happens for a value that isn't a
+/// media type, nor for a value that is printed in at most 40 bytes.
 #[inline(always)]
 pub fn content_type(alloc: Global, value: &[u8]) -> Result<Mime, FieldError>
     // The result is the media type that HTTP defines.
