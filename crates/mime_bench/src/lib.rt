@@ -1,7 +1,7 @@
 //! The operations that bench/ measures, as one call over byte slices.
 //!
-//! The call repeats an operation, so that the times of two calls differ only by the operation. No clause states the results. The driver
-//! compares them with those of the Rust crate.
+//! The call repeats an operation in rounds. If two calls differ only in their rounds, their times differ by the time of the additional
+//! rounds. No clause states the results. The driver compares them with those of the Rust crate.
 #![tactic(auto)]
 
 use mime::{BOUNDARY, CHARSET, Mime, MimeIter, ParamKey, TextKey, mime_eq_str};
@@ -79,7 +79,7 @@ fn lines<'a>(alloc: Global, text: &'a str) -> Vec<&'a str> {
     lines
 }
 
-/// Returns the media types of strings. Those that are rejected are left out.
+/// Returns the media types of strings. Rejected strings are left out.
 fn values_of(alloc: Global, texts: &[&str]) -> Vec<Mime> {
     let mut values = Vec::new(alloc);
     for text in texts {
@@ -195,8 +195,8 @@ fn cmp(values: &[Mime], others: &[Mime], rounds: usize) -> usize {
     sum!(rounds, (mime, other) in values.iter().zip(others) => mime.cmp(other).is_lt() as usize)
 }
 
-/// Hashes with the default hasher of a map. Returns how many hashes aren't 1. The hashes themselves differ between the two libraries, whose
-/// results must be equal.
+/// Hashes with the default hasher of a map. Returns how many hashes aren't 1. This number must be the same as the Rust crate's. The hashes
+/// themselves differ.
 #[inline(never)]
 fn hash(values: &[Mime], rounds: usize) -> usize {
     sum!(rounds, mime in values => {

@@ -1,8 +1,8 @@
 //! The calls that include/mime.h declares, for programs that aren't in Rattle.
 //!
-//! No call keeps a pointer or a state. Each call returns a number, its answer. It writes strings into the caller's buffer, each with a byte
-//! 0 after it. The files `Answers`, `HeaderAnswers` and `ParameterAnswers` of `Rattle.mime_c.specs` define the answers and the strings.
-//! include/mime.h describes them in plain words.
+//! No call keeps a pointer or a state. Each call returns a number, its answer. Strings are written into the caller's buffer, each with a
+//! byte 0 at its end. The files `Answers`, `HeaderAnswers` and `ParameterAnswers` of `Rattle.mime_c.specs` define the answers and the
+//! strings. include/mime.h describes them in plain words.
 #![tactic(auto)]
 
 ghost use Rattle.std.specs.Prelude.{◌≡◌, ◌≢◌, ◌+◌, ◌<◌, ◌≤◌, true, false, [], ◌∷◌, length, IfOk, IfErr, IsOk, MatchResult};
@@ -373,7 +373,7 @@ fn put_range(out: &mut [u8], at: usize, range: &Mime) -> usize
 }
 
 /// Reads a line of an Accept header (RFC 9110, 12.5.1), and writes the strings of each range to `out`, which must have at least
-/// `3 * text.len() + 3` bytes. The strings of a range are its weight in thousandths, as four digits, its parts, and an empty string. Sets
+/// `3 * text.len() + 3` bytes. The strings of a range are its weight (four digits, in thousandths), its parts, and an empty string. Sets
 /// `bad` to the number of bad entries. Returns `MIME_OK`, `MIME_NO_ROOM` or `MIME_NO_MEMORY`.
 #[unsafe(no_mangle)]
 pub extern "C" fn mime_accept(

@@ -121,9 +121,9 @@ fn has_room(out: &[u8], text: &[u8], name: &[u8], value: &[u8]) -> bool
     most <= out.len() as u128
 }
 
-/// Writes a media type with a parameter in place of all parameters of its name (RFC 9110, 5.6.6) to `out`, which must have at least
-/// `2 * text.len() + name.len() + 2 * value.len() + 6` bytes. Sets `size` to the number of bytes of the media type. Returns `MIME_OK`, or
-/// another answer of include/mime.h if it wrote nothing.
+/// Writes a media type with a parameter to `out`. The parameter replaces all parameters of the same name (RFC 9110, 5.6.6). `out` must
+/// have at least `2 * text.len() + name.len() + 2 * value.len() + 6` bytes. Sets `size` to the number of bytes of the media type. Returns
+/// `MIME_OK`, or another answer of include/mime.h if it wrote nothing.
 #[unsafe(no_mangle)]
 pub extern "C" fn mime_set_parameter(
     alloc: Global,

@@ -4,7 +4,7 @@ ghost use Rattle.std.specs.Prelude.{◌≡◌, ◌↔◌, ◌⊎◌, IsTrue};
 
 use mime::{Atom, FONT_WOFF2, IMAGE_GIF, IMAGE_JPEG, IMAGE_PNG};
 
-/// Returns `true` if a file should be sent compressed. GIF, JPEG, PNG and WOFF2 files are compressed already.
+/// Returns `true` if a file of this media type should be sent compressed. GIF, JPEG, PNG and WOFF2 files are compressed already.
 pub fn is_compressible(atom: Atom) -> bool
     ensures { IsTrue result ↔ ¬ ((atom ≡ Atom.IMAGE_GIF) ⊎ ((atom ≡ Atom.IMAGE_JPEG)
         ⊎ ((atom ≡ Atom.IMAGE_PNG) ⊎ (atom ≡ Atom.FONT_WOFF2)))) }

@@ -14,7 +14,7 @@ use std::alloc::{AllocError, Global};
 pub struct Disposition {
     /// The name of the field.
     pub name: Vec<u8>,
-    /// The name of the file, as the client sent it: don't open it as a path. `None` if there is none.
+    /// The name of the file as the client sent it, or `None` if there is none. Don't open the name as a path.
     pub file_name: Option<Vec<u8>>,
 }
 
@@ -32,8 +32,8 @@ fn meaning(alloc: Global, mime: &Mime, name: &str) -> Result<Option<Vec<u8>>, Al
 
 /// Reads the value of a `Content-Disposition` of a part of `multipart/form-data` (RFC 7578, 4.2). There must be no white space before the
 /// value. `form-data; name="field"; filename="a \"b\".txt"` names the field `field` and the file `a "b".txt`. Returns `None` exactly if the
-/// value isn't `form-data` with a `name` and with parameters that HTTP allows, in UTF-8. Of two parameters of the same name, the first
-/// counts.
+/// value isn't valid UTF-8, isn't `form-data`, has no `name`, or has parameters that HTTP doesn't allow. Of two parameters of the same
+/// name, the first counts.
 ///
 /// Many clients write `%22` in place of a quote. This isn't decoded. A parameter `filename*` isn't read.
 ///

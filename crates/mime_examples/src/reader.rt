@@ -8,8 +8,8 @@ ghost use Rattle.mime.specs.Values.{lowered};
 
 use mime::{APPLICATION_JSON, APPLICATION_WWW_FORM_URLENCODED, TEXT_PLAIN};
 
-/// Returns the text before the first semicolon of a `Content-Type`, without the white space around it: the essence, if the value is a media
-/// type. The parameters aren't read, so they may be invalid: for `text/html; charset` it returns `text/html`.
+/// Returns the text before the first semicolon of a `Content-Type`, trimmed. If the value is a media type, this text equals the essence,
+/// ignoring ASCII case. The parameters aren't read, so they may be invalid: for `text/html; charset` the result is `text/html`.
 pub fn essence_of(content_type: &str) -> &str
     ensures { IsTrimAscii (before_first (λ b. b == semicolon_byte) content_type.now) result.now }
 {
@@ -20,8 +20,8 @@ pub fn essence_of(content_type: &str) -> &str
     before.trim_ascii()
 }
 
-/// Returns the reader of a body according to the essence of its `Content-Type`, whatever the parameters are: `json`, `form` or `text`, or
-/// `bytes` for any other essence. It doesn't allocate.
+/// Returns the reader of a body according to the essence of its `Content-Type`: `json`, `form` or `text`, or `bytes` for any other essence.
+/// The parameters don't count. The function doesn't allocate.
 pub fn reader_of(content_type: &str) -> &'static str
     ensures { (essence : List ℕ) × IsTrimAscii (before_first (λ b. b == semicolon_byte) content_type.now) essence
         × (result.now ≡ (if bytes_eq (lowered essence) (codes "application/json") then codes "json" else

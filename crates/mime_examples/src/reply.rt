@@ -9,7 +9,7 @@ use mime::{MULTIPART_FORM_DATA, Mime, TEXT_HTML};
 use mime_http::{with_boundary, with_charset};
 use std::alloc::{AllocError, Global};
 
-/// Returns the media type of HTML in a charset: `text/html; charset=utf-8`. Returns `None` if the charset isn't a token.
+/// Returns the media type of HTML in a charset: `text/html; charset=utf-8` for `utf-8`. Returns `None` if the charset isn't a token.
 ///
 /// # Errors
 /// Returns `AllocError` if memory runs out, as does the function below.

@@ -54,8 +54,8 @@ pub trait Sink {
         ensures unfailed { OnOk result (has_failed self.new ≡ has_failed self.old) };
 }
 
-/// An adapter that makes a reader a source, and a writer a sink. Each call is forwarded to the inner call of the same
-/// name: `Device { inner: rt.stdin(), failed: false }` reads standard input.
+/// An adapter that makes a reader a source, and a writer a sink. Each call is forwarded to the call of `inner` with the
+/// same name. For example, `Device { inner: rt.stdin(), failed: false }` reads standard input.
 #[derive(Drop)]
 pub struct Device<T> {
     /// The reader or writer.
@@ -65,7 +65,7 @@ pub struct Device<T> {
 }
 
 impl<T> Device<T> {
-    /// Returns the result of an inner call, without the cause of an error. An error sets the flag.
+    /// Returns the result of a call of `inner`, without the cause of an error. An error sets the flag `failed`.
     fn flagged<V>(&mut self, answer: io::Result<V>) -> Result<V, Failed>
         ensures inner { self.new.inner ≡ self.old.inner }
         ensures answer { MatchResult answer (λ value. result ≡ Ok value) (λ _. IsErr result) }

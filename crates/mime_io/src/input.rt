@@ -39,8 +39,8 @@ pub fn read_to_limit<S: Source>(alloc: Global, source: &mut S) -> Result<Vec<u8>
     read(alloc, source, LIMIT)
 }
 
-/// Reads a source to its end or to one byte past the limit. That byte is returned, too, so an input longer than the
-/// limit may be incomplete.
+/// Reads a source to its end or to one byte past the limit. That byte is returned, too. If the result is longer than
+/// the limit, the source may have more bytes.
 ///
 /// # Errors
 /// Returns `Read` if the source fails, and `NoMemory` if memory runs out.

@@ -6,7 +6,7 @@ ghost use Rattle.std.specs.Prelude.{◌≡◌};
 use crate::device::Failed;
 use crate::error::RunError;
 
-/// An error and a failure can always be copied and cloned, and the copy is the same.
+/// A `RunError` or a `Failed` can always be copied and cloned, and the copy is the same as the original.
 pub fn copies_are_same()
     ensures error { (value copy : RunError) → ⟦<RunError as Clone>⟧.is_clone value copy → copy ≡ value }
     ensures error_always { (value : RunError) → ⟦<RunError as Clone>⟧.is_infallible value }

@@ -1,4 +1,4 @@
-//! The job of a server that reads values and headers of 2 to 60 KB, which a client may send to slow it down.
+//! The job of a server that reads values and headers of 2 to 60 KB, which a client may send to slow the server down.
 
 use crate::digest::Digest;
 use crate::random::Random;

@@ -14,8 +14,8 @@ const VALUES: usize = 8192;
 /// The number of lines of a log.
 const LINES: usize = 16_384;
 
-/// Three ways to write each value. All three have the same mark and the same first four letters, whose case tells occurrences of a value
-/// apart.
+/// Three ways to write each value. All three have the same mark and the same first four letters. The case of these letters tells
+/// occurrences of a value apart.
 static WRITINGS: [[&str; 3]; 9] = [
     [
         "text/#; charset=utf-8",
@@ -134,7 +134,7 @@ fn count(
     Ok(())
 }
 
-/// Adds the media types of a list.
+/// Adds the media types of a list to a digest.
 fn add_list(alloc: Global, list: &str, digest: &mut Digest) {
     let mut items = MimeIter::new(alloc, list);
     while let Some(item) = items.next() {
@@ -147,7 +147,7 @@ fn add_list(alloc: Global, list: &str, digest: &mut Digest) {
     digest.number(usize::try_from(items.steps()).unwrap_or(0));
 }
 
-/// Adds the counts, sorted and printed.
+/// Adds the counts, sorted and printed, to a digest.
 fn add_counts(alloc: Global, counts: &Counts, digest: &mut Digest) -> Result<(), AllocError> {
     let mut sorted = Vec::with_capacity(alloc, counts.hashed.len())?;
     for (mime, count) in counts.hashed.iter() {

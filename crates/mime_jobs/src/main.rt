@@ -1,8 +1,8 @@
 //! Runs jobs that users of `mime` and `mime_http` have, over many different strings, and prints a digest of all results.
 //!
 //! `mime_jobs JOB SEED ROUNDS` does one of the jobs `requests`, `negotiation`, `log`, `writing` and `awkward`. The job `all` does each of
-//! them once. Each seed makes different strings of the same kinds and sizes. A round is a pass over the job's strings, in which the mark of
-//! each string changes.
+//! them once. Each seed makes different strings of the same kinds and sizes. A round is a pass over the job's strings. Each round changes
+//! each string's mark, a few letters in the string.
 #![tactic(auto)]
 
 mod awkward;

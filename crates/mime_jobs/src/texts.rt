@@ -72,7 +72,7 @@ impl Text {
         })
     }
 
-    /// Returns a pattern, `unit` repeated up to `size` bytes, and `end`.
+    /// Returns a string of three pieces: a pattern as in [`Text::of`], `unit` repeated up to `size` bytes, and `end`.
     pub(crate) fn long(
         alloc: Global,
         pattern: &str,

@@ -1,4 +1,4 @@
-//! The job of a server that writes headers, whose parameters are then read.
+//! The job of a server that writes headers. The job then reads their parameters back.
 
 use crate::digest::Digest;
 use crate::random::Random;

@@ -48,9 +48,9 @@ const PLAIN: Scenario = Scenario {
     cases: CASES,
 };
 
-/// A reader that returns `byte` `repeats` times, and then the bytes `left`, at most `most` of these in a read. After
-/// `reads` reads the reader fails with `Interrupted`, which is a failure like any other. It fails once or at each
-/// further read. After the end, another read returns `after_end`, as a read from a terminal may.
+/// A reader that first returns `repeats` copies of `byte`, then the bytes `left`, at most `most` of these in a read.
+/// After `reads` reads the reader fails with `Interrupted`, which is a failure like any other. It fails only once if
+/// `fails_once`, or else at each further read. After the end, another read returns `after_end`, as a terminal may.
 #[derive(Drop)]
 struct Reader<'a> {
     byte: u8,
@@ -199,8 +199,8 @@ fn written<'a>(case: &Case<'a>, scenario: &Scenario, at: usize) -> &'a [u8] {
 
 /// Checks a run of a scenario. If the run must return `Read`, the read with the number `at` fails. If it must return
 /// `Write`, the writer fails at byte `at`, or at the flush if the scenario allows no flush. The run must return the
-/// scenario's result, and the writer must accept all its bytes. The source may fail only if the result is `Read`, and
-/// the sink only if the result is `Write`. No call may follow a failure.
+/// scenario's result, and must write all the bytes that the writer accepts. The source may fail only if the result is
+/// `Read`, and the sink only if the result is `Write`. No call may follow a failure.
 fn check(
     rt: &impl Abort,
     alloc: Global,
@@ -238,7 +238,7 @@ fn check(
     );
 }
 
-/// Checks runs of a scenario, with a failure wherever a read or a write can fail, once or for ever.
+/// Checks runs of a scenario, with a failure, single or repeated, wherever a read or a write can fail.
 fn check_each(rt: &impl Abort, alloc: Global, case: &Case<'_>, scenario: &Scenario) {
     let count = match scenario.answer {
         // The last of these reads would have returned the end.
@@ -349,8 +349,8 @@ fn an_earlier_failure_stops_nothing(rt: HostRuntime) {
     check_all(&rt, rt.alloc(), &FAILED);
 }
 
-/// Runs a case with a slice of bytes as the sink, which doesn't allocate. tools/refused_requests refuses each request
-/// for memory between the lines `now` and `end`.
+/// Runs a case with a slice of bytes as the sink, which doesn't allocate. Prints the line `now` before the run, and the
+/// line `end` after it. tools/refused_requests refuses each request for memory between these lines.
 fn run_into(
     rt: &HostRuntime,
     case: &Case<'_>,
@@ -367,7 +367,7 @@ fn run_into(
 }
 
 /// Returns `true` if a run with a slice of bytes as the sink succeeds and writes all of its report, or runs out of
-/// memory and writes nothing. The function prints what the run returned.
+/// memory and writes nothing. Prints what the run returned.
 fn fills_slice(rt: &HostRuntime, case: &Case<'_>) -> bool {
     let mut room = [0u8; 256];
     let mut sink = Device {
@@ -543,7 +543,7 @@ fn memory_is_found(rt: HostRuntime) {
     assert!(rt; error.is_none(), "memory ran out");
 }
 
-/// Returns `true` if an error prints this text, and nothing else, to a writer that accepts no other bytes.
+/// Returns `true` if an error prints exactly this text. The writer accepts no other bytes.
 fn prints(error: RunError, text: &[u8]) -> bool {
     static ANY: Scenario = PLAIN;
     let mut writer = taking(text, &ANY, false);

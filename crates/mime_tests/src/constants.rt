@@ -169,7 +169,7 @@ pub(crate) fn show_copies(out: &mut String) {
     }
 }
 
-/// Shows each byte, and whether it may occur in a token, in a quoted string without a backslash, and after a backslash.
+/// Shows each byte, and whether it may occur in a token, in a quoted string without a backslash before it, and after a backslash.
 pub(crate) fn show_bytes(out: &mut String) {
     for byte in 0..=255u8 {
         let classes = (

@@ -9,8 +9,8 @@ use std::collections::{BTreeSet, HashSet};
 use std::fmt::Write;
 use std::hash::{Hash, Hasher};
 
-/// A hasher that keeps the bytes that it is fed, as a number modulo 2 ^ 128 whose digits in base 257 are a 1 and these bytes. So two runs
-/// of at most 15 bytes are the same if their numbers are equal. `finish` always returns 0.
+/// A hasher that keeps the bytes that it is fed, as a number modulo 2 ^ 128. The number's digits in base 257 are a 1 and these bytes. So
+/// two sequences of at most 15 bytes are the same if their numbers are equal. `finish` always returns 0.
 #[derive(Clone, Copy)]
 struct Fed(u128);
 

@@ -1,6 +1,6 @@
 //! The rows of a table, and the answers to each. A row is a word and fields, separated by tabs.
 //!
-//! These are the rows about `mime`. A `VALUE` is a string that is read, or the identifier of a constant:
+//! A `VALUE` is a string that is read, or the identifier of a constant. These are the rows about `mime`:
 //!
 //! - `read VALUE`, `clone VALUE`, `items STRING`: reads the string, clones its media type, or yields the media types in it;
 //! - `again STRING`: yields the first media type, and then the others, once from a clone of the iterator and once from the iterator itself;
@@ -8,17 +8,17 @@
 //! - `parts VALUE`: the parts of a value, or why it is rejected;
 //! - `long VALUE KEPT`: the size hint and the number of a value's parameters, and whether its string is `KEPT`;
 //! - `print VALUE`: a value with a width of 12, and with Debug;
-//! - `key VALUE KEY OTHER`: the value that a string or a constant finds as a key, and whether the value equals the other string;
+//! - `key VALUE KEY OTHER`: the value that a string or a constant finds as a key, and whether the value found equals the other string;
 //! - `compare VALUE VALUE`: how two values compare, and whether the first equals the second's string;
 //! - `pair VALUE VALUE`: whether two values are equal according to each trait, and whether the first equals the second's string;
 //! - `sets VALUE VALUE`: whether the first value is found in sets that contain the second;
 //! - `against VALUE STRING`: whether a value equals a string;
-//! - `names NAME NAME`: two names and how they compare, each a constant, or a string after `~` if it ignores case, or else after `=`;
+//! - `names NAME NAME`: two names and how they compare. Each is a constant, a string after `=`, or a string that ignores case after `~`;
 //! - `bytes`, `copies`: the classes of bytes, and the copies of the constants;
 //! - `short_verdicts`: tests all short strings with a rule that needs no table.
 //!
-//! The rows about `mime_http` and the recipes are a function's name and its arguments: an `Accept` header is a field, whose lines end with
-//! line feeds, and offers are the fields after it. A bar follows each answer of these rows.
+//! A row about `mime_http` or a recipe is a function's name and its arguments. An `Accept` header is one field, whose lines end with line
+//! feeds. Offers are the fields after it. A bar follows each answer of these rows.
 //!
 //! Between the lines `now` and `end`, only the calls of a row allocate. tools/refused_requests refuses and counts the requests for memory
 //! between these lines. The answers are printed after these lines. An answer for which memory runs out is left out.

@@ -42,8 +42,8 @@ fn is_completed_by(alloc: Global, text: &str, completion: &str) -> bool {
     fault_of(alloc, whole.as_str()).is_none()
 }
 
-/// Completions, ends and faults: a string has the fault of a row exactly if it has the row's end, and is a media type with the row's
-/// completion after it. No short string ends with `?`, so none has the last fault.
+/// Completions, ends and faults. A string has the fault of a row exactly if it ends with the row's end, and the string followed by the
+/// row's completion is a media type. No short string ends with `?`, so none has the last fault.
 static COMPLETIONS: &[(&str, &str, ParseError)] = &[
     ("x/x", "", ParseError::MissingSlash),
     ("x", "/", ParseError::MissingSubtype),
