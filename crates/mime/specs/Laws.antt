@@ -34,7 +34,7 @@ PrefixOfViableIsViable = (prefix more : List ℕ) → IsViable (prefix ++ more) 
 abbrev pub AcceptedIsViable : Type 0
 AcceptedIsViable = (text : List ℕ) → IsAccepted text → IsViable text
 
--- A viable rejected text lacks exactly one of five things: the completion of that one makes it an accepted text.
+-- A viable rejected text has exactly one of five faults: the fault's completion makes it an accepted text.
 abbrev pub OneCompletion : Type 0
 OneCompletion =
     (text : List ℕ) → IsViable text → IsRejected text
