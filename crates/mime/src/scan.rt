@@ -40,9 +40,9 @@ pub(crate) enum Scanned {
     Accepted(Positions),
     /// The string ends too early, and this fault says what is missing.
     Unfinished(ParseError),
-    /// No media type continues with this byte, which was read last, and the string before the byte isn't a media type.
+    /// No media type begins with the bytes up to this one, the last one read. The bytes before it aren't a media type.
     Stopped(u8),
-    /// No media type continues with this byte, which was read last, but the string before the byte is a media type,
+    /// No media type begins with the bytes up to this one, the last one read. The bytes before it are a media type,
     /// whose parts have these positions. The byte is the last field, so that the positions are at the same place as in
     /// `Accepted`.
     Followed(Positions, u8),

@@ -6,7 +6,7 @@ ghost use Rattle.mime.specs.HeaderLaws.{AreHeaderBytes};
 use mime::Mime;
 use mime::laws::kept_is_safe;
 
-/// Returns the value of a header for a media type (RFC 9110, 8.3).
+/// Returns a media type as the value of `Content-Type` (RFC 9110, 8.3).
 pub fn header_text(mime: &Mime) -> &str
     ensures text { result.now ≡ mime.now.media.kept }
     // The value has no line feed, no carriage return and no byte 0, so it can't inject anything into the response.

@@ -165,7 +165,7 @@ pub(crate) fn show_weight_of(alloc: Global, out: &mut String, range: &str) {
     }
 }
 
-/// Shows the bytes that two values mean, which are unescaped into this buffer, one after the other.
+/// Unescapes two values into this buffer, one after the other, and shows its bytes.
 fn show_meant(out: &mut String, mut buffer: Vec<u8>, value: &str, other: &str) {
     let _ = unescape(value, &mut buffer);
     let _ = unescape(other, &mut buffer);
@@ -176,7 +176,7 @@ pub(crate) fn show_unescaped(alloc: Global, out: &mut String, value: &str, other
     show_meant(out, Vec::new(alloc), value, other);
 }
 
-/// Shows the bytes that two values mean, which are unescaped into a buffer with capacity for both.
+/// Unescapes two values into a buffer with capacity for both, and shows its bytes.
 pub(crate) fn show_unescaped_in_room(alloc: Global, out: &mut String, value: &str, other: &str) {
     let room = value.len().saturating_add(other.len());
     if let Ok(buffer) = Vec::with_capacity(alloc, room) {
