@@ -10,11 +10,11 @@ use crate::scan::Positions;
 use crate::value::Mime;
 use std::fmt;
 
-/// A constant media type (RFC 7231, 3.1.1.1): [`Atom::mime`] returns it as a [`Mime`], [`Atom::text`] as a string. An
-/// `Atom` can be matched and copied, and never allocates. `TEXT_PLAIN.mime()` is the media type `text/plain`. `Atom`
+/// A constant media type (RFC 7231, 3.1.1.1). [`Atom::mime`] returns it as a [`Mime`], and [`Atom::text`] as a string:
+/// `TEXT_PLAIN.mime()` is the media type `text/plain`. An `Atom` can be matched and copied, and never allocates. `Atom`
 /// doesn't implement `Ord`, but `Mime` does.
 ///
-/// The crate's root exports each variant, such as [`TEXT_PLAIN`](crate::TEXT_PLAIN), so that a `match` can name it:
+/// The crate root exports each variant, such as [`TEXT_PLAIN`](crate::TEXT_PLAIN), so that a `match` can name it:
 ///
 /// ```rust
 /// use mime::{Atom, IMAGE_PNG, TEXT_HTML, TEXT_HTML_UTF_8};
@@ -29,7 +29,7 @@ use std::fmt;
 /// }
 /// ```
 ///
-/// IANA's registry of media types (RFC 6838) defines most of the constants. Constants with a `*` are media ranges (RFC
+/// IANA's registry of media types (RFC 6838) lists most of the constants. Constants with a `*` are media ranges (RFC
 /// 7231, 5.3.2).
 #[derive(Clone, Copy, PartialEq, Eq, Hash)]
 #[allow(non_camel_case_types)]
@@ -106,7 +106,7 @@ pub const TEXT_JAVSCRIPT: Atom = Atom::TEXT_JAVASCRIPT;
 /// A constant's string, with the positions of its slash, its plus and its semicolon.
 type Row = (&'static str, usize, Option<usize>, Option<usize>);
 
-/// The constants, in the order of [`Atom`].
+/// The constants, in the order of the variants of [`Atom`].
 static TABLE: [Row; 32] = [
     ("*/*", 1, None, None),
     ("text/*", 4, None, None),
@@ -183,7 +183,7 @@ impl Atom {
     }
 }
 
-/// Prints the constant as a `str` is printed, padded to a width and cut to a precision: `TEXT_PLAIN` prints
+/// Prints the constant as a `str` is printed, padded to a width and truncated to a precision: `TEXT_PLAIN` prints
 /// `text/plain`.
 impl fmt::Display for Atom {
     ghost output = { λ atom. Some (atom_text atom) };

@@ -5,16 +5,16 @@ ghost use Rattle.mime.specs.Inner.ByteClasses.{is_token_except_plus, token_bytes
 ghost use Rattle.mime.specs.Grammar.{is_space};
 ghost use Rattle.mime.specs.Bytes.{is_token_byte, is_quoted_byte, is_quoted_text_byte};
 
-/// A byte that may occur nowhere.
+/// A byte that no media type contains.
 const N: u8 = 0;
 
-/// A byte that may occur in a quoted string only after a backslash: a quote or a backslash.
+/// A quote or a backslash, which may follow a backslash in a quoted string, but isn't quoted text.
 const B: u8 = 1;
 
-/// Any other ASCII byte that may occur in a quoted string, but in no token.
+/// Any other ASCII byte that may occur in a quoted string, but not in a token.
 const Q: u8 = 2;
 
-/// A byte of a character that isn't ASCII. It may occur in a quoted string, but in no token.
+/// A byte of a character that isn't ASCII. It may occur in a quoted string, but not in a token.
 const U: u8 = 3;
 
 /// The plus, which may occur in a token, and may precede a suffix.
@@ -23,8 +23,8 @@ const P: u8 = 4;
 /// Any other byte that may occur in a token.
 const T: u8 = 5;
 
-/// The kind of each byte. The kinds are ordered: wherever a byte may occur in a token or a quoted string, a byte of a
-/// later kind may occur, too.
+/// The kind of each byte. Bytes from kind `B` on may follow a backslash, bytes from kind `Q` on may be quoted text, and
+/// bytes from kind `P` on may occur in a token.
 static KINDS: [u8; 256] = [
     N, N, N, N, N, N, N, N, N, Q, N, N, N, N, N, N, N, N, N, N, N, N, N, N, N, N, N, N, N, N, N, N,
     Q, T, B, T, T, T, T, T, Q, Q, T, P, Q, T, T, Q, T, T, T, T, T, T, T, T, T, T, Q, Q, Q, Q, Q, Q,
@@ -45,7 +45,7 @@ pub fn is_token(b: u8) -> bool
     KINDS[b as usize] >= P
 }
 
-/// Returns `true` if a byte other than the plus may occur in a token.
+/// Returns `true` if a byte may occur in a token and isn't a plus.
 #[inline(always)]
 pub(crate) fn is_token_except_plus(b: u8) -> bool
     ensures { result ≡ is_token_except_plus b }
@@ -53,7 +53,7 @@ pub(crate) fn is_token_except_plus(b: u8) -> bool
     KINDS[b as usize] == T
 }
 
-/// Returns `true` if a byte may occur in a token. The plus counts as such a byte only if `with_plus` is true.
+/// Returns `true` if a byte may occur in a token. For a plus, returns `with_plus`.
 #[inline(always)]
 pub(crate) fn is_in_token(b: u8, with_plus: bool) -> bool
     ensures { result ≡ token_bytes with_plus b }
@@ -73,8 +73,7 @@ pub(crate) fn is_space(b: u8) -> bool
     b == b' ' || b == b'\t'
 }
 
-/// Returns `true` if a byte is an ASCII character with which no media type begins, such as the comma and the space of a
-/// list.
+/// Returns `true` if a byte is an ASCII character that can't begin a media type, such as a comma or a space.
 #[inline(always)]
 pub(crate) fn is_separator(b: u8) -> bool
     ensures { result ≡ is_ascii_not_token b }
@@ -83,7 +82,7 @@ pub(crate) fn is_separator(b: u8) -> bool
 }
 
 /// Returns `true` if a byte may follow a backslash in a quoted string (the second byte of a quoted-pair of RFC 7230,
-/// 3.2.6): the tab, and any byte from 32 on except 127. `is_quoted_byte(b'"')` is true.
+/// 3.2.6): the tab, and any byte from 32 to 255 except 127. `is_quoted_byte(b'"')` is true.
 #[inline(always)]
 pub fn is_quoted_byte(b: u8) -> bool
     ensures { result ≡ is_quoted_byte b }

@@ -1,4 +1,4 @@
-//! Comparisons of a media type with a string, which don't allocate.
+//! Compares a media type with a string, without allocating.
 
 ghost use Rattle.std.specs.Prelude.{◌≡◌, ◌≢◌, ◌↔◌, IsTrue, Some, [], length, map, slice_get};
 ghost use Rattle.mime.specs.Bytes.{semicolon_byte};
@@ -24,7 +24,7 @@ fn eq_str_ignore_ascii_case(one: &str, other: &str) -> bool
     eq_ignore_ascii_case(one.as_bytes(), other.as_bytes())
 }
 
-/// Returns `true` if a string has a semicolon at this position.
+/// Returns `true` if a string has a semicolon at `position`, in bytes from 0.
 #[inline(always)]
 fn has_semicolon_at(text: &str, position: usize) -> bool
     ensures { IsTrue result ↔ (slice_get text.now position ≡ Some semicolon_byte) }
@@ -32,7 +32,7 @@ fn has_semicolon_at(text: &str, position: usize) -> bool
     position < text.len() && text.as_bytes()[position] == b';'
 }
 
-/// Returns `true` if a string starts with this essence, ignoring ASCII case, and a semicolon follows the essence.
+/// Returns `true` if `text` starts with `essence` and a semicolon, ignoring ASCII case.
 #[inline]
 fn starts_with_essence(essence: &str, text: &str) -> bool
     ensures { IsTrue result ↔ StartsWithEssence essence.now text.now }
@@ -61,7 +61,7 @@ fn is_pair(name: &str, value: &str, other_name: &str, other_value: &str) -> bool
     }
 }
 
-/// Returns `true` if `pairs`, the parameters of a string, are read as the parameters `kept`.
+/// Returns `true` if `pairs`, the parameters of a string, equal the kept parameters `kept`.
 #[inline]
 fn are_pairs(kept: Pairs<'_>, pairs: Pairs<'_>) -> bool
     requires { AreLowPairs kept }
@@ -129,8 +129,8 @@ fn eq_by_parts(mime: &Mime, s: &str, equal_ignoring_case: bool) -> bool
     equal_ignoring_case || has_list_of(mime, s)
 }
 
-/// Returns `true` if a byte isn't a space, a tab or a quote. If two strings first differ, ignoring ASCII case, at two
-/// such bytes, they aren't read as equal values.
+/// Returns `true` if a byte isn't a space, a tab or a quote. If it returns `true` for both bytes at which two strings
+/// first differ, ignoring ASCII case, the strings aren't read as equal values.
 #[inline(always)]
 fn reaches_value(byte: u8) -> bool
     ensures { result ≡ reaches_value byte }
@@ -138,7 +138,7 @@ fn reaches_value(byte: u8) -> bool
     !(is_space(byte) || byte == b'"')
 }
 
-/// The result of a comparison of two strings.
+/// The result of comparing two strings.
 enum Compared {
     /// The strings are equal ignoring ASCII case.
     Equal,

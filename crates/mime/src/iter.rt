@@ -30,14 +30,14 @@ struct ReadPiece<'a> {
     piece: &'a str,
     /// The positions of the piece's parts, if the piece is a media type.
     positions: Option<Positions>,
-    /// The rest of the string.
+    /// The string after the piece and the character that follows it.
     left: &'a str,
     /// The number of bytes read so far, from the start of the iterator's string.
     steps: u128,
 }
 
-/// Returns the end of a string's first character. This function isn't inlined: it is called only at a character outside
-/// ASCII, and its loop would use registers of its caller.
+/// Returns the position after a string's first character, in bytes from 0. This function isn't inlined: it is called
+/// only for a character outside ASCII, and its loop would use registers of its caller.
 #[cold]
 #[inline(never)]
 fn end_of_first(text: &str) -> usize
@@ -74,8 +74,8 @@ impl<'a> ReadPiece<'a> {
     }
 }
 
-/// Reads the first piece of a string, and skips the character after it. The string's first byte, `first`, was read
-/// already.
+/// Reads the first piece of a string, and skips the character after it. `reader` has already read the string's first
+/// byte, `first`.
 #[inline(always)]
 fn read_piece<'a>(text: &'a str, first: u8, reader: &mut ByteReader<'_>) -> ReadPiece<'a>
     requires first { text.now ≡ first ∷ reader.old.left }
@@ -115,7 +115,7 @@ fn read_piece<'a>(text: &'a str, first: u8, reader: &mut ByteReader<'_>) -> Read
     }
 }
 
-/// Skips the leading ASCII characters with which no media type begins, reads the piece after them, and skips the
+/// Skips the leading ASCII characters that can't begin a media type, reads the piece after them, and skips the
 /// character after the piece. `from` is the number of bytes read before this call.
 #[inline(always)]
 fn read_next_piece<'a>(text: &'a str, from: u128) -> ReadPiece<'a>
@@ -142,7 +142,7 @@ fn read_next_piece<'a>(text: &'a str, from: u128) -> ReadPiece<'a>
 /// entry doesn't affect the entries after it, unless it ends in an open quoted string. No byte is read twice.
 ///
 /// Yielding a media type allocates once, for its kept text, if its piece has more than 40 bytes, including white space.
-/// So does cloning this media type. Other items don't allocate.
+/// So does cloning this media type. Yielding any other item doesn't allocate.
 ///
 /// Over `text/html, invalid, a/b; q=1` the iterator yields `text/html`, the bad piece `invalid`, and `a/b; q=1`. Over
 /// `a/b ; q=1` it yields `a/b` and the bad piece `q`, since no space may precede the semicolon. Over `invalid` it
@@ -263,7 +263,7 @@ impl<'a> Iterator for MimeIter<'a> {
     }
 }
 
-/// The printed text is unspecified, and may change between versions.
+/// Prints an unspecified text, which may change between versions.
 impl fmt::Debug for MimeIter<'_> {
     fn fmt<W: fmt::Write>(&self, f: &mut fmt::Formatter<W>) -> fmt::Result {
         f.write_str("MimeIter")

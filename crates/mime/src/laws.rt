@@ -77,7 +77,7 @@ pub fn completed_is_rejected()
     ensures { CompletedIsRejected }
 {}
 
-/// If a string isn't viable, every string that begins with it is rejected, such as `a b` and `a b/c`.
+/// If a string isn't viable, every string that begins with it is rejected: `a b` isn't viable, so `a b/c` is rejected.
 pub fn no_completion()
     ensures { NoCompletion }
 {}
@@ -100,8 +100,8 @@ pub fn prefix_ends_between_characters()
     ensures { PrefixEndsBetweenCharacters }
 {}
 
-/// In a string of valid UTF-8, the longest viable prefix is the same whether any bytes may complete it, or only bytes
-/// that make a text of valid UTF-8: for `a/b;p="é` it is the whole string, since `a/b;p="éx"` is accepted.
+/// The longest viable prefix of a string of valid UTF-8 is the same whether any bytes may complete it, or only bytes
+/// that make it valid UTF-8: for `a/b;p="é` it is the whole string, since `a/b;p="éx"` is accepted.
 pub fn prefix_is_in_utf8()
     ensures { PrefixIsInUtf8 }
 {}
@@ -177,22 +177,22 @@ pub fn kept_text_is()
     ensures { KeptTextIs }
 {}
 
-/// A look-up in a list of parameters has at most one result: a value, or `None`. It has a result if each name is either
-/// accepted or rejected by the key: `TextKey("P")` finds `1` in `a/b;p=1;p=2`, and nothing else.
+/// A look-up in a list of parameters has at most one result: a value, or `None`. It has a result if the key either
+/// accepts or rejects each name: `TextKey("P")` finds `1` in `a/b;p=1;p=2`, and nothing else.
 pub fn one_answer<K: ParamKey>(key: &K)
     ensures most { OneAnswer (K.Accepts key.now) }
     ensures least { HasAnswer (K.Accepts key.now) }
 {}
 
-/// A key that is a string, a `TextKey` or a `Name` decides which names it accepts: `"P"` accepts `p`, but not `q`.
+/// A key that is a string, a `TextKey` or a `Name` either accepts or rejects each name: `"P"` accepts `p` and rejects
+/// `q`.
 pub fn keys_decide()
     ensures string { (key : Bor (List ℕ)) → IsDecided (⟦<&'static str as ParamKey>⟧.Accepts key) }
     ensures text { (key : TextKey) → IsDecided (⟦<TextKey<'static> as ParamKey>⟧.Accepts key) }
     ensures name { (key : Name) → IsDecided (⟦<Name<'static> as ParamKey>⟧.Accepts key) }
 {}
 
-/// Two values are equal exactly if their essences and their pairs are the same, as those of `a/b; p="x"` and `A/B;P=x`
-/// are.
+/// Two values are equal exactly if they have the same essence and the same pairs, as `a/b; p="x"` and `A/B;P=x` have.
 pub fn mime_equality()
     ensures { (first second : OwnedMedia) → IsTrue (⟦<Mime as PartialEq>⟧.eq first second) ↔ Same first.media second.media }
 {}
@@ -208,7 +208,7 @@ pub fn equal_values_feed_the_same()
 {}
 
 /// The bytes that values feed a hasher are prefix-free: the bytes of a value are never a prefix of the bytes of an
-/// unequal value. So a pair of a value and a string feeds bytes that no other pair feeds: `a/bx` with `c` and `a/b`
+/// unequal value. So a pair of a value and a string feeds bytes that no unequal pair feeds: `a/bx` with `c` and `a/b`
 /// with `xc` feed different bytes.
 #[tactic(auto, using(crate::proofs::ValueLemmas::Hash::hash_is_prefix_free))]
 pub fn hash_is_prefix_free()
@@ -279,15 +279,15 @@ pub fn http_list_is_cut()
 {}
 
 /// A run of a `MimeIter` yields the items of the cut: over `a/b, e, c/d` it yields two media types and a bad piece. In
-/// place of a media type other than `*/*` it may yield `NoMemory`, which ends the run.
+/// place of a media type whose piece has more than 40 bytes, it may yield `NoMemory`, which ends the run.
 #[tactic(auto, using(crate::proofs::IterLemmas::run_gives_cut))]
 pub fn run_gives_cut()
     ensures { RunGivesCut }
 {}
 
-/// A run over a string with a comma yields the items of the string before the comma, the rest of that string, and the
-/// items of the string after the comma, unless the rest ends in an open quoted string: over `e, c/d` it yields the rest
-/// `e`, as a bad piece, and `c/d`.
+/// Unless the text before a comma ends in an open quoted string, a run over the whole string yields the items of this
+/// text, its rest as a bad piece if it isn't empty, and the items of the text after the comma: over `e, c/d` it yields
+/// the bad piece `e` and `c/d`.
 pub fn comma_contains_on_runs()
     ensures { CommaContainsOnRuns }
 {}
@@ -321,7 +321,7 @@ pub fn name_order()
         ≡ ordering_then (slice_cmp nat_cmp first.text.now second.text.now) (bool_cmp first.ignores_case second.ignores_case) }
 {}
 
-/// Names of the same text and flag feed a hasher the same bytes: `TEXT` and the type of `Text/Plain`.
+/// Names with the same text and flag feed a hasher the same bytes, as `TEXT` and the type of `Text/Plain` do.
 pub fn equal_names_feed_the_same()
     ensures { (first second : Name) → first.text.now ≡ second.text.now → first.ignores_case ≡ second.ignores_case
         → ⟦<Name<'static> as Hash>⟧.hash_input first ≡ ⟦<Name<'static> as Hash>⟧.hash_input second }

@@ -5,11 +5,11 @@
 //! [`mime_eq_str`] compares a media type with a string. There are 38 constant names such as [`CHARSET`], and 32
 //! constant media types such as [`TEXT_PLAIN_UTF_8`]. [`laws`] states what is true of all values.
 //!
-//! To read headers of HTTP, use `content_type` and `Accept` of the crate `mime_http`: HTTP allows white space and empty
+//! To read HTTP headers, use `content_type` and `Accept` of the crate `mime_http`: HTTP allows white space and empty
 //! parameters that this crate rejects.
 //!
 //! # Example
-//! This function tells whether a body is in UTF-8, given its media type:
+//! This function checks whether a body with this media type is in UTF-8:
 //!
 //! ```rust
 //! use mime::{CHARSET, Mime, name_eq_str};
@@ -32,12 +32,12 @@
 //! `Mime::from_str`, `MimeIter::new` and `KnownText::into_mime` take the allocator. Reading or making a media type from
 //! more than 40 bytes, including white space, allocates at most once. So does each `clone` of this media type. If
 //! memory runs out, an error is returned. Nothing else allocates. A constant, or a media type read or made from at most
-//! 40 bytes, is stored in the `Mime` itself. Rejecting a string doesn't allocate.
+//! 40 bytes, is stored in the `Mime` itself.
 //!
 //! # Standards
-//! The grammar is that of RFC 7231 and RFC 7230, with the departures that docs/DIFFERENCES.md lists. RFC 9110 (8.3.1,
-//! 5.6.4, 5.6.6) replaced these RFCs in 2022. RFC 9110 lets a parameter be missing after any semicolon. This crate
-//! allows this only after the last semicolon: it reads `a/b;`, but not `a/b;;p=x`.
+//! The grammar follows RFC 7231 and RFC 7230, with the departures that docs/DIFFERENCES.md lists. RFC 9110 (8.3.1,
+//! 5.6.4, 5.6.6) replaced these RFCs in 2022. RFC 9110 allows a missing parameter after any semicolon. This crate
+//! allows it only after the last semicolon: it reads `a/b;`, but not `a/b;;p=x`.
 //!
 //! # Left out
 //! This crate doesn't interpret media types. `mime_http` interprets ranges, weights, `Accept` and quoted pairs. A

@@ -14,10 +14,10 @@ use std::fmt;
 /// 3.1.1.1). The type of `Text/Plain` is `Name { text: "text", ignores_case: true }`, and equals [`TEXT`](crate::TEXT).
 ///
 /// Two names are equal if they have the same text and the same flag `ignores_case`. Names are ordered by the bytes of
-/// the text, and then by the flag, `false` first. To compare a name with a string, see [`name_eq_str`].
+/// the text, and then by the flag, `false` first. To compare a name with a string, use [`name_eq_str`].
 #[derive(Clone, Copy, PartialEq, Eq, PartialOrd, Ord, Hash)]
 pub struct Name<'a> {
-    /// The part's text. If this crate returns a name that ignores case, its text has no ASCII capital.
+    /// The part's text. It has no ASCII capital if this crate returned the name and the name ignores case.
     pub text: &'a str,
     /// Whether ASCII case is ignored when the name is compared with a string.
     pub ignores_case: bool,
@@ -33,7 +33,7 @@ impl<'a> Name<'a> {
     }
 }
 
-/// Prints the text as a `str` is printed, padded to a width and cut to a precision: [`TEXT`](crate::TEXT) prints
+/// Prints the text as a `str` is printed, padded to a width and truncated to a precision: [`TEXT`](crate::TEXT) prints
 /// `text`.
 impl fmt::Display for Name<'_> {
     ghost output = { λ name. Some name.text.now };
@@ -76,7 +76,8 @@ pub trait ParamKey: Drop {
         ensures { IsTrue result ↔ Accepts self.now name.entry.text.now name.entry.ignores_case };
 
     /// Returns the text that every accepted name equals, ignoring ASCII case, if there is such a text: `P` for
-    /// `TextKey("P")`. The text makes a look-up faster, and doesn't change its result. The default is `None`.
+    /// `TextKey("P")`. The text makes a look-up faster, and doesn't change its result. The default implementation
+    /// returns `None`.
     #[inline]
     fn text(&self) -> Option<&str>
         ensures { IfSome result (λ text. (name : List ℕ) → Accepts self.now name true → lowered name ≡ lowered text.now) }

@@ -40,11 +40,10 @@ pub(crate) enum Scanned {
     Accepted(Positions),
     /// The string ends too early, and this fault says what is missing.
     Unfinished(ParseError),
-    /// No media type begins with the bytes up to this one, the last one read. The bytes before it aren't a media type.
+    /// This byte, the last byte read, can't continue a media type. The bytes before it aren't a media type.
     Stopped(u8),
-    /// No media type begins with the bytes up to this one, the last one read. The bytes before it are a media type,
-    /// whose parts have these positions. The byte is the last field, so that the positions are at the same place as in
-    /// `Accepted`.
+    /// This byte, the last byte read, can't continue a media type. The bytes before it are a media type, whose parts
+    /// have these positions. The byte is the last field, so that the positions are at the same place as in `Accepted`.
     Followed(Positions, u8),
 }
 
@@ -74,7 +73,7 @@ fn token(reader: &mut ByteReader<'_>, with_plus: bool) -> Option<u8>
     None
 }
 
-/// Reads optional whitespace (OWS of RFC 7230, 3.2.3: spaces and tabs), and returns the byte that ends it.
+/// Reads optional white space (OWS of RFC 7230, 3.2.3: spaces and tabs), and returns the byte that ends it.
 #[inline(always)]
 fn spaces(reader: &mut ByteReader<'_>) -> Option<u8>
     ensures { Passes is_space reader.old reader.new result }
@@ -119,8 +118,8 @@ fn content(reader: &mut ByteReader<'_>) -> Option<u8>
     stop
 }
 
-/// Reads a subtype after its first byte. Returns two things: the position of the last plus that was read, if any, and
-/// the byte that ends the subtype. `from` is the reader's count at the start of the string.
+/// Reads a subtype after its first byte. Returns the position of the last plus that was read, if any, and the byte that
+/// ends the subtype. `from` is the reader's count at the start of the string.
 #[inline(always)]
 fn subtype(reader: &mut ByteReader<'_>, from: u128) -> (Option<usize>, Option<u8>)
     requires begun { from < reader.old.count }
@@ -128,7 +127,7 @@ fn subtype(reader: &mut ByteReader<'_>, from: u128) -> (Option<usize>, Option<u8
     ensures { PassesSubtype (reader.old.count - from) reader.old reader.new result }
 {
     reader.look_further();
-    // 0 means that no plus was read yet: position 0 is in the type.
+    // 0 means that no plus has been read yet: position 0 is in the type.
     let mut plus = 0;
     let mut stop = token(reader, false);
     while stop == Some(b'+') {
@@ -181,7 +180,7 @@ pub(crate) fn parameters(reader: &mut ByteReader<'_>, before: Positions) -> Scan
     }
 }
 
-/// Reads ASCII characters with which no media type begins, and returns the byte after them.
+/// Reads ASCII characters that can't begin a media type, and returns the byte after them.
 #[inline(always)]
 pub(crate) fn separators(reader: &mut ByteReader<'_>) -> Option<u8>
     ensures { Passes is_ascii_not_token reader.old reader.new result }
@@ -194,8 +193,8 @@ pub(crate) fn separators(reader: &mut ByteReader<'_>) -> Option<u8>
     None
 }
 
-/// Reads the rest of a string after its first byte, `first`. Stops at the end, or after the first byte with which no
-/// media type continues.
+/// Reads the rest of a string after its first byte, `first`. Stops at the end, or after the first byte that can't
+/// continue a media type.
 #[tactic(auto, using(crate::proofs::ScanLemmas::Passing::given_sum))]
 #[inline(always)]
 pub(crate) fn scan_after(first: u8, reader: &mut ByteReader<'_>) -> Scanned
@@ -234,7 +233,7 @@ pub(crate) fn scan_after(first: u8, reader: &mut ByteReader<'_>) -> Scanned
     parameters(reader, positions)
 }
 
-/// Reads a string to its end, or up to and including the first byte with which no media type continues.
+/// Reads a string to its end, or up to and including the first byte that can't continue a media type.
 #[inline(always)]
 pub(crate) fn scan(reader: &mut ByteReader<'_>) -> Scanned
     ensures { Scans reader.old reader.new result }

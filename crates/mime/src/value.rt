@@ -107,8 +107,8 @@ impl Mime {
     /// Returns the fault of a string that isn't a media type. If something is missing at the string's end, the fault is
     /// `MissingSlash`, `MissingSubtype`, `MissingEqual`, `MissingValue` or `MissingQuote`: `MissingEqual` for `a/b;p`.
     /// Otherwise the fault is `InvalidToken`, with the first byte that can't continue a media type, and this byte's
-    /// position in bytes from 0: 5 for `text/;`. Rejecting a string doesn't allocate. Returns
-    /// [`ParseError::NoMemory`] if memory runs out, which can happen only for a media type of more than 40 bytes.
+    /// position in bytes from 0: 5 for `text/;`. Returns [`ParseError::NoMemory`] if memory runs out, which can happen
+    /// only for a media type of more than 40 bytes.
     pub fn from_str(alloc: Global, s: &str) -> Result<Mime, FromStrError>
         // The result is the value of the string.
         ensures read { IfOk result (λ mime. Reads s.now mime.media) }
@@ -267,8 +267,9 @@ impl Mime {
         }
     }
 
-    /// Returns the suffix, in lowercase: the text after the subtype's last `+`, unless this `+` is the subtype's first
-    /// byte. It is `xml` in `image/svg+xml`, the empty string in `a/b+`, and `None` in `a/+xml` (RFC 6838, 4.2.8).
+    /// Returns the suffix, in lowercase: the text after the subtype's last `+`, or `None` if the subtype has no `+`
+    /// after its first byte. It is `xml` for `image/svg+xml`, the empty string for `a/b+`, and `None` for `a/+xml` (RFC
+    /// 6838, 4.2.8).
     pub fn suffix(&self) -> Option<Name<'_>>
         ensures text { option_map name_text result ≡ suffix_of self.now.media }
         ensures flag { IfSome result (λ name. name.ignores_case ≡ true) }
@@ -299,8 +300,8 @@ impl Mime {
         self.text.as_str()
     }
 
-    /// Returns an iterator over the parameters in order of appearance, with duplicates (RFC 7231, 3.1.1.1). It yields
-    /// each as a name and a value without quotes: `p` with `1`, and then `p` with `;`, for `a/b;p=1;P=";"`.
+    /// Returns an iterator over the parameters in order of appearance, with duplicates (RFC 7231, 3.1.1.1). For each it
+    /// yields the name, and the value without quotes: `p` with `1`, and then `p` with `;`, for `a/b;p=1;P=";"`.
     pub fn params(&self) -> Params<'_>
         ensures items { result ≡ items_of self.now.media.pairs }
         ensures low { AllByRecursion IsLowItem result }

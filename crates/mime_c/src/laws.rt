@@ -1,4 +1,4 @@
-//! Laws that follow from the definitions of the calls, whatever their code is. Each law is the clause of an empty function.
+//! Laws that follow from only the definitions of the calls. Each law is the clause of an empty function.
 
 ghost use Rattle.mime_c.specs.Laws.{ReadsToOne, ListsToOne, ComparesAsOne, HeaderReadsToOne, AcceptsToOne, BestIsOne, OrderIsOne, BoundaryIsOne, UnescapesToOne, SetsToOne};
 

@@ -1,8 +1,8 @@
 //! The calls that include/mime.h declares, for programs that aren't in Rattle.
 //!
-//! No call keeps a pointer or a state. Each call returns a number, its answer. Strings are written into the caller's buffer, each with a
-//! byte 0 at its end. The files `Answers`, `HeaderAnswers` and `ParameterAnswers` of `Rattle.mime_c.specs` define the answers and the
-//! strings. include/mime.h describes them in plain words.
+//! No call keeps a pointer or any state. Each call returns a number, its answer. Strings are written into the caller's buffer, each with a
+//! 0 at its end. The files `Answers`, `HeaderAnswers` and `ParameterAnswers` of `Rattle.mime_c.specs` define the answers and the strings.
+//! include/mime.h describes them in plain words.
 #![tactic(auto)]
 
 ghost use Rattle.std.specs.Prelude.{◌≡◌, ◌≢◌, ◌+◌, ◌<◌, ◌≤◌, true, false, [], ◌∷◌, length, IfOk, IfErr, IsOk, MatchResult};
@@ -58,8 +58,8 @@ const MIME_GOOD: u8 = b'+';
 
 const MIME_BAD: u8 = b'-';
 
-/// The numbers that `mime_read` and `mime_content_type` find besides the strings. Lengths and positions are in bytes. Positions count from
-/// 0. A field that an answer doesn't set is 0.
+/// The numbers that `mime_read` and `mime_content_type` find besides the strings. Lengths and positions are in bytes, positions from 0. A
+/// field that an answer doesn't set is 0.
 #[repr(C)]
 #[derive(Clone, Copy)]
 pub struct MimeFound {
@@ -235,8 +235,8 @@ fn put_texts(out: &mut [u8], mime: &Mime) -> MimeFound
     }
 }
 
-/// Reads the whole of `text` as one media type (RFC 7231, 3.1.1.1), and writes its parts and its printed text to `out`, which must have at
-/// least `2 * text.len() + 2` bytes. Returns `MIME_OK`, or another answer of include/mime.h if it wrote nothing.
+/// Reads the whole of `text` as one media type (RFC 7231, 3.1.1.1). Writes its parts and its printed text to `out`, which must have at
+/// least `2 * text.len() + 2` bytes, and sets `found`. Returns `MIME_OK`, or another answer of include/mime.h if it wrote nothing.
 #[unsafe(no_mangle)]
 #[tactic(auto, using(crate::proofs::Room::texts_fit))]
 pub extern "C" fn mime_read(
@@ -263,9 +263,9 @@ pub extern "C" fn mime_read(
     }
 }
 
-/// Reads a header's value, such as that of a Content-Type, as one media type (RFC 9110, 8.3.1), and writes to `out` the strings that
-/// `mime_read` writes. `out` must have at least `3 * value.len() + 2` bytes. Returns `MIME_OK`, or another answer of include/mime.h if it
-/// wrote nothing.
+/// Reads the value of a header such as Content-Type as one media type (RFC 9110, 8.3.1). Writes the strings that `mime_read` writes to
+/// `out`, which must have at least `3 * value.len() + 2` bytes, and sets `found`. Returns `MIME_OK`, or another answer of include/mime.h if
+/// it wrote nothing.
 #[unsafe(no_mangle)]
 pub extern "C" fn mime_content_type(
     alloc: Global,
@@ -301,9 +301,9 @@ fn put_item(out: &mut [u8], at: usize, mark: u8, text: &str) -> usize
     put(out, next, text)
 }
 
-/// Finds the media types in `text`, as `MimeIter` does. For an Accept header use `mime_accept`. Writes a string for each media type, and
-/// for each bad piece, to `out`, which must have at least `2 * text.len()` bytes. Returns `MIME_OK`, or another answer of include/mime.h if
-/// it wrote no list.
+/// Finds the media types in `text`, as `MimeIter` does. For an Accept header, use `mime_accept`. Writes a string for each media type and
+/// each bad piece to `out`, which must have at least `2 * text.len()` bytes, and sets `length` to the number of bytes written. Returns
+/// `MIME_OK`, or another answer of include/mime.h if it wrote no list.
 #[unsafe(no_mangle)]
 #[tactic(auto, using(crate::specs::Answers::has_no_room, crate::specs::Answers::is_not_text))]
 pub extern "C" fn mime_list(alloc: Global, text: &[u8], out: &mut [u8], length: &mut usize) -> u32
@@ -348,7 +348,7 @@ pub extern "C" fn mime_equal(alloc: Global, one: &[u8], other: &[u8], equal: &mu
     MIME_OK
 }
 
-/// Returns a number below 10,000 in four digits.
+/// Returns the four decimal digits of a number below 10,000, in ASCII.
 fn four_digits(n: u16) -> [u8; 4]
     ensures { result ≡ four_digits n }
 {
@@ -374,7 +374,7 @@ fn put_range(out: &mut [u8], at: usize, range: &Mime) -> usize
 
 /// Reads a line of an Accept header (RFC 9110, 12.5.1), and writes the strings of each range to `out`, which must have at least
 /// `3 * text.len() + 3` bytes. The strings of a range are its weight (four digits, in thousandths), its parts, and an empty string. Sets
-/// `bad` to the number of bad entries. Returns `MIME_OK`, `MIME_NO_ROOM` or `MIME_NO_MEMORY`.
+/// `length` to the number of bytes written, and `bad` to the number of bad entries. Returns `MIME_OK`, `MIME_NO_ROOM` or `MIME_NO_MEMORY`.
 #[unsafe(no_mangle)]
 pub extern "C" fn mime_accept(
     alloc: Global,
@@ -402,7 +402,7 @@ pub extern "C" fn mime_accept(
     MIME_OK
 }
 
-/// Reads an `Accept` header of one line, or of none if `is_there` is false. Bad entries aren't kept.
+/// Reads an `Accept` header of one line, or of no line if `is_there` is false. Bad entries aren't kept.
 fn accepted(alloc: Global, is_there: bool, line: &[u8]) -> Result<Accept, AllocError>
     ensures header { IfOk result (λ accept. (header : Header) × IsHeader (lines_of is_there line.now) header × (accept.ranges ≡ header.ranges)) }
     ensures nothing { HaveNoEntry (lines_of is_there line.now) → IsOk result }
@@ -422,8 +422,8 @@ fn has_bad(offered: &Accept) -> bool
     !offered.bad().is_empty()
 }
 
-/// Chooses from a list of offers, such as `text/html, application/json`, the best one for an Accept header (RFC 9110, 12.5.1), and sets
-/// `best` to its position in the list. A request without the header, for which `is_there` is false, accepts everything. Returns `MIME_OK`,
+/// Chooses the best offer of a list, such as `text/html, application/json`, for an Accept header (RFC 9110, 12.5.1). Sets `best` to its
+/// position in the list, counted from 0. If `is_there` is false, the request has no such header, and accepts everything. Returns `MIME_OK`,
 /// `MIME_BAD_OFFER`, `MIME_NOT_ACCEPTABLE` or `MIME_NO_MEMORY`.
 #[unsafe(no_mangle)]
 pub extern "C" fn mime_best(
@@ -454,9 +454,8 @@ pub extern "C" fn mime_best(
     }
 }
 
-/// Writes the positions of the acceptable offers of a list to the start of `order`, and sets `count` to their number (RFC 9110, 12.5.1).
-/// The first position is that of the best offer, which `mime_best` chooses. Returns `MIME_OK`, or another answer of include/mime.h if it
-/// wrote nothing.
+/// Writes the positions of the acceptable offers of a list to the start of `order`, the best first, and sets `count` to their number (RFC
+/// 9110, 12.5.1). Offers are compared as in `mime_best`. Returns `MIME_OK`, or another answer of include/mime.h if it wrote nothing.
 #[unsafe(no_mangle)]
 pub extern "C" fn mime_order(
     alloc: Global,

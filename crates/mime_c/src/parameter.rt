@@ -59,8 +59,7 @@ pub extern "C" fn mime_boundary(
     }
 }
 
-/// Returns `true` if a byte begins a quoted pair: it is a backslash, and isn't the second byte of a quoted pair. `is_paired` is `true` for
-/// such a second byte.
+/// Returns `true` if a byte is a backslash that begins a quoted pair. `is_paired` is `true` for the second byte of a quoted pair.
 fn begins_quoted_pair(is_paired: bool, byte: u8) -> bool
     ensures { result ≡ (not is_paired && byte == backslash_byte) }
 {
@@ -121,9 +120,9 @@ fn has_room(out: &[u8], text: &[u8], name: &[u8], value: &[u8]) -> bool
     most <= out.len() as u128
 }
 
-/// Writes a media type with a parameter to `out`. The parameter replaces all parameters of the same name (RFC 9110, 5.6.6). `out` must
-/// have at least `2 * text.len() + name.len() + 2 * value.len() + 6` bytes. Sets `size` to the number of bytes of the media type. Returns
-/// `MIME_OK`, or another answer of include/mime.h if it wrote nothing.
+/// Reads `text` as `mime_content_type` does, and writes the media type to `out` with a parameter of this `name` and `value`, which replaces
+/// all parameters of the same name (RFC 9110, 5.6.6). `out` must have at least `2 * text.len() + name.len() + 2 * value.len() + 6` bytes.
+/// Sets `size` to the number of bytes of the media type. Returns `MIME_OK`, or another answer of include/mime.h if it wrote nothing.
 #[unsafe(no_mangle)]
 pub extern "C" fn mime_set_parameter(
     alloc: Global,

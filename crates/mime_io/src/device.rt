@@ -37,7 +37,7 @@ pub trait Sink {
     /// Whether everything that was written is flushed. By default, this is always true.
     ghost IsFlushed: { Self → Type 0 } = { λ _. ⊤ };
 
-    /// Writes all of the bytes. After a failure it isn't known how many were written.
+    /// Writes all of the bytes. After a failure, the number of bytes written is unspecified.
     fn write_all(&mut self, bytes: &[u8]) -> Result<(), Failed>
         ensures bytes { OnOk result (Appends (held self.old) (held self.new) bytes.now) }
         // A failure sets this flag, and nothing else changes it.
@@ -54,8 +54,8 @@ pub trait Sink {
         ensures unfailed { OnOk result (has_failed self.new ≡ has_failed self.old) };
 }
 
-/// An adapter that makes a reader a source, and a writer a sink. Each call is forwarded to the call of `inner` with the
-/// same name. For example, `Device { inner: rt.stdin(), failed: false }` reads standard input.
+/// An adapter that makes a reader a source, and a writer a sink. Each method calls the method of `inner` with the same
+/// name. For example, `Device { inner: rt.stdin(), failed: false }` reads standard input.
 #[derive(Drop)]
 pub struct Device<T> {
     /// The reader or writer.

@@ -1,4 +1,4 @@
-//! Why a run stops before its end.
+//! The errors of a run.
 
 ghost use Rattle.std.specs.Prelude.{◌≡◌, Some};
 ghost use Rattle.mime_io.specs.Stops.{stop_text};

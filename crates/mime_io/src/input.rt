@@ -17,7 +17,7 @@ pub const LIMIT: usize = 1_048_576;
 /// The maximum number of bytes that one read requests.
 const AT_ONCE: usize = 8192;
 
-/// Reads a source to its end, and no further than one byte past the limit.
+/// Reads a source to its end, but at most one byte past the limit, and returns the bytes read.
 ///
 /// # Errors
 /// Returns `Read` if the source fails, `TooLong` if it has more bytes than the limit, and `NoMemory` if memory runs
@@ -39,7 +39,7 @@ pub fn read_to_limit<S: Source>(alloc: Global, source: &mut S) -> Result<Vec<u8>
     read(alloc, source, LIMIT)
 }
 
-/// Reads a source to its end or to one byte past the limit. That byte is returned, too. If the result is longer than
+/// Reads a source to its end or to one byte past the limit, and returns all bytes read. If the result is longer than
 /// the limit, the source may have more bytes.
 ///
 /// # Errors

@@ -1,4 +1,5 @@
-//! Reads a media type from each line, and reports on it. With the argument `list`, each line is a list of media types.
+//! Prints a report on each line of standard input. A line is a media type or, with the argument `list`, a list of media
+//! types.
 #![tactic(auto)]
 
 ghost use Rattle.std.specs.Prelude.{◌≡◌, ◌<◌, ◌≤◌, Some, None, IsSomeAnd, slice_get, string_bytes};

@@ -537,7 +537,7 @@ fn flushes_what_it_writes(rt: HostRuntime) {
 
 #[test]
 fn memory_is_found(rt: HostRuntime) {
-    // No clause says that memory is found for a text of more than 40 bytes.
+    // No clause promises memory for a text of more than 40 bytes.
     let text = "multipart/form-data; boundary=0123456789a";
     let error = Mime::from_str(rt.alloc(), text).err();
     assert!(rt; error.is_none(), "memory ran out");

@@ -13,7 +13,7 @@ pub const BLOCK: usize = 16;
 pub struct Range(pub u8, pub u8);
 
 /// The bytes at which a search stops: the bytes in any of three ranges, or all other bytes. Before a byte is compared
-/// with the first range, the bits of `fold` are set in it. If `fold` is 32, the range `a` to `z` has the capitals, too.
+/// with the first range, the bits of `fold` are set in it. If `fold` is 32, the range `a` to `z` includes the capitals.
 #[derive(Clone, Copy)]
 pub struct Class {
     pub fold: u8,

@@ -41,7 +41,8 @@ fn copy_few(out: &mut [u8], bytes: &[u8])
     }
 }
 
-/// Copies bytes as `copy_from_slice` does, in fewer instructions for short strings.
+/// Copies `bytes` to `out`, which must have the same length. For short strings it needs fewer instructions than
+/// `copy_from_slice`.
 #[inline(always)]
 pub fn copy_bytes(out: &mut [u8], bytes: &[u8])
     requires { length out.old ≡ length bytes.now }

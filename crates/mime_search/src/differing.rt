@@ -1,4 +1,4 @@
-//! Where two strings first differ.
+//! The first difference between two strings.
 
 ghost use Rattle.std.specs.Prelude.{◌≡◌, ◌+◌, ◌<◌, ◌≤◌, ℕ, IfSome, None, length, slice_index};
 ghost use Rattle.mime_search.specs.Differences.{DifferAt};

@@ -1,4 +1,4 @@
-//! Byte strings compared ignoring ASCII case: whether they are equal, and where they first differ.
+//! Compares byte strings ignoring ASCII case: whether they are equal, and where they first differ.
 
 ghost use Rattle.std.specs.Prelude.{◌≡◌, ◌↔◌, ◌≤◌, ◌+◌, IsTrue, IfSome, None, length, take};
 ghost use Rattle.std.specs.Simd.Lanes.{zip2};

@@ -1,5 +1,5 @@
-//! Searches in strings, a block of bytes at a time: for the first byte of a class, for the end of a quoted string's
-//! content, and for the first difference, also ignoring ASCII case. Short strings are copied without a call.
+//! Searches strings, a block of bytes at a time, for the first byte of a class, the end of a quoted string's content,
+//! or the first difference between two strings, also ignoring ASCII case. Copies short strings without a call.
 #![tactic(auto)]
 
 mod class;

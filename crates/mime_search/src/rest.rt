@@ -35,8 +35,8 @@ fn position_by_one(text: &[u8], byte: u8) -> usize
     position
 }
 
-/// The rest of a string, together with the whole string. If the rest is shorter than a block, the string's last block
-/// is searched, without a loop.
+/// The rest of a string, together with the whole string. If the rest is shorter than a block, but the string isn't, the
+/// string's last block is searched, without a loop.
 #[derive(Drop)]
 pub struct Rest<'a> {
     whole: &'a str,

@@ -16,8 +16,8 @@ pub(crate) fn stops_in_block(text: &[u8], at: usize, class: &Class) -> u64
     stops_in_lanes(u8x16::from_slice(&text[at..]), class)
 }
 
-/// Returns the position of the first byte, at or after `from`, at which a search stops, or the length if there is none.
-/// The text is searched byte by byte.
+/// Returns the position of the first byte at or after `from` that stops a search, or the length if there is none. The
+/// text is searched byte by byte.
 #[inline(always)]
 fn first_stop_by_bytes(text: &[u8], from: usize, class: &Class) -> usize
     requires { from ≤ length text.now }
@@ -30,8 +30,8 @@ fn first_stop_by_bytes(text: &[u8], from: usize, class: &Class) -> usize
     at
 }
 
-/// Returns the position of the first byte, at or after `from`, at which a search stops, or the length if there is none.
-/// Less than a block is left at `from`, so only the text's last block is searched.
+/// Returns the position of the first byte at or after `from` that stops a search, or the length if there is none. Less
+/// than a block is left at `from`, so only the text's last block is searched.
 #[inline(always)]
 pub(crate) fn first_stop_at_end(text: &[u8], from: usize, class: &Class) -> usize
     requires block { BLOCK ≤ length text.now }

@@ -1,4 +1,4 @@
-//! Which of a string's first bytes stop a search, as a bit mask.
+//! Finds which of a string's first bytes stop a search.
 
 ghost use Rattle.std.specs.Prelude.{ℕ, List, ◌≡◌, ◌+◌, ◌*◌, ◌/◌, ◌-◌, ◌<◌, ◌≤◌, ◌^◌, ◌++◌, length, take, drop};
 ghost use Rattle.mime_search.specs.Classes.{IsStart, end_of_run, stops};
@@ -26,7 +26,7 @@ fn joined(first: u64, last: u64, part: usize, size: usize) -> u64
     first + ((last >> (part + part - size)) << part)
 }
 
-/// Returns the first and the last bytes of a string, half a block of each. They may overlap.
+/// Returns the first and the last half block of a string, which may overlap.
 #[inline(always)]
 fn both_ends(text: &[u8]) -> u8x16
     requires { HALF ≤ length text.now }
@@ -86,14 +86,14 @@ pub fn stops_at_start(text: &[u8], class: &Class) -> (usize, u64)
     }
 }
 
-/// Which of the first bytes of a string stop a search: `stops` is a bit mask of the first `known` bytes.
+/// The result of searching the start of a string: which of the first `known` bytes stop the search, as a bit mask.
 #[derive(Clone, Copy)]
 pub struct Start {
     pub known: usize,
     pub stops: u64,
 }
 
-/// Searches the first bytes of a string, at most `WINDOW`.
+/// Returns which of a string's first `WINDOW` bytes stop a search. A string shorter than half a block isn't searched.
 #[inline(always)]
 pub fn search_start(text: &[u8], class: &Class) -> Start
     ensures { IsStart class.now text.now result }

@@ -2,7 +2,7 @@
 
 use crate::name::Name;
 
-/// The name that has this text and ignores case.
+/// Creates a name that has this text and ignores case.
 macro_rules! name {
     ($text:literal) => {
         Name {
@@ -128,7 +128,7 @@ pub const BOUNDARY: Name<'static> = name!("boundary");
 pub const UTF_8: Name<'static> = name!("utf-8");
 
 /// All constant names, for the law `name_constants`. If the law's body listed them, the law's proof would go through
-/// each of them as a statement.
+/// each as a statement.
 pub(crate) static NAMES: [Name<'static>; 38] = [
     STAR,
     TEXT,

@@ -20,11 +20,11 @@ pub enum ParseError {
     MissingEqual,
     /// The string ends in a parameter's equals sign: a value is missing, as in `a/b;p=`.
     MissingValue,
-    /// The string ends in a quoted string: its closing `"` is missing, as in `a/b;p="x`. If it ends in an unpaired
-    /// backslash, as in `a/b;p="\`, the other byte of the quoted pair is missing, too.
+    /// The string ends in an open quoted string: a closing `"` is missing, as in `a/b;p="x`. If the string ends in an
+    /// unpaired backslash, as in `a/b;p="\`, the other byte of the quoted pair is missing, too.
     MissingQuote,
-    /// The string has a byte with which no media type continues, such as the space in `a b`. Some media type begins
-    /// with the bytes before this byte, but none with the bytes up to and including it.
+    /// The string has a byte that can't continue a media type, such as the space in `a b`. Some media type begins with
+    /// the bytes before this byte, but none with the bytes up to and including it.
     InvalidToken {
         /// The position of the byte, in bytes from 0.
         pos: usize,
@@ -48,8 +48,8 @@ fn token_text(pos: usize, byte: u8) -> Result<InlineText<80>, fmt::Error>
     Ok(text)
 }
 
-/// Prints what is missing, or the byte in uppercase hexadecimal with its position in decimal, or that memory ran out. A
-/// width and a precision are ignored.
+/// Prints what is missing, or the invalid byte in uppercase hexadecimal with its position in decimal, or that memory
+/// ran out. A width and a precision are ignored.
 ///
 /// The fault of `text/;` prints `an invalid token was encountered, 3B at position 5`.
 impl fmt::Display for ParseError {
@@ -94,7 +94,7 @@ impl Model for FromStrError {
 }
 
 impl FromStrError {
-    /// Returns the error of a string with this fault.
+    /// Creates an error with this fault.
     pub(crate) fn new(fault: ParseError) -> FromStrError
         ensures { result ≡ fault }
     {

@@ -1,4 +1,4 @@
-//! A reader of a string's bytes, which counts the bytes that it has returned or skipped.
+//! A reader that counts the bytes that it has returned or skipped.
 
 ghost use Rattle.std.specs.Prelude.{◌≡◌, ◌≢◌, ◌+◌, ◌-◌, ◌<◌, ◌≤◌, ◌^◌, [], true, false, length, drop, not, IsTrue, None, Some};
 ghost use Rattle.std.specs.List.{prefix_len};
@@ -20,7 +20,7 @@ pub(crate) struct ByteReader<'a> {
     at: usize,
     /// The count at which this reader begins.
     before: u128,
-    /// The number of known bytes at the start of the string: those that `stops` describes.
+    /// The number of known bytes: the bytes at the start of the string that `stops` describes.
     known: usize,
     /// Which of the known bytes aren't common token bytes, as a bit mask.
     stops: u64,

@@ -33,7 +33,7 @@ fn names_charset(name: &str) -> bool
     eq_ignore_ascii_case(name.as_bytes(), CHARSET.text.as_bytes())
 }
 
-/// Lowercases the bytes from one position up to another.
+/// Lowercases `bytes[from..to]`.
 #[inline]
 fn lowercase_range(bytes: &mut [u8], from: usize, to: usize)
     requires order { from ≤ to }

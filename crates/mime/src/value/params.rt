@@ -30,7 +30,7 @@ impl<'a> Model for Params<'a> {
 }
 
 impl<'a> Params<'a> {
-    /// Returns the parameters of these pairs.
+    /// Returns an iterator over these pairs.
     pub(crate) fn new(pairs: Pairs<'a>) -> Params<'a>
         ensures { result ≡ items_of pairs.entry }
     {

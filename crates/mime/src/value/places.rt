@@ -18,8 +18,8 @@ pub(crate) struct Places {
 }
 
 impl Places {
-    /// Returns the places that stand for these positions. `end` is where the text's essence ends: the position of the
-    /// semicolon after it, or the length of the text.
+    /// Returns these positions as places. `end` is where the text's essence ends: the position of the semicolon after
+    /// it, or the length of the text.
     #[inline(always)]
     pub(crate) fn of(positions: Positions, end: usize) -> Places
         requires plus { positions.plus ≢ Some 0 }

@@ -1,4 +1,4 @@
-//! A short kept text, which is stored in the `Mime` itself: making, cloning and dropping it doesn't allocate.
+//! A short kept text, which is stored in the `Mime` itself, so making and cloning it doesn't allocate.
 
 ghost use Rattle.std.specs.Prelude.{◌≡◌, ◌<◌, ◌≤◌, ◌-◌, IfSome, None, Some, IsUtf8, length, take, drop, slice_get, replicate};
 ghost use Rattle.mime_search.specs.Differences.{DifferAt};
@@ -47,7 +47,7 @@ fn padded(text: &str) -> [u8; PADDED]
     bytes
 }
 
-/// Lowercases the text at the start of a block, but only its parts that ignore case. The text has `count` pairs.
+/// Lowercases the text at the start of `block`, but only its parts that ignore case. The text has `count` pairs.
 #[inline(always)]
 fn lowercase_pairs(block: &mut [u8; PADDED], text: &str, semicolon: usize, count: usize)
     requires short { length text.now ≤ SHORT }
@@ -109,7 +109,7 @@ impl ShortText {
         }
     }
 
-    /// Returns the first `len` bytes of a block as a short text.
+    /// Returns the first `len` bytes of `block` as a short text.
     #[inline(always)]
     fn of(block: &[u8; PADDED], len: usize) -> ShortText
         requires short { len ≤ SHORT }

@@ -212,7 +212,7 @@ impl Clone for Mime {
     }
 }
 
-/// Prints the kept text as a `str` is printed, padded to a width and cut to a precision: a media type read from
+/// Prints the kept text as a `str` is printed, padded to a width and truncated to a precision: a media type read from
 /// `Text/Plain;` prints `text/plain`.
 impl fmt::Display for Mime {
     ghost output = { λ mime. Some mime.media.kept };
