@@ -263,7 +263,7 @@ pub extern "C" fn mime_read(
     }
 }
 
-/// Reads the value of a header such as Content-Type as one media type (RFC 9110, 8.3.1). Writes the strings that `mime_read` writes to
+/// Reads the value of a header such as `Content-Type` as one media type (RFC 9110, 8.3.1). Writes the strings that `mime_read` writes to
 /// `out`, which must have at least `3 * value.len() + 2` bytes, and sets `found`. Returns `MIME_OK`, or another answer of include/mime.h if
 /// it wrote nothing.
 #[unsafe(no_mangle)]
@@ -301,7 +301,7 @@ fn put_item(out: &mut [u8], at: usize, mark: u8, text: &str) -> usize
     put(out, next, text)
 }
 
-/// Finds the media types in `text`, as `MimeIter` does. For an Accept header, use `mime_accept`. Writes a string for each media type and
+/// Finds the media types in `text`, as `MimeIter` does. For an `Accept` header, use `mime_accept`. Writes a string for each media type and
 /// each bad piece to `out`, which must have at least `2 * text.len()` bytes, and sets `length` to the number of bytes written. Returns
 /// `MIME_OK`, or another answer of include/mime.h if it wrote no list.
 #[unsafe(no_mangle)]
@@ -372,7 +372,7 @@ fn put_range(out: &mut [u8], at: usize, range: &Mime) -> usize
     put(out, end, "")
 }
 
-/// Reads a line of an Accept header (RFC 9110, 12.5.1), and writes the strings of each range to `out`, which must have at least
+/// Reads a line of an `Accept` header (RFC 9110, 12.5.1), and writes the strings of each range to `out`, which must have at least
 /// `3 * text.len() + 3` bytes. The strings of a range are its weight (four digits, in thousandths), its parts, and an empty string. Sets
 /// `length` to the number of bytes written, and `bad` to the number of bad entries. Returns `MIME_OK`, `MIME_NO_ROOM` or `MIME_NO_MEMORY`.
 #[unsafe(no_mangle)]
@@ -422,7 +422,7 @@ fn has_bad(offered: &Accept) -> bool
     !offered.bad().is_empty()
 }
 
-/// Chooses the best offer of a list, such as `text/html, application/json`, for an Accept header (RFC 9110, 12.5.1). Sets `best` to its
+/// Chooses the best offer of a list, such as `text/html, application/json`, for an `Accept` header (RFC 9110, 12.5.1). Sets `best` to its
 /// position in the list, counted from 0. If `is_there` is false, the request has no such header, and accepts everything. Returns `MIME_OK`,
 /// `MIME_BAD_OFFER`, `MIME_NOT_ACCEPTABLE` or `MIME_NO_MEMORY`.
 #[unsafe(no_mangle)]

@@ -15,7 +15,7 @@ use mime_http::{boundary, content_type, with_parameter};
 use mime_search::{Class, first_stop};
 use std::alloc::Global;
 
-/// The maximum number of bytes of a boundary (RFC 2046, 5.1.1) and the 0 after it.
+/// The maximum length of a boundary (RFC 2046, 5.1.1) with the 0 after it, in bytes.
 const BOUNDARY_ROOM: usize = 71;
 
 /// Writes a text and a 0 at the start of `out`, and returns the length of the text.
@@ -30,7 +30,7 @@ fn put_string(out: &mut [u8], text: &[u8]) -> usize
     end
 }
 
-/// Writes the boundary of a body whose Content-Type is `value` (RFC 2046, 5.1.1) to `out`, which must have at least 71 bytes. Sets `size`
+/// Writes the boundary of a body whose `Content-Type` is `value` (RFC 2046, 5.1.1) to `out`, which must have at least 71 bytes. Sets `size`
 /// to the number of bytes of the boundary. Returns `MIME_OK`, or another answer of include/mime.h if it wrote nothing.
 #[unsafe(no_mangle)]
 pub extern "C" fn mime_boundary(

@@ -1,5 +1,4 @@
-//! Prints a report on each line of standard input. A line is a media type or, with the argument `list`, a list of media
-//! types.
+//! Reports on each line of standard input: a media type or, with the argument `list`, a list of media types.
 #![tactic(auto)]
 
 ghost use Rattle.std.specs.Prelude.{◌≡◌, ◌<◌, ◌≤◌, Some, None, IsSomeAnd, slice_get, string_bytes};

@@ -197,10 +197,10 @@ fn written<'a>(case: &Case<'a>, scenario: &Scenario, at: usize) -> &'a [u8] {
     }
 }
 
-/// Checks a run of a scenario. If the run must return `Read`, the read with the number `at` fails. If it must return
-/// `Write`, the writer fails at byte `at`, or at the flush if the scenario allows no flush. The run must return the
-/// scenario's result, and must write all the bytes that the writer accepts. The source may fail only if the result is
-/// `Read`, and the sink only if the result is `Write`. No call may follow a failure.
+/// Checks a run of a scenario. If the run must return `Read`, read number `at`, counted from 0, fails. If it must
+/// return `Write`, the writer fails at byte `at`, or at the flush if the scenario allows no flush. The run must return
+/// the scenario's result, and must write all the bytes that the writer accepts. The source may fail only if the result
+/// is `Read`, and the sink only if the result is `Write`. No call may follow a failure.
 fn check(
     rt: &impl Abort,
     alloc: Global,
@@ -238,7 +238,8 @@ fn check(
     );
 }
 
-/// Checks runs of a scenario, with a failure, single or repeated, wherever a read or a write can fail.
+/// Checks two runs of a scenario for each place where a read or a write can fail: with a single failure, and with
+/// repeated failures.
 fn check_each(rt: &impl Abort, alloc: Global, case: &Case<'_>, scenario: &Scenario) {
     let count = match scenario.answer {
         // The last of these reads would have returned the end.

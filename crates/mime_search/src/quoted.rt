@@ -25,7 +25,7 @@ fn after_quoted_pair(text: &[u8], from: usize) -> usize
 }
 
 /// Skips one or more of the consecutive quoted pairs that begin at `from`: all of them, unless fewer than eight bytes
-/// are left. Returns the position after the skipped pairs. A backslash that ends the text counts as a quoted pair.
+/// are left. Returns the position after the skipped pairs.
 #[inline(always)]
 fn after_quoted_pairs(text: &[u8], from: usize) -> usize
     requires within { from < length text.now }

@@ -110,8 +110,8 @@ pub fn search_start(text: &[u8], class: &Class) -> Start
 }
 
 impl Start {
-    /// Returns the position of the first byte, at or after `from`, at which the search stops, or `known` if there is
-    /// none among the first `known` bytes. If `from` isn't less than `known`, returns `from`.
+    /// Returns the position of the first byte at or after `from` that stops the search, or `known` if none of the first
+    /// `known` bytes does. If `from` is at least `known`, returns `from`.
     #[inline(always)]
     pub fn stop_from(self, from: usize) -> usize
         requires { self.known ≤ WINDOW }

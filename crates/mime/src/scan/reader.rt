@@ -99,7 +99,7 @@ impl<'a> Model for ByteReader<'a> {
 impl<'a> ByteReader<'a> {
     /// Returns a reader of all bytes of `text`, whose count begins at `count`. The reader looks only at bytes that it
     /// has counted, and at the next one, so that its count is the number of steps of a `MimeIter`. The caller's loop
-    /// reads at most `near` bytes of a token. `next_far` reads the others.
+    /// reads at most `near` bytes of a token.
     #[inline(always)]
     pub(crate) fn new(text: &'a str, count: u128, near: usize) -> ByteReader<'a>
         requires { count + length text.now < 2 ^ 128 }

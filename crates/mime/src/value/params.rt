@@ -11,10 +11,10 @@ use crate::value::pairs::Pairs;
 use std::fmt;
 use std::marker::Model;
 
-/// An iterator over the parameters of a media type in order of appearance, as pairs of a name and a value. Names ignore
-/// case. A value ignores case only if its name is `charset`. For `a/b;P=X` the iterator yields the name `p` with the
-/// value `X` (RFC 7231, 3.1.1.1). Values are yielded without quotes, but with backslashes: `\"x` for `a/b;p="\"x"`. The
-/// size hint is exact. The iterator walks the kept text, and doesn't allocate.
+/// An iterator over the parameters of a media type, which [`Mime::params`](crate::Mime::params) returns. It yields a
+/// name and a value for each, in order of appearance: `p` and `X` for `a/b;P=X` (RFC 7231, 3.1.1.1). Names ignore case.
+/// A value ignores case only if its name is `charset`. Values have no quotes, but keep their backslashes: `\"x` for
+/// `a/b;p="\"x"`. The size hint is exact. The iterator doesn't allocate.
 #[derive(Drop)]
 pub struct Params<'a> {
     pairs: Pairs<'a>,
