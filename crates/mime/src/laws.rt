@@ -51,20 +51,20 @@ pub fn empty_is_viable()
     ensures { EmptyIsViable }
 {}
 
-/// A prefix of a viable text is viable: `a/b;p` is viable, since `a/b;p="` is.
+/// A prefix of a viable string is viable: `a/b;p` is viable, since `a/b;p="` is.
 #[tactic(auto, using(crate::proofs::GrammarLemmas::Viability::prefix_of_viable_is_viable))]
 pub fn prefix_of_viable_is_viable()
     ensures { PrefixOfViableIsViable }
 {}
 
-/// An accepted text is viable, as `a/b` is.
+/// An accepted string is viable, as `a/b` is.
 #[tactic(auto, using(crate::proofs::GrammarLemmas::Viability::accepted_is_viable))]
 pub fn accepted_is_viable()
     ensures { AcceptedIsViable }
 {}
 
-/// A viable text that is rejected has exactly one of five faults: a missing slash, subtype, equals sign, value or
-/// closing quote. Followed by the fault's completion, the text is accepted, as `a/b;p` followed by `=x` is.
+/// A viable string that is rejected has exactly one of five faults: a missing slash, subtype, equals sign, value or
+/// closing quote. Followed by the fault's completion, the string is accepted, as `a/b;p` followed by `=x` is.
 #[tactic(auto, using(crate::proofs::GrammarLemmas::Faults::one_completion))]
 pub fn one_completion()
     ensures { OneCompletion }
@@ -82,7 +82,7 @@ pub fn no_completion()
     ensures { NoCompletion }
 {}
 
-/// A rejected text has exactly one fault: the fault of `text/;` is its byte at position 5, counted from 0.
+/// A rejected string has exactly one fault: the fault of `text/;` is its byte at position 5, counted from 0.
 #[tactic(auto, using(crate::proofs::GrammarLemmas::Faults::one_fault))]
 pub fn one_fault()
     ensures { OneFault }

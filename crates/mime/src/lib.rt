@@ -9,7 +9,7 @@
 //! parameters that this crate rejects.
 //!
 //! # Example
-//! This function checks whether a body with this media type is in UTF-8:
+//! This function checks whether the charset of a media type is UTF-8:
 //!
 //! ```rust
 //! use mime::{CHARSET, Mime, name_eq_str};

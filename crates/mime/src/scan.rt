@@ -1,4 +1,4 @@
-//! One pass over a string: the positions of its parts, or why it is rejected.
+//! Scans a string in one pass: finds the positions of its parts, or the reason why it is rejected.
 //!
 //! A function that reads a part also reads the byte that ends it, and returns that byte, or `None` at the end of the
 //! string.

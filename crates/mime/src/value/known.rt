@@ -1,4 +1,4 @@
-//! Texts that are known to be media types.
+//! Texts that are known to be kept texts.
 
 ghost use Rattle.std.specs.Prelude.{◌≤◌, IfOk, IsOk, length};
 ghost use Rattle.mime.specs.Values.{Reads};
