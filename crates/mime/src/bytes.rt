@@ -23,8 +23,8 @@ const P: u8 = 4;
 /// Any other byte that may occur in a token.
 const T: u8 = 5;
 
-/// The kind of each byte. Bytes from kind `B` on may follow a backslash, bytes from kind `Q` on may be quoted text, and
-/// bytes from kind `P` on may occur in a token.
+/// The kind of each byte. Bytes of kind `B` or later may follow a backslash, bytes of kind `Q` or later may be quoted
+/// text, and bytes of kind `P` or later may occur in a token.
 static KINDS: [u8; 256] = [
     N, N, N, N, N, N, N, N, N, Q, N, N, N, N, N, N, N, N, N, N, N, N, N, N, N, N, N, N, N, N, N, N,
     Q, T, B, T, T, T, T, T, Q, Q, T, P, Q, T, T, Q, T, T, T, T, T, T, T, T, T, T, Q, Q, Q, Q, Q, Q,

@@ -129,8 +129,8 @@ fn eq_by_parts(mime: &Mime, s: &str, equal_ignoring_case: bool) -> bool
     equal_ignoring_case || has_list_of(mime, s)
 }
 
-/// Returns `true` if a byte isn't a space, a tab or a quote. If it returns `true` for both bytes at which two strings
-/// first differ, ignoring ASCII case, the strings aren't read as equal values.
+/// Returns `true` if a byte isn't a space, a tab or a quote. If this function returns `true` for both bytes at which
+/// two strings first differ, ignoring ASCII case, the strings aren't read as equal values.
 #[inline(always)]
 fn reaches_value(byte: u8) -> bool
     ensures { result ≡ reaches_value byte }

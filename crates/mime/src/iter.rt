@@ -30,7 +30,7 @@ struct ReadPiece<'a> {
     piece: &'a str,
     /// The positions of the piece's parts, if the piece is a media type.
     positions: Option<Positions>,
-    /// The string after the piece and the character that follows it.
+    /// The rest of the string, after the piece and the character that follows it.
     left: &'a str,
     /// The number of bytes read so far, from the start of the iterator's string.
     steps: u128,
