@@ -61,7 +61,7 @@ fn is_pair(name: &str, value: &str, other_name: &str, other_value: &str) -> bool
     }
 }
 
-/// Returns `true` if `pairs`, the parameters of a string, equal the kept parameters `kept`.
+/// Returns `true` if `pairs`, the parameters of a string, equal `kept`, the parameters of a kept text.
 #[inline]
 fn are_pairs(kept: Pairs<'_>, pairs: Pairs<'_>) -> bool
     requires { AreLowPairs kept }

@@ -136,10 +136,10 @@ fn read_next_piece<'a>(text: &'a str, from: u128) -> ReadPiece<'a>
 /// An iterator over the media types in a string, and over the pieces that aren't media types. For an `Accept` header,
 /// use `mime_http::Accept`.
 ///
-/// The string is cut into pieces. Each piece is the longest prefix of the remaining string with which some media type
-/// begins. The character after a piece, such as the comma of a list, is skipped. A piece is a media type or a bad
-/// piece. Empty pieces aren't yielded, and neither is a last piece that is only the beginning of a media type. A bad
-/// entry doesn't affect the entries after it, unless it ends in an open quoted string. No byte is read twice.
+/// The string is cut into pieces. Each piece is the longest prefix of the remaining string that can begin a media type.
+/// The character after a piece, such as the comma of a list, is skipped. A piece is a media type or a bad piece. Empty
+/// pieces aren't yielded, and neither is a last piece that is only the beginning of a media type. A bad entry doesn't
+/// affect the entries after it, unless it ends in an open quoted string. No byte is read twice.
 ///
 /// Yielding a media type allocates once, for its kept text, if its piece has more than 40 bytes, including white space.
 /// So does cloning this media type. Yielding any other item doesn't allocate.

@@ -74,7 +74,7 @@ impl Text {
 #[derive(Drop)]
 pub struct Mime {
     // The order of the fields matters for speed: an error of `mime_http` has its byte where the text has its tag, so
-    // the compiler moves no word in parts.
+    // the compiler moves each word at once.
     places: Places,
     text: Text,
     /// The end of the essence: the position of the semicolon after it, or the text's length if there is no parameter.
@@ -178,7 +178,7 @@ impl Mime {
         Mime::of_kept(Text::Short(text), positions_in_kept(positions))
     }
 
-    /// Returns the media type of a text that is known to be a kept text with this media type's essence and `count`
+    /// Returns the media type of `text`, which is known to be a kept text with the essence of `self` and `count`
     /// parameters.
     #[inline(always)]
     fn with_known_parameters(

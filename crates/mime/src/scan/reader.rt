@@ -97,9 +97,9 @@ impl<'a> Model for ByteReader<'a> {
 }
 
 impl<'a> ByteReader<'a> {
-    /// Returns a reader of all bytes of `text`, whose count begins at `count`. The reader looks only at bytes that it
-    /// has counted, and at the next one, so that its count is the number of steps of a `MimeIter`. The caller's loop
-    /// reads at most `near` bytes of a token.
+    /// Creates a reader of all bytes of `text` that counts from `count`. The reader looks only at bytes that it has
+    /// counted, and at the next one, so that its count is the number of steps of a `MimeIter`. The caller's loop reads
+    /// at most `near` bytes of a token.
     #[inline(always)]
     pub(crate) fn new(text: &'a str, count: u128, near: usize) -> ByteReader<'a>
         requires { count + length text.now < 2 ^ 128 }
@@ -116,7 +116,7 @@ impl<'a> ByteReader<'a> {
         }
     }
 
-    /// Returns a reader of all bytes of `text`, with a count of 0. The reader looks at blocks of bytes, which may go
+    /// Creates a reader of all bytes of `text` that counts from 0. The reader looks at blocks of bytes, which may go
     /// beyond the next byte. It is for callers that don't count steps.
     #[inline(always)]
     pub(crate) fn by_blocks(text: &'a str) -> ByteReader<'a>
