@@ -33,7 +33,7 @@ impl Model for Accept {
 }
 
 impl Accept {
-    /// Adds a range.
+    /// Adds a range. The first call allocates space for `FIRST_RANGES` ranges.
     #[inline(always)]
     fn take(&mut self, range: Mime) -> Result<(), AllocError>
         ensures { OnOk result (self.new ≡ record self.old { ranges = self.old.ranges ++ (range.media ∷ []) }) }
@@ -45,7 +45,7 @@ impl Accept {
         Ok(())
     }
 
-    /// Adds a bad entry if `keeps_bad`. This function isn't inlined, since few entries are bad.
+    /// Adds a bad entry if `keeps_bad` is `true`. This function isn't inlined, since few entries are bad.
     #[inline(never)]
     fn take_bad(&mut self, alloc: Global, keeps_bad: bool, entry: &[u8]) -> Result<(), AllocError>
         ensures { OnOk result (self.new
@@ -57,8 +57,8 @@ impl Accept {
         Ok(())
     }
 
-    /// Adds a piece of a line. `fault` is what `mime` returns for the piece without the white space around it: a fault, or `NoMemory`. This
-    /// function isn't inlined, so that the code for pieces that `mime` accepts stays short.
+    /// Adds a piece of a line as a range or a bad entry. `fault` is what `mime` returns for the trimmed piece: its fault, or `NoMemory`.
+    /// This function isn't inlined, so that the code for pieces that `mime` accepts stays short.
     #[inline(never)]
     #[tactic(auto, using(crate::proofs::Around::utf8_around))]
     fn take_rejected(
@@ -84,7 +84,7 @@ impl Accept {
         }
     }
 
-    /// Adds a piece of a line, unless it is only white space.
+    /// Adds a piece of a line as a range or a bad entry, unless the piece is only white space.
     #[inline(always)]
     fn take_piece(&mut self, alloc: Global, keeps_bad: bool, piece: &[u8]) -> Result<(), AllocError>
         ensures taken { OnOk result (Takes keeps_bad (piece.now ∷ []) self.old self.new) }
@@ -103,7 +103,7 @@ impl Accept {
         }
     }
 
-    /// Adds the pieces of a line.
+    /// Adds the ranges and the bad entries of a line.
     #[tactic(auto, using(crate::proofs::Takes::past_empty, crate::proofs::Takes::past_piece, crate::proofs::Takes::blank_there))]
     fn take_line(&mut self, alloc: Global, keeps_bad: bool, line: &[u8]) -> Result<(), AllocError>
         ensures taken { OnOk result (Takes keeps_bad (cut line.now) self.old self.new) }
@@ -125,8 +125,8 @@ impl Accept {
         }
     }
 
-    /// Reads a header's lines. Keeps the bad entries if `keeps_bad`. This function isn't inlined, so that its two callers share one copy of
-    /// the loop.
+    /// Reads a header's lines. Keeps the bad entries if `keeps_bad` is `true`. This function isn't inlined, so that its two callers share
+    /// one copy of the loop.
     #[inline(never)]
     fn read(alloc: Global, lines: &[&[u8]], keeps_bad: bool) -> Result<Accept, AllocError>
         ensures header { IfOk result (λ accept. (header : Header) × IsHeader (map (λ line. line.now) lines.now) header
@@ -150,8 +150,8 @@ impl Accept {
     /// everything. Lines without a range, such as an empty line or `invalid`, accept nothing. Each line is cut at its commas outside quoted
     /// strings. A quoted string that isn't closed ends with its line.
     ///
-    /// It allocates the lists of ranges and of bad entries, a copy of each bad entry, and what [`content_type`](crate::content_type)
-    /// allocates for each range.
+    /// Allocates the lists of ranges and of bad entries, a copy of each bad entry, and what [`content_type`](crate::content_type) allocates
+    /// for each range.
     ///
     /// # Errors
     /// Returns `AllocError` if memory runs out, which never happens for lines of only commas and white space.
@@ -174,15 +174,15 @@ impl Accept {
         Accept::read(alloc, lines, false)
     }
 
-    /// Returns the ranges, in the header's order. Each is printed as `content_type` prints its entry.
+    /// Returns the ranges, in the header's order. Each is the media type that [`content_type`](crate::content_type) returns for its entry.
     pub fn ranges(&self) -> &[Mime]
         ensures { map (λ range. range.media) result.now ≡ self.now.ranges }
     {
         &self.ranges
     }
 
-    /// Returns the entries that aren't ranges, in the header's order. Each is as it was passed, without the white space around it.
-    /// [`Accept::from_lines_without_bad`] keeps none.
+    /// Returns the entries that aren't ranges, in the header's order. Each has the bytes that were passed, without the white space around
+    /// them. [`Accept::from_lines_without_bad`] keeps none.
     pub fn bad(&self) -> &[Vec<u8>]
         ensures { map vec_items result.now ≡ self.now.bad }
     {
@@ -200,11 +200,14 @@ impl Accept {
     }
 
     /// Returns the position of the offer with the highest weight, or `None` exactly if every offer weighs 0. Of offers with equal weights,
-    /// the best is the offer with the more specific range: the range that names more parts (`text/*` names one) or, if both name equally
-    /// many, more parameters. If neither range is more specific, the best is the offer whose range is earlier in the header. Of offers with
-    /// the same range, the first is the best. If two ranges are equally specific for an offer and have the same weight, the later one
-    /// counts. If the result is `None`, reply with 406 (RFC 9110, 15.5.7). Every reply depends on the header, so send `Vary: Accept`
-    /// (12.5.5). This doesn't allocate.
+    /// these rules choose the best, in this order:
+    /// 1. The offer with the more specific range wins: the range that names more parts (`text/*` names one) or, if both name equally many,
+    ///    more parameters other than `q`.
+    /// 2. The offer whose range is earlier in the header wins. Of equally specific ranges with the same weight, the last is an offer's range.
+    /// 3. The earlier offer wins.
+    ///
+    /// If the result is `None`, reply with 406 (RFC 9110, 15.5.7). Every reply depends on the header, so send `Vary: Accept` (12.5.5). This
+    /// doesn't allocate.
     pub fn best(&self, offers: &[Mime]) -> Option<usize>
         ensures exact { result ≡ best_offer self.now.ranges (map (λ offer. offer.media) offers.now) }
         ensures within { IfSome result (λ at. at < length offers.now) }
@@ -213,7 +216,7 @@ impl Accept {
     }
 
     /// Returns the positions of all offers that weigh more than 0, the best first. Offers are compared as in [`Accept::best`], which
-    /// returns the first of these positions. It allocates the positions and, while it runs, a list of the offers' ranks.
+    /// returns the first of these positions. Allocates the positions and, temporarily, a list of the offers' ranks and a buffer to sort it.
     ///
     /// # Errors
     /// Returns `AllocError` if memory runs out, which never happens if there are no offers.

@@ -5,7 +5,7 @@ ghost use Rattle.mime_http.specs.{HeaderLaws.PlainIsHttp, HeaderLaws.OneHttpRead
 
 use crate::value::FieldError;
 
-/// HTTP allows each text that `mime` reads, such as `a/b; p=x;`, and reads it as the same media type.
+/// HTTP allows each text that `mime` accepts, such as `a/b; p=x;`, and defines the same media type for it.
 #[tactic(auto, using(crate::proofs::PlainIsHttp::plain_is_http))]
 pub fn plain_is_http()
     ensures { PlainIsHttp }
@@ -40,7 +40,7 @@ pub fn one_cut()
     ensures { OneCut }
 {}
 
-/// A list that HTTP allows is read as its elements, and no entry is bad: `,a/b ,, c/d;q=0.5` has `a/b` and `c/d;q=0.5` (RFC 9110, 5.6.1.2).
+/// A list that HTTP allows is read as its entries, none of them bad: `,a/b ,, c/d;q=0.5` has `a/b` and `c/d;q=0.5` (RFC 9110, 5.6.1.2).
 #[tactic(auto, using(crate::proofs::Lists::http_lists_are_read))]
 pub fn http_lists_are_read()
     ensures { HttpListsAreRead }
@@ -93,8 +93,8 @@ pub fn covers_itself()
     ensures { CoversItself }
 {}
 
-/// Whether a range covers an offer, and how specific the range is, depends on what the values of parameters mean: `a/b;p="\x"` covers
-/// `a/b;p=x` just as `a/b;p=x` does (RFC 9110, 5.6.4).
+/// Whether a range covers an offer, and how specific the range is, depends only on what both mean: `a/b;p="\x"` covers `a/b;p=x` just as
+/// `a/b;p=x` does (RFC 9110, 5.6.4).
 #[tactic(auto, using(crate::proofs::Demanded::meaning_counts))]
 pub fn meaning_counts()
     ensures { MeaningCounts }

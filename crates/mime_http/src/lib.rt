@@ -1,10 +1,10 @@
 //! Reads and writes media types in HTTP headers for servers, as RFC 9110 defines them. This library uses `mime`, but also reads the values
 //! that HTTP allows and `mime` rejects. Its promises are contracts that a prover checks.
 //!
-//! [`content_type`] reads the bytes of a header's value, such as that of a `Content-Type`. [`Accept`] reads the lines of an `Accept`
-//! header, weighs a server's offers, and returns the best offer, or all acceptable offers in order. [`covers`] and [`weight_of`] examine a
-//! single range. [`with_parameter`], [`with_charset`] and [`with_boundary`] write parameters. [`boundary`] and [`unescape`] read them.
-//! [`laws`] states facts about all values.
+//! [`content_type`] reads the value of a header such as `Content-Type`. [`Accept`] reads the lines of an `Accept` header, weighs a server's
+//! offers, and returns the best offer, or all acceptable offers in order. [`covers`] and [`weight_of`] examine a single range.
+//! [`rank_offers`] and [`lacking`] explain a choice. [`with_parameter`], [`with_charset`] and [`with_boundary`] write parameters.
+//! [`boundary`] and [`unescape`] read them. [`laws`] states facts about all values.
 //!
 //! # Example
 //! A server checks two headers of a request. It accepts a body whose `Content-Type` is ` application/json ;; charset=utf-8`.
@@ -38,7 +38,7 @@
 //!
 //! # Standards
 //! Values follow the grammar of RFC 9110 (8.3.1, 5.6.3, 5.6.4 and 5.6.6), and must be UTF-8: other non-ASCII bytes (obs-text) are rejected.
-//! A parameter's value keeps its backslashes, as in `mime`. [`unescape`] removes them.
+//! A parameter's value keeps its backslashes, as in `mime`. [`unescape`] writes what the value means.
 #![tactic(auto)]
 
 mod accept;

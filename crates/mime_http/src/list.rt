@@ -19,8 +19,7 @@ fn next_outside(line: &[u8], from: usize) -> usize
     first_stop(line, from, &Class::of(b',', b'='))
 }
 
-/// Returns the position after the closing quote of the quoted string that `from` is in, or the length of the line if there is no such
-/// quote.
+/// Returns the position after the closing quote of the quoted string that `from` is in, or the line's length if the string isn't closed.
 #[inline(always)]
 #[tactic(auto, using(crate::proofs::Cuts::string_closed))]
 fn string_end(line: &[u8], from: usize) -> usize
@@ -33,8 +32,8 @@ fn string_end(line: &[u8], from: usize) -> usize
     if end < line.len() { end + 1 } else { end }
 }
 
-/// Returns the length of a line's first piece. `quote` is the position of the line's first quote, and no comma is before that. This
-/// function isn't inlined, since few pieces have a quote.
+/// Returns the length of a line's first piece. `quote` is the position of the line's first quote. No comma precedes it. This function isn't
+/// inlined, since few pieces have a quote.
 #[inline(never)]
 #[tactic(auto, using(crate::proofs::Cuts::ends_outside, crate::proofs::Cuts::string_opens, crate::proofs::Cuts::outside_byte))]
 fn quoted_piece_len(line: &[u8], quote: usize) -> usize

@@ -36,8 +36,8 @@ fn mean_the_same_bytes(value: &[u8], other: &[u8]) -> bool
     split_first(other_left).is_none()
 }
 
-/// Returns `true` if two values of parameters mean the same: a backslash and the byte after it mean that byte (RFC 9110, 5.6.4). This
-/// doesn't allocate.
+/// Returns `true` if two values of parameters mean the same, as `\x` and `x` do: a backslash and the byte after it mean that byte (RFC
+/// 9110, 5.6.4). This doesn't allocate.
 pub(crate) fn mean_the_same(value: &str, other: &str) -> bool
     ensures { result ≡ bytes_eq (unescaped value.now) (unescaped other.now) }
 {

@@ -16,7 +16,7 @@ const Y: bool = true;
 /// The mark of a byte that may not occur in a boundary.
 const N: bool = false;
 
-/// The bytes that may occur in a boundary, as a table.
+/// A table of the bytes that may occur in a boundary.
 static BOUNDARY_BYTES: [bool; 256] = [
     N, N, N, N, N, N, N, N, N, N, N, N, N, N, N, N, N, N, N, N, N, N, N, N, N, N, N, N, N, N, N, N,
     Y, N, N, N, N, N, N, Y, Y, Y, N, Y, Y, Y, Y, Y, Y, Y, Y, Y, Y, Y, Y, Y, Y, Y, Y, N, N, Y, N, Y,
@@ -28,7 +28,7 @@ static BOUNDARY_BYTES: [bool; 256] = [
     N, N, N, N, N, N, N, N, N, N, N, N, N, N, N, N, N, N, N, N, N, N, N, N, N, N, N, N, N, N, N, N,
 ];
 
-/// The maximum number of bytes of a boundary.
+/// The maximum length of a boundary, in bytes.
 const LONGEST: usize = 70;
 
 /// Returns `true` if a byte may occur in a boundary.
@@ -51,7 +51,7 @@ fn are_boundary_bytes(bytes: &[u8]) -> bool
 }
 
 /// Returns `true` if bytes are a boundary: 1 to 70 letters, digits, spaces and the marks `'()+_,-./:=?`, with no space at the end (RFC
-/// 2046, 5.1.1). `a b` is one, `a ` and `a;b` aren't.
+/// 2046, 5.1.1). `a b` is a boundary, `a ` and `a;b` aren't.
 pub fn is_boundary(bytes: &[u8]) -> bool
     ensures { IsTrue result ↔ IsBoundary bytes.now }
 {
@@ -82,8 +82,8 @@ fn meant_boundary(alloc: Global, value: &str) -> Result<Option<Vec<u8>>, AllocEr
     Ok(is_boundary(&boundary).then_some(boundary))
 }
 
-/// Returns the boundary that the first parameter `boundary` means, or `None` if it means none. This function isn't inlined, since most
-/// media types aren't `multipart`.
+/// Returns the boundary that the first parameter `boundary` means, or `None` if there is no such parameter or it doesn't mean a boundary.
+/// This function isn't inlined, since most media types aren't `multipart`.
 #[inline(never)]
 fn first_boundary(alloc: Global, mime: &Mime) -> Result<Option<Vec<u8>>, AllocError>
     ensures meant { IfOk result (λ answer. MatchOption answer

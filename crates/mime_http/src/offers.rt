@@ -11,7 +11,7 @@ use std::alloc::{AllocError, Global};
 use std::cmp::Reverse;
 use std::marker::Model;
 
-/// An offer, and the parts of it with which each range's essence is compared.
+/// An offer with its essence and its type, which are compared with the essence of each range.
 #[derive(Clone, Copy)]
 struct Offer<'a> {
     mime: &'a Mime,
@@ -21,8 +21,8 @@ struct Offer<'a> {
     ghost before_slash: { type_.now ≡ type_of mime.now.media },
 }
 
-/// The most specific range so far that covers an offer, if any: how many parts it names, how many parameters it demands, its weight, and
-/// its position.
+/// The most specific range so far that covers an offer: how many parts it names, how many parameters it demands, its weight, and its
+/// position. `named` is `None` if no range so far covers the offer.
 #[derive(Drop)]
 struct Closest {
     named: Option<u8>,
@@ -122,7 +122,7 @@ pub(crate) fn best_of(ranges: &[Mime], offers: &[Mime]) -> Option<usize>
 /// An offer's rank and its position. The better of two offers has the lower `Ranked`.
 pub(crate) type Ranked = (Reverse<(u16, u8, usize, usize)>, usize);
 
-/// Returns the offers that weigh at least `least`, the best first.
+/// Returns the offers that weigh at least `least` thousandths, the best first.
 #[inline(always)]
 pub(crate) fn ranked(
     alloc: Global,

@@ -1,4 +1,4 @@
-//! Media types with a new parameter, as they are written in a header.
+//! Writes parameters of media types.
 
 ghost use Rattle.std.specs.Prelude.{◌≡◌, ◌++◌, ◌∷◌, [], ◌↔◌, IsTrue, IfOk, IsOk, IfSome, OnOk, is_some, if◌then◌else◌, codes, string_bytes, length};
 ghost use Rattle.mime.specs.{Grammar.IsToken, HeaderLaws.AreHeaderBytes, Values.lowered, Values.lowered_value};
@@ -88,7 +88,7 @@ fn text_with(
         ≡ mime.now.media.essence ++ text_of_pairs (others name.now mime.now.media.pairs ++ ((name.now, escaped value.now) ∷ []))) }
     ensures count { IfOk result (λ written. written.1 ≡ length (others name.now mime.now.media.pairs)) }
 {
-    // The bytes of `; ` and `=`, of the value, and of the value's quotes.
+    // The maximum number of bytes of `; `, `=`, the value and its quotes.
     let content = match form {
         Form::Token => value.len().saturating_add(3),
         Form::Quoted => value.len().saturating_add(5),
@@ -136,7 +136,7 @@ fn mime_with(
     one_reading();
     let (text, others) = text_with(alloc, mime, name, value, form)?;
     if is_kept_as_written(name, value) {
-        // For the proof: the text is longer than the number of the others, so the count can't overflow.
+        // For the proof: the text has more bytes than there are other parameters, so the count can't overflow.
         let _more = text.len();
         let count = others + 1;
         let known = KnownText {
@@ -153,8 +153,8 @@ fn mime_with(
     }
 }
 
-/// Returns the media type with this parameter in place of all parameters of its name, ignoring ASCII case (RFC 9110, 5.6.6). The other
-/// parameters keep their order, and this one is the last. `text/html; charset=utf-8` with the parameter `title` and the value `a "b"` is
+/// Returns the media type with this parameter in place of all parameters of its name, ignoring ASCII case (RFC 9110, 5.6.6). The new
+/// parameter is the last, after the others in their order. `text/html; charset=utf-8` with the parameter `title` and the value `a "b"` is
 /// `text/html; charset=utf-8; title="a \"b\""`.
 ///
 /// Returns `None` exactly if the name isn't a token, or the value has a byte that no quoted string can contain: a control character other
@@ -165,7 +165,7 @@ fn mime_with(
 /// are printed in the same way, but with only the backslashes that they have: `a/b;p="x"` with the parameter `q` and the value `1` is
 /// `a/b; p=x; q=1`.
 ///
-/// It allocates a buffer for the text, which may grow. A text of more than 40 bytes may need one more block.
+/// Allocates a buffer for the text, which may grow. A text of more than 40 bytes may need one more block.
 ///
 /// # Errors
 /// Returns `AllocError` if memory runs out, which never happens if the result is `None`.

@@ -82,7 +82,7 @@ static KINDS: [u8; 256] = [
     Q, Q, Q, Q, Q, Q, Q, Q, Q, Q, Q, Q, Q, Q, Q, Q, Q, Q, Q, Q, Q, Q, Q, Q, Q, Q, Q, Q, Q, Q, Q, Q,
 ];
 
-/// The size of a block. The search for a byte that may not occur in a quoted string stops only between blocks.
+/// The number of bytes in a block. The search for a byte that may not occur in a quoted string stops only between blocks.
 const KIND_BLOCK: usize = 64;
 
 /// Returns the kind of a byte.
@@ -121,8 +121,8 @@ fn kind_of(value: &[u8]) -> u8
     kind
 }
 
-/// Returns the form in which a value is written, or `None` if the value has a control character other than the tab, which no quoted string
-/// can contain.
+/// Returns the form in which a value is written, or `None` if the value has a byte that no quoted string can contain: a control character
+/// other than the tab.
 #[tactic(auto, using(crate::proofs::Contents::token_from_kind))]
 pub(crate) fn form_of(value: &str) -> Option<Form>
     ensures { result ≡ (if list_all is_quoted_byte value.now then Some (form_of value.now) else None) }
@@ -136,7 +136,7 @@ pub(crate) fn form_of(value: &str) -> Option<Form>
     }
 }
 
-/// Returns the position of the first quote or backslash at or after `from`, or the length if there is none.
+/// Returns the position of the first quote or backslash at or after `from`, or the value's length if there is none.
 #[inline(always)]
 #[tactic(auto, using(crate::proofs::Contents::plain_from_kind, crate::proofs::Contents::plain_more))]
 fn special_from(value: &str, from: usize) -> usize
@@ -151,8 +151,7 @@ fn special_from(value: &str, from: usize) -> usize
     at
 }
 
-/// Adds a run of bytes and a backslash. If the run is only one quote or only one backslash, the run and the backslash after it are added in
-/// one call.
+/// Adds a run of bytes and a backslash, in one call if the run is only one quote or only one backslash.
 #[inline(always)]
 fn push_with_backslash(text: &mut String, run: &str) -> Result<(), AllocError>
     ensures { OnOk result (string_bytes text.new ≡ (string_bytes text.old ++ run.now) ++ (backslash_byte ∷ [])) }

@@ -103,7 +103,7 @@ pub(crate) fn named_parts(range: &Mime, essence: &str, type_: &str) -> Option<u8
     }
 }
 
-/// Returns `true` if an offer has a parameter of this name, with a value that means the same.
+/// Returns `true` if an offer has a parameter of this name whose value means the same as `value`.
 #[tactic(auto, using(crate::proofs::Demanded::has_item))]
 fn has(offer: &Mime, name: &str, value: &str) -> bool
     ensures { result ≡ has offer.now.media (name.now, value.now) }
@@ -116,7 +116,7 @@ fn has(offer: &Mime, name: &str, value: &str) -> bool
     false
 }
 
-/// Returns how many parameters a media type has.
+/// Returns the number of a media type's parameters.
 pub(crate) fn param_count(mime: &Mime) -> usize
     ensures { result ≡ length mime.now.media.pairs }
 {
@@ -156,8 +156,8 @@ pub(crate) fn after_essence(mime: &Mime) -> &[u8]
     &mime.as_str().as_bytes()[mime.essence_str().len()..]
 }
 
-/// Returns how many parameters a range demands of an offer, and the range's weight, or `None` if the offer lacks one of these parameters.
-/// The range `text/html;level=1` demands one.
+/// Returns how many parameters a range demands of an offer, and the range's weight in thousandths, or `None` if the offer lacks one of
+/// these parameters. The range `text/html;level=1` demands one.
 #[inline(always)]
 pub(crate) fn demanded(range: &Mime, offer: &Mime) -> Option<(usize, u16)>
     ensures { result ≡ (if list_all (has offer.now.media) (demanded range.now.media.pairs)

@@ -15,11 +15,11 @@ use std::cmp::Reverse;
 /// An offer with its weight and the range that decides the weight.
 #[derive(Clone, Copy, PartialEq, Eq, Debug)]
 pub struct RankedOffer {
-    /// The offer's position.
+    /// The offer's position among all offers, from 0.
     pub offer: usize,
     /// The offer's weight in thousandths, as [`Accept::weight`](crate::Accept::weight) returns it.
     pub weight: u16,
-    /// The position of the range that decides the weight: the most specific range that covers the offer. `None` if no range covers it.
+    /// The position of the most specific range that covers the offer, which decides the weight, or `None` if no range covers the offer.
     pub range: Option<usize>,
 }
 
@@ -69,14 +69,14 @@ pub fn lacking(ranges: &[Mime], offer: &Mime) -> Option<usize>
     ranges.iter().position(|range| is_lacking(range, offer))
 }
 
-/// Returns `true` if all bytes are digits. If `zeros_alone`, all must be zeros.
+/// Returns `true` if all bytes are digits. If `zeros_alone` is `true`, all must be zeros.
 fn are_digits(zeros_alone: bool, bytes: &[u8]) -> bool
     ensures { result ≡ list_all (λ b. b == 48 || (not zeros_alone && is_ascii_digit b)) bytes.now }
 {
     bytes.iter().all(|byte| *byte == b'0' || (!zeros_alone && byte.is_ascii_digit()))
 }
 
-/// Returns `true` if there are no bytes, or a dot and at most three digits. If `zeros_alone`, all digits must be zeros.
+/// Returns `true` if there are no bytes, or a dot and at most three digits. If `zeros_alone` is `true`, all digits must be zeros.
 fn are_decimals(zeros_alone: bool, bytes: &[u8]) -> bool
     ensures { result ≡ are_decimals zeros_alone bytes.now }
 {
@@ -87,7 +87,7 @@ fn are_decimals(zeros_alone: bool, bytes: &[u8]) -> bool
     }
 }
 
-/// Returns `true` if a value is a weight as RFC 9110 writes it.
+/// Returns `true` if a value is a `qvalue` of RFC 9110 (12.4.2), such as `0.25`.
 fn is_qvalue(bytes: &[u8]) -> bool
     ensures { result ≡ is_qvalue bytes.now }
 {

@@ -12,7 +12,7 @@ use crate::list::is_space;
 use mime::{ParseError, is_quoted_byte, is_quoted_text_byte, is_token};
 use mime_search::{Class, Range, Start, copy_bytes, first_stop_far, search_start};
 
-/// All bytes except letters, digits, hyphens and dots, of which most tokens consist.
+/// All bytes except those that most tokens consist of: letters, digits, hyphens and dots.
 static TOKEN_STOPS: Class = Class {
     fold: 0x20,
     folded: Range(b'a', b'z'),
@@ -114,8 +114,8 @@ fn fault_at(value: &[u8], pos: usize, missing: ParseError) -> ParseError
     }
 }
 
-/// Skips the byte of quoted text at `at`, and returns the position after it. If the number of bytes from `from` to there is a multiple of
-/// `LONG`, also skips the quoted text that follows, in blocks.
+/// Skips the byte of quoted text at `at`. If the number of bytes from `from` through this byte is a multiple of `LONG`, also skips the
+/// quoted text that follows, in blocks. Returns the position after the skipped bytes.
 #[inline(always)]
 fn text_end(value: &[u8], at: usize, from: usize) -> usize
     requires least { from ≤ at }
@@ -158,8 +158,8 @@ fn string_end(value: &[u8], from: usize) -> Result<usize, ParseError>
     Err(ParseError::MissingQuote)
 }
 
-/// The bytes that are written of a parameter: those from its name up to `first`, and those from `begin` up to `last`. `end` is the position
-/// after the parameter.
+/// The bytes of a parameter that are written: from its name up to `first`, and from `begin` up to `last`. `end` is the position after the
+/// parameter.
 #[derive(Clone, Copy)]
 struct Spans {
     first: usize,
@@ -296,9 +296,9 @@ fn put_parameter(room: &mut [u8], len: usize, value: &[u8], name: usize, spans: 
     put(room, len, &value[spans.begin..spans.last])
 }
 
-/// Writes the media type of a value anew: its essence, and each parameter as `with_parameter` writes it. Returns the length of the whole
-/// text, or the fault of a value that HTTP doesn't allow. If the buffer `room` is shorter than the text, the text in it isn't complete.
-/// This doesn't allocate.
+/// Writes the media type of a value anew into the buffer `room`: its essence, and each parameter as `with_parameter` writes it. Returns the
+/// length of the whole text, or the fault of a value that HTTP doesn't allow. If `room` is shorter than the text, the text in it isn't
+/// complete. This doesn't allocate.
 pub(crate) fn write_anew(value: &[u8], room: &mut [u8]) -> Result<usize, ParseError>
     ensures answer { MatchResult result
         (λ len. (parts : Parts) × (answer_of value.now ≡ read parts) × Holds room.new len (text_of_parts parts))

@@ -1,4 +1,4 @@
-//! Reads the media type of a header's value, which is passed as bytes.
+//! Reads the media type of a header's value from bytes.
 
 ghost use Rattle.std.specs.Prelude.{◌≡◌, ◌≢◌, ◌<◌, ◌≤◌, IsFalse, IsTrue, ℕ, List, true, codes, length, Some, IfOk, IfErr, IfSome, IsOk, MatchResult};
 ghost use Rattle.std.specs.Fmt.InlineText.{inline_text};
@@ -66,8 +66,8 @@ impl fmt::Display for FieldError {
 
 impl Error for FieldError {}
 
-/// Converts bytes to a string as `str::from_utf8` does, but faster for ASCII, which most values are. If `is_ascii`, the bytes are known to
-/// be ASCII and aren't tested.
+/// Converts bytes to a string as `str::from_utf8` does, but faster for ASCII, which most values are. If `is_ascii` is `true`, the bytes are
+/// known to be ASCII, and aren't tested.
 #[inline(always)]
 #[tactic(auto, using(crate::proofs::Around::ascii_is_utf8))]
 pub(crate) fn text_of_piece(piece: &[u8], is_ascii: bool) -> Result<&str, Utf8Error>
@@ -107,10 +107,9 @@ fn read_written(alloc: Global, text: &[u8]) -> Result<Mime, FieldError>
     }
 }
 
-/// Returns the fault of a value, if that follows from `fault`, which `mime` returns for the value without the white space around it. At a
-/// byte that `mime` rejects, HTTP rejects the value, too, unless the byte is white space or a semicolon. What `mime` finds missing at the
-/// value's end is missing for HTTP, too, unless white space is there. This function isn't inlined, so that it takes no registers of the
-/// caller.
+/// Returns the fault of a value if it follows from `fault`, which `mime` returns for the trimmed value. A byte at fault for `mime` is at
+/// fault for HTTP, too, unless the byte is white space or a semicolon. A part that is missing for `mime` is missing for HTTP, too, unless
+/// the value ends in white space. This function isn't inlined, so that it uses none of the caller's registers.
 #[inline(never)]
 fn same_fault_far(value: &[u8], fault: ParseError) -> Option<ParseError>
     requires { Explains (trimmed value.now) fault }
@@ -181,7 +180,7 @@ fn read_into(
     Ok(mime)
 }
 
-/// Reads a value for which `len` bytes are written. `len` is more than 40.
+/// Reads a value that is written anew in `len` bytes, which are more than 40. Returns `NoMemory` if `accepted` is `true`.
 #[cycle(rejected)]
 #[inline(always)]
 fn read_in_block(alloc: Global, value: &str, accepted: bool, len: usize) -> Result<Mime, FieldError>
@@ -233,9 +232,9 @@ pub(crate) fn read_rejected(
     }
 }
 
-/// Reads the media type of a header's value, such as that of a `Content-Type`, from bytes as they are received (RFC 9110, 8.3.1, with
-/// 5.6.3, 5.6.4 and 5.6.6). Accepts each value in UTF-8 that the grammar in these sections allows, even with white space around semicolons
-/// and with empty parameters. White space around the value is allowed, too. A non-ASCII value that isn't UTF-8 (obs-text) is rejected.
+/// Reads the media type in the value of a header such as `Content-Type`, from bytes as they are received (RFC 9110, 8.3.1, with 5.6.3,
+/// 5.6.4 and 5.6.6). Accepts each value in UTF-8 that the grammar in these sections allows, even with white space around semicolons and
+/// with empty parameters. White space around the value is allowed, too. Non-ASCII bytes (obs-text) must be UTF-8.
 ///
 /// A request has at most one `Content-Type` line. Treat two such lines as an error, since programs differ in which line they use. A body
 /// without a `Content-Type` may be treated as `application/octet-stream` (8.3).
@@ -244,8 +243,8 @@ pub(crate) fn read_rejected(
 /// anew: its essence, and each parameter as [`with_parameter`](crate::with_parameter) writes it. So ` text/html ;; charset="utf-8"` is
 /// printed as `text/html; charset=utf-8`. The values of parameters keep their backslashes.
 ///
-/// It doesn't allocate if at most 40 bytes are printed. Otherwise, it allocates one block for a value that is read as it is, and two blocks
-/// for a value that is printed anew, of which it frees one. It doesn't allocate for a value that it rejects.
+/// This doesn't allocate if the value is rejected, or if at most 40 bytes are printed. Otherwise, it allocates one block for a value that
+/// is read as it is, or two blocks for a value that is printed anew, and frees one of the two.
 ///
 /// # Errors
 /// Returns `NotUtf8` if the value isn't valid UTF-8. Returns `Invalid` with the fault if the value isn't a media type. The fault's position
