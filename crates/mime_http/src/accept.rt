@@ -203,7 +203,7 @@ impl Accept {
     /// these rules choose the best, in this order:
     /// 1. The offer with the more specific range wins: the range that names more parts (`text/*` names one) or, if both name equally many,
     ///    more parameters other than `q`.
-    /// 2. The offer whose range is earlier in the header wins. Of equally specific ranges with the same weight, the last is an offer's range.
+    /// 2. The offer whose range is earlier in the header wins. Of equally specific ranges with the same weight, the last counts.
     /// 3. The earlier offer wins.
     ///
     /// If the result is `None`, reply with 406 (RFC 9110, 15.5.7). Every reply depends on the header, so send `Vary: Accept` (12.5.5). This
