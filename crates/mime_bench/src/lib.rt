@@ -1,7 +1,7 @@
 //! The operations that bench/ measures, as one call over byte slices.
 //!
 //! The call repeats an operation in rounds. If two calls differ only in their rounds, their times differ by the time of the additional
-//! rounds. No clause states the results. The driver compares them with those of the Rust crate.
+//! rounds. No clause states the results. The driver compares the results with the Rust crate's.
 #![tactic(auto)]
 
 use mime::{BOUNDARY, CHARSET, Mime, MimeIter, ParamKey, TextKey, mime_eq_str};
@@ -28,7 +28,7 @@ macro_rules! sum {
 }
 
 /// Repeats an operation on each line of `texts`, or on the line's media type, and returns the sum of the results. Some operations also use
-/// the same line of `others`. `operation` is a position in the list of bench/driver.rs.
+/// lines of `others`. `operation` is a position in the list `OPERATIONS` of bench/driver.rs.
 #[unsafe(no_mangle)]
 pub extern "C" fn mime_bench(
     alloc: Global,
@@ -291,7 +291,7 @@ fn written(made: Result<Option<Mime>, AllocError>) -> usize {
     }
 }
 
-/// Reads an `Accept` header and chooses the best of the offers. The result is the best offer's position, counted from 1.
+/// Reads an `Accept` header and chooses the best of the offers. The result is the best offer's position from 1, or 0 if there is none.
 #[inline(never)]
 fn negotiate(alloc: Global, texts: &[&str], offers: &[Mime], rounds: usize) -> usize {
     sum!(rounds, text in texts => match Accept::from_lines(alloc, &[text.as_bytes()]) {

@@ -1,10 +1,10 @@
-//! Describes an `Accept` header, in a line for each range.
+//! Describes an `Accept` header, with a line for each range.
 
 use mime_http::{Accept, weight_of};
 use std::alloc::{AllocError, Global};
 use std::fmt::Write;
 
-/// Returns the ranges of an `Accept` header with their weights in thousandths, and the number of bad entries, for a log.
+/// Returns a text for a log: the ranges of an `Accept` header with their weights in thousandths, and the number of bad entries.
 ///
 /// # Errors
 /// Returns `AllocError` if memory runs out.

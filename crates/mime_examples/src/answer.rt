@@ -9,8 +9,8 @@ use mime_http::laws::one_http_reading;
 use mime_http::{FieldError, content_type};
 use std::alloc::Global;
 
-/// Returns the status for a `Content-Type` with this error: 400 if it isn't a media type (RFC 9110, 15.5.1), and 503 if memory ran out
-/// (15.6.4).
+/// Returns the status for a `Content-Type` with this error: 400 if the value isn't a media type (RFC 9110, 15.5.1), and 503 if memory ran
+/// out (15.6.4).
 pub fn status_of(error: &FieldError) -> u16
     ensures malformed { (result ≡ 400) ↔ (error.now ≢ FieldError.NoMemory) }
     ensures memory { (result ≡ 503) ↔ (error.now ≡ FieldError.NoMemory) }
@@ -22,7 +22,7 @@ pub fn status_of(error: &FieldError) -> u16
 }
 
 /// Returns the status that rejects a request because of its `Content-Type`, or `None` if the media type is `application/json`, whatever its
-/// parameters are. The status is 415 for any other media type (RFC 9110, 15.5.16), and that of [`status_of`] for an error.
+/// parameters are. The status is 415 for any other media type (RFC 9110, 15.5.16). For an error, [`status_of`] returns the status.
 pub fn refusal(alloc: Global, value: &[u8]) -> Option<u16>
     // Only JSON is accepted.
     ensures taken { result ≡ None

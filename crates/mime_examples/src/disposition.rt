@@ -18,7 +18,7 @@ pub struct Disposition {
     pub file_name: Option<Vec<u8>>,
 }
 
-/// Returns the bytes that the value of the first parameter of this name means, if there is one.
+/// Returns the bytes that the value of the first parameter of this name means, or `None` if there is no such parameter.
 fn meaning(alloc: Global, mime: &Mime, name: &str) -> Result<Option<Vec<u8>>, AllocError>
     ensures { IfOk result (λ answer. FirstMeans mime.now.media.pairs name.now (option_map vec_items answer)) }
 {
@@ -30,10 +30,10 @@ fn meaning(alloc: Global, mime: &Mime, name: &str) -> Result<Option<Vec<u8>>, Al
     Ok(Some(meaning))
 }
 
-/// Reads the value of a `Content-Disposition` of a part of `multipart/form-data` (RFC 7578, 4.2). There must be no white space before the
-/// value. `form-data; name="field"; filename="a \"b\".txt"` names the field `field` and the file `a "b".txt`. Returns `None` exactly if the
-/// value isn't valid UTF-8, isn't `form-data`, has no `name`, or has parameters that HTTP doesn't allow. Of two parameters of the same
-/// name, the first counts.
+/// Reads the value of a `Content-Disposition` of a part of `multipart/form-data` (RFC 7578, 4.2).
+/// `form-data; name="field"; filename="a \"b\".txt"` names the field `field` and the file `a "b".txt`. Returns `None` exactly if the value
+/// begins with white space, isn't valid UTF-8, isn't `form-data`, has no `name`, or has parameters that HTTP doesn't allow. Of two
+/// parameters of the same name, the first counts.
 ///
 /// Many clients write `%22` in place of a quote. This isn't decoded. A parameter `filename*` isn't read.
 ///

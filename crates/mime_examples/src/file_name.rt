@@ -25,7 +25,7 @@ pub fn with_file_name(alloc: Global, mime: &Mime, name: &str) -> Result<Option<M
     with_parameter(alloc, mime, "name", name)
 }
 
-/// Returns the file name that the parameter `name` of a media type means, such as `a "b".png`, or `None` if there is none.
+/// Returns the file name that the first parameter `name` of a media type means, such as `a "b".png`, or `None` if there is no `name`.
 pub fn file_name(alloc: Global, mime: &Mime) -> Result<Option<Vec<u8>>, AllocError>
     ensures { IfOk result (λ answer. IfSome answer (λ name. (value : List ℕ) × (flag : Bool)
         × IsFirstAccepted (λ name flag. NameIs name flag (codes "name")) (items_of mime.now.media.pairs) (Some (value, flag))

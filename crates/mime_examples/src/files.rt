@@ -6,9 +6,8 @@ ghost use Rattle.mime.specs.Values.{lowered};
 /// The media type of a file whose extension isn't in the table (RFC 2046, 4.5.1).
 const OTHER: &str = "application/octet-stream";
 
-/// The media types of files by their extensions. The extensions are in lowercase. The media types are those of the constants, and those of
-/// Debian's package media-types that servers send most. Some clients read a text without a charset in a wrong one, so texts have the
-/// charset UTF-8.
+/// The media types of files by their extensions, which are in lowercase. Each media type has a constant, or is in Debian's package
+/// media-types and is often sent. Some clients assume a wrong charset for a text without one, so texts have the charset UTF-8.
 static TYPES: [(&str, &str); 95] = [
     ("7z", "application/x-7z-compressed"),
     ("aac", "audio/aac"),

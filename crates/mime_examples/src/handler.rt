@@ -5,7 +5,7 @@ ghost use Rattle.mime.specs.Values.{type_of, subtype_of, suffix_of};
 
 use mime::{APPLICATION, JSON, Mime, WWW_FORM_URLENCODED};
 
-/// The way in which a server handles a body.
+/// How a server handles a body.
 #[derive(Clone, Copy, PartialEq, Eq, Debug)]
 pub enum Handler {
     /// Reads the body as JSON.

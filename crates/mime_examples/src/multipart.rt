@@ -20,8 +20,8 @@ pub struct Body<'a> {
     pub is_whole: bool,
 }
 
-/// Returns the delimiter with which the line before each part of a body begins: two hyphens and the boundary (RFC 2046, 5.1.1). Returns
-/// `None` exactly if the type isn't `multipart`, or the media type has no boundary.
+/// Returns the delimiter that begins the line before each part of a body: two hyphens and the boundary (RFC 2046, 5.1.1). Returns `None`
+/// exactly if the type isn't `multipart`, or the media type has no boundary.
 ///
 /// # Errors
 /// Returns `AllocError` if memory runs out, as do the functions below.
@@ -37,7 +37,7 @@ pub fn delimiter(alloc: Global, mime: &Mime) -> Result<Option<Vec<u8>>, AllocErr
     Ok(Some(delimiter))
 }
 
-/// Returns the rest of a body after the delimiter, if a line begins at position `at` with the delimiter.
+/// Returns the rest of a body after the delimiter at position `at`, or `None` if no line begins with the delimiter there.
 fn after_delimiter<'a>(body: &'a [u8], at: usize, delimiter: &[u8]) -> Option<&'a [u8]>
     requires { at ≤ length body.now }
     ensures { MatchOption result ((after : List ℕ) → EndsLine (take at body.now) → drop at body.now ≢ delimiter.now ++ after)
@@ -49,8 +49,8 @@ fn after_delimiter<'a>(body: &'a [u8], at: usize, delimiter: &[u8]) -> Option<&'
     body[at..].strip_prefix(delimiter)
 }
 
-/// Cuts a body at the first line that begins with the delimiter. Returns the bytes before the delimiter and those after it, or `None` if
-/// there is no such line.
+/// Cuts a body at the first line that begins with the delimiter. Returns the bytes before and after this delimiter, or `None` if there is
+/// no such line.
 pub fn cut<'a>(body: &'a [u8], delimiter: &[u8]) -> Option<(&'a [u8], &'a [u8])>
     ensures cut { IfSome result (λ halves. IsCut delimiter.now body.now halves.0.now halves.1.now) }
     ensures none { result ≡ None → delimiter.now ≢ [] → HasNoDelimiter delimiter.now body.now }
@@ -144,7 +144,7 @@ pub fn parts<'a>(alloc: Global, mime: &Mime, body: &'a [u8]) -> Result<Option<Bo
     Ok(Some(found))
 }
 
-/// Returns the value in a line, if the line is a field of this name.
+/// Returns the value in a line, or `None` if the line isn't a field of this name.
 fn value_in<'a>(line: &'a [u8], name: &str) -> Option<&'a [u8]>
     ensures { MatchOption result ((value : List ℕ) → ¬ (IsField name.now line.now value)) (λ value. IsField name.now line.now value.now) }
 {
@@ -165,7 +165,7 @@ fn is_empty_line(line: &[u8]) -> bool
     line.is_empty() || line == b"\r".as_slice()
 }
 
-/// Returns the value of the first field of this name in a part's header, if there is one.
+/// Returns the value of the first field of this name in a part's header, or `None` if there is no such field.
 fn value_of<'a>(part: &'a [u8], name: &str) -> Option<&'a [u8]>
     ensures { IsFirstField name.now part.now (option_map (λ value. value.now) result) }
 {

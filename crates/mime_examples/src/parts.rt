@@ -4,7 +4,7 @@ use mime::Mime;
 use std::alloc::{AllocError, Global};
 use std::fmt::Write;
 
-/// Returns the type, the subtype, the suffix and the parameters of a media type, each in a line.
+/// Returns the type, the subtype, the suffix and the parameters of a media type, one per line.
 ///
 /// # Errors
 /// Returns `AllocError` if memory runs out.

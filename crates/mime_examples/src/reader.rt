@@ -21,7 +21,7 @@ pub fn essence_of(content_type: &str) -> &str
 }
 
 /// Returns the reader of a body according to the essence of its `Content-Type`: `json`, `form` or `text`, or `bytes` for any other essence.
-/// The parameters don't count. The function doesn't allocate.
+/// The parameters don't count. This doesn't allocate.
 pub fn reader_of(content_type: &str) -> &'static str
     ensures { (essence : List ℕ) × IsTrimAscii (before_first (λ b. b == semicolon_byte) content_type.now) essence
         × (result.now ≡ (if bytes_eq (lowered essence) (codes "application/json") then codes "json" else

@@ -1,4 +1,4 @@
-//! Checks of two headers of a request.
+//! Checks two headers of a request.
 
 use mime::Mime;
 use mime_http::{Accept, FieldError, content_type};

@@ -12,7 +12,7 @@ fn next_outside(line: &[u8], from: usize) -> usize
     requires { from < length line.now }
     ensures { IsNextOutside line.now from result }
 {
-    // This test is faster for an equals sign before a quoted string, and for equals signs in a row.
+    // This test is faster than the search if a quoted string or another equals sign follows.
     if line[from] == b'=' {
         return from;
     }

@@ -52,7 +52,7 @@ static WRITINGS: [[&str; 3]; 9] = [
     ],
 ];
 
-/// A value's strings, and the number of its occurrences in this log.
+/// A value's strings, and the number of its occurrences in this log so far.
 #[derive(Drop)]
 struct Value {
     writings: [Text; 3],
@@ -110,7 +110,7 @@ fn count_ordered(counts: &mut BTreeMap<Mime, u64>, mime: Mime) -> Result<u64, Al
     Ok(*count)
 }
 
-/// Counts a line.
+/// Counts the media type of a line: every eighth line in `ordered`, the others in `hashed`.
 fn count(
     alloc: Global,
     counts: &mut Counts,

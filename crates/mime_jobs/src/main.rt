@@ -64,7 +64,7 @@ fn done(
     }
 }
 
-/// Returns the digest of a job's results, or of those of all jobs.
+/// Returns the digest of the results of a job, or of all jobs.
 fn digest_of(alloc: Global, asked: &Asked) -> Result<u64, AllocError> {
     let mut digest = Digest::new();
     let (seed, rounds) = (asked.seed, asked.rounds);

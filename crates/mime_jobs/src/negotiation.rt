@@ -38,7 +38,7 @@ static PATTERNS: [&str; 24] = [
     "text/#; q=0.5; q=0.1, audio/*; q=0.2, audio/basic",
 ];
 
-/// The second line of a header that has two.
+/// The second lines of headers that have two lines.
 static SECOND: [&str; 2] = ["*/*;q=0.1", "text/plain;q=0.5, */*;q=0.1"];
 
 /// The offers of servers.

@@ -10,7 +10,7 @@ use std::alloc::{AllocError, Global};
 /// The number of strings in a round.
 const COUNT: usize = 4096;
 
-/// Values that clients send: half without parameters, a tenth untidy, a few rejected.
+/// Values that clients send: half without parameters, three untidy, two rejected.
 static PATTERNS: [&str; 40] = [
     "application/#",
     "application/#+json",

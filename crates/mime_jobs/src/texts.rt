@@ -14,7 +14,7 @@ const OWN: usize = 3;
 /// The bytes that may replace a pattern's `@`.
 const DIGITS: [u8; 16] = *b"0123456789abcdef";
 
-/// A string with a mark: seven letters, of which the first three stand for the string's number.
+/// A string with a mark of seven letters. The first three letters stand for the string's number.
 #[derive(Drop)]
 pub(crate) struct Text {
     bytes: Vec<u8>,
@@ -34,7 +34,7 @@ fn push_mark(bytes: &mut Vec<u8>, number: usize) -> Result<(), AllocError> {
     bytes.extend_from_slice(b"aaaa")
 }
 
-/// Counts letters up, as the digits of a number in base 26.
+/// Adds 1 to a number whose digits in base 26 are letters.
 fn count_up(letters: &mut [u8]) {
     for letter in letters.iter_mut().rev() {
         if *letter < b'z' {
@@ -90,7 +90,7 @@ impl Text {
         Ok(text)
     }
 
-    /// Changes the mark to that of the next round.
+    /// Changes the mark to the next round's.
     #[inline]
     pub(crate) fn go_on(&mut self) {
         let (from, to) = (
@@ -102,7 +102,7 @@ impl Text {
         }
     }
 
-    /// Makes the first four letters and those of the mark uppercase if their bits are set, and lowercase otherwise.
+    /// Makes each of the first four letters and of the mark's letters uppercase if its bit is set, or lowercase if not.
     pub(crate) fn capitalize(&mut self, bits: u32) {
         let mut changed = bits ^ self.capitals;
         self.capitals = bits;
@@ -129,7 +129,7 @@ impl Text {
         &self.bytes
     }
 
-    /// Returns the string, or an empty one if it isn't UTF-8.
+    /// Returns the bytes as a string, or an empty string if they aren't UTF-8.
     #[inline]
     pub(crate) fn text(&self) -> &str {
         match str::from_utf8(&self.bytes) {

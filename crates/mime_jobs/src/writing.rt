@@ -1,4 +1,4 @@
-//! The job of a server that writes headers. The job then reads their parameters back.
+//! The job of a server that writes headers, and then reads their parameters back.
 
 use crate::digest::Digest;
 use crate::random::Random;
@@ -44,7 +44,7 @@ static BOUNDARIES: [&str; 4] = [
     "=_#: with (marks), as ' / ?",
 ];
 
-/// The buffers, which are reused for each string.
+/// Buffers that are reused for each string.
 #[derive(Drop)]
 struct Buffers {
     printed: String,

@@ -19,7 +19,7 @@ use std::alloc::Global;
 use std::fmt;
 use std::fmt::Write;
 
-/// The constant media types, each with its identifier. The last is an old spelling of a constant before it.
+/// The constant media types, each with its identifier. The last is the old spelling of `TEXT_JAVASCRIPT`.
 pub(crate) static ATOMS: &[(&str, Atom)] = &[
     ("STAR_STAR", STAR_STAR),
     ("TEXT_STAR", TEXT_STAR),

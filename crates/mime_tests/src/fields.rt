@@ -30,7 +30,7 @@ fn string_of(alloc: Global, field: &str) -> String {
     text
 }
 
-/// Returns the strings that fields between tabs stand for.
+/// Returns the strings that fields, separated by tabs, stand for.
 pub(crate) fn strings_of(alloc: Global, fields: &str) -> Vec<String> {
     let mut strings = Vec::new(alloc);
     for field in fields.split('\t') {

@@ -10,7 +10,7 @@ use mime_http::{
 use std::alloc::{AllocError, Global};
 use std::fmt::{Display, Write};
 
-/// Shows one answer.
+/// Shows an answer, and a bar after it.
 pub(crate) fn show<T: Display>(out: &mut String, answer: &T) {
     let _ = write!(out, "{answer}|");
 }
@@ -26,7 +26,7 @@ pub(crate) fn shown(bytes: &[u8]) -> &str {
     str::from_utf8(bytes).unwrap_or("not text")
 }
 
-/// Returns the lines that a field stands for. Each ends with a line feed, which the last may lack. An empty field has no line.
+/// Returns the lines of a field as `str::lines` does, each as bytes. An empty field has no lines.
 pub(crate) fn lines_of(alloc: Global, field: &str) -> Result<Vec<&[u8]>, AllocError> {
     let mut lines = Vec::new(alloc);
     for line in field.lines() {
@@ -35,7 +35,7 @@ pub(crate) fn lines_of(alloc: Global, field: &str) -> Result<Vec<&[u8]>, AllocEr
     Ok(lines)
 }
 
-/// Reads the `Accept` header whose lines a field stands for.
+/// Reads the `Accept` header whose lines are in a field.
 fn header_of(alloc: Global, field: &str) -> Result<Accept, AllocError> {
     Accept::from_lines(alloc, &lines_of(alloc, field)?)
 }

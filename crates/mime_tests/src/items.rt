@@ -1,4 +1,4 @@
-//! The media types in a string.
+//! The rows about the media types in a string.
 
 use crate::fields::string_at;
 use crate::values::show_media_type;

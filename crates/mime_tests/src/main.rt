@@ -1,4 +1,4 @@
-//! Tests `mime`, `mime_http` and the recipes: prints their answers to each row of a table, which is standard input.
+//! Tests `mime`, `mime_http` and the recipes: prints their answers to each row of a table from standard input.
 #![tactic(auto)]
 
 mod constants;
@@ -16,7 +16,7 @@ use crate::rows::show_row;
 use std::io;
 use std::io::Read;
 
-/// The capacity for the answers to a row. Writing more bytes allocates.
+/// The capacity for the answers to a row, in bytes. Writing more bytes allocates.
 const ROOM: usize = 65_536;
 
 /// Prints each row of standard input, with its answers.

@@ -236,7 +236,7 @@ pub(crate) fn show_file_name(alloc: Global, out: &mut String, field: &str, name:
     }
 }
 
-/// Shows the name of a field and that of a file, `none`, or the error.
+/// Shows the names of a field and of its file, `none`, or the error.
 fn show_names_of(out: &mut String, answer: Result<Option<Disposition>, AllocError>) {
     match answer {
         Ok(Some(found)) => {

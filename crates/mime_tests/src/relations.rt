@@ -1,4 +1,4 @@
-//! Comparisons of values and of names.
+//! The rows that compare values or names.
 
 use crate::constants::constant_name;
 use crate::values::{show_debug, value_or_fault};
@@ -78,7 +78,7 @@ fn name_of(field: &str) -> Name<'_> {
     }
 }
 
-/// Shows a name. Then shows this name and a second one with Debug, how they compare, and whether the first is equal to the second's text.
+/// Shows a name. Then shows this name and a second name with Debug, how they compare, and whether the first is equal to the second's text.
 pub(crate) fn show_names(out: &mut String, one: &str, other: &str) {
     let one = name_of(one);
     let other = name_of(other);

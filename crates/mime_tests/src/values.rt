@@ -71,8 +71,8 @@ pub(crate) fn show_clone(alloc: Global, out: &mut String, field: &str) {
     let _ = writeln!(out, "original {original}");
 }
 
-/// Shows the parts of a media type: its string, type, subtype, suffix, essence and parameters, with the size hints before the
-/// parameters and after each.
+/// Shows the parts of a media type: its string, type, subtype, suffix, essence and parameters, with the size hints before the parameters
+/// and after each parameter.
 pub(crate) fn show_parts(alloc: Global, out: &mut String, field: &str) {
     let Some(mime) = value_or_fault(alloc, out, field) else {
         return;
