@@ -1,4 +1,4 @@
-//! A media type without its parameters.
+//! Removes the parameters of a media type.
 
 ghost use Rattle.std.specs.Prelude.{◌≡◌, IfOk, IfErr};
 ghost use Rattle.mime.specs.Laws.{without_parameters};

@@ -12,9 +12,9 @@ use std::alloc::{AllocError, Global};
 /// The names in the `Content-Disposition` of a form's part.
 #[derive(Drop)]
 pub struct Disposition {
-    /// The name of the field.
+    /// The name of the field, unescaped.
     pub name: Vec<u8>,
-    /// The name of the file as the client sent it, or `None` if there is none. Don't open the name as a path.
+    /// The name of the file, unescaped, or `None` if there is no parameter `filename`. Don't open the name as a path.
     pub file_name: Option<Vec<u8>>,
 }
 

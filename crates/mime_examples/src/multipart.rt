@@ -130,7 +130,7 @@ fn parts_between<'a>(
     })
 }
 
-/// Returns the parts of a body, which are between lines that begin with the delimiter. A line with two hyphens after the delimiter ends the
+/// Returns the parts of a body: the bytes between lines that begin with the delimiter. A line with two hyphens after the delimiter ends the
 /// last part. Returns `None` exactly if the media type has no boundary. Parts aren't examined, and may have no header.
 pub fn parts<'a>(alloc: Global, mime: &Mime, body: &'a [u8]) -> Result<Option<Body<'a>>, AllocError>
     ensures { IfOk result (λ answer. MatchOption answer ((boundary : List ℕ) → ¬ (IsBoundaryOf mime.now.media boundary))
@@ -158,7 +158,7 @@ fn value_in<'a>(line: &'a [u8], name: &str) -> Option<&'a [u8]>
     Some(rest.trim_ascii())
 }
 
-/// Returns `true` if a line ends a header.
+/// Returns `true` if a line ends a header: it is empty, or only a carriage return.
 fn is_empty_line(line: &[u8]) -> bool
     ensures { IsTrue result ↔ IsEmptyLine line.now }
 {

@@ -24,8 +24,8 @@ pub fn page_in(alloc: Global, charset: &str) -> Result<Option<Mime>, AllocError>
     with_charset(alloc, &TEXT_HTML.mime(), charset)
 }
 
-/// Returns the media type of a form whose parts have this boundary: `multipart/form-data; boundary=x` for `x`. Returns `None` if the string
-/// isn't a boundary.
+/// Returns the media type of a form with this boundary: `multipart/form-data; boundary=x` for `x`. Returns `None` if the string isn't a
+/// boundary.
 pub fn form_with(alloc: Global, boundary: &str) -> Result<Option<Mime>, AllocError>
     ensures { IfOk result (λ answer. IfSome answer (λ made. (form : MediaType) × Reads (codes "multipart/form-data") form
         × (made.media ≡ with_pair form (codes "boundary") boundary.now))) }

@@ -6,8 +6,8 @@ ghost use Rattle.mime_http.specs.Ranges.{closeness};
 use mime::Mime;
 use mime_http::covers;
 
-/// Returns `true` if a route for a range accepts a body. A route for `text/*` accepts `text/csv; charset=utf-8`. A route for a range with a
-/// parameter accepts only bodies whose media types have that parameter.
+/// Returns `true` if a route for a range accepts bodies of this media type. A route for `text/*` accepts `text/csv; charset=utf-8`. A route
+/// for a range with a parameter accepts only bodies whose media types have that parameter.
 pub fn takes(range: &Mime, body: &Mime) -> bool
     ensures { result ≡ is_some (closeness body.now.media (0, range.now.media)) }
 {

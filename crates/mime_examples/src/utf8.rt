@@ -1,4 +1,4 @@
-//! Tests whether a body is in UTF-8.
+//! Tests whether a `Content-Type` has the charset UTF-8.
 
 use crate::charset::is_utf8;
 use mime_http::{FieldError, content_type};

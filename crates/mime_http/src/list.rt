@@ -6,7 +6,7 @@ ghost use Rattle.mime_http.specs.{HttpList.trim_start, HttpList.trim_end, HttpLi
 
 use mime_search::{Class, content_end, first_stop};
 
-/// Returns the position of the first comma or equals sign at or after `from`, or the length of the line if there is neither.
+/// Returns the position of the first comma or equals sign at or after `from`, or the line's length if there is neither.
 #[inline(always)]
 fn next_outside(line: &[u8], from: usize) -> usize
     requires { from < length line.now }
@@ -61,8 +61,7 @@ fn quoted_piece_len(line: &[u8], quote: usize) -> usize
     at
 }
 
-/// Returns the end of a line's piece that begins at `from`: the position of the first comma outside quoted strings, or the length of the
-/// line.
+/// Returns the end of a line's piece that begins at `from`: the position of the first comma outside quoted strings, or the line's length.
 #[inline(always)]
 pub(crate) fn piece_end(line: &[u8], from: usize) -> usize
     requires { from ≤ length line.now }

@@ -2,7 +2,7 @@
 
 ghost use Rattle.std.specs.Prelude.{◌<◌, length};
 
-/// A generator of numbers, using the method SplitMix64 (Steele, Lea and Flood, 2014).
+/// A random number generator, SplitMix64 (Steele, Lea and Flood, 2014).
 #[derive(Drop)]
 pub(crate) struct Random {
     state: u64,

@@ -20,7 +20,7 @@ pub(crate) struct Text {
     bytes: Vec<u8>,
     /// The position of the mark.
     mark: usize,
-    /// The letters that are uppercase, a bit for each.
+    /// Which of the first four letters and the mark's letters are uppercase, as a bit mask.
     capitals: u32,
 }
 
