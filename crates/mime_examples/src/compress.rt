@@ -1,4 +1,4 @@
-//! Matches a media type with constants.
+//! Tests whether a file should be compressed, by matching constants.
 
 ghost use Rattle.std.specs.Prelude.{◌≡◌, ◌↔◌, ◌⊎◌, IsTrue};
 

@@ -1,4 +1,4 @@
-//! Chooses a handler by constants.
+//! Chooses a handler by matching constants.
 
 ghost use Rattle.std.specs.Prelude.{◌≡◌, ◌↔◌, codes, None};
 ghost use Rattle.mime.specs.Values.{type_of, subtype_of, suffix_of};

@@ -1,4 +1,4 @@
-//! Reads an `Accept` header once, and chooses among a server's offers.
+//! Reads an `Accept` header, and chooses among a server's offers.
 
 ghost use Rattle.std.specs.Prelude.{◌≡◌, ◌≢◌, ◌<◌, [], ◌∷◌, ◌++◌, map, length, if◌then◌else◌, IfSome, IsOk, IfOk, OnOk};
 ghost use Rattle.std.specs.{Str.IsUtf8, Vec.vec_items};

@@ -27,7 +27,7 @@ impl ParamKey for Exactly<'_> {
     }
 }
 
-/// Returns the value of the first parameter of this name, if there is one. `name` must be in lowercase.
+/// Returns the value of the first parameter of this name, or `None` if there is none. `name` must be in lowercase.
 #[inline(always)]
 #[tactic(auto, using(crate::proofs::Demanded::first_is))]
 pub(crate) fn first_value<'a>(mime: &'a Mime, name: &str) -> Option<Name<'a>>

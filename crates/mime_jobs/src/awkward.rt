@@ -15,7 +15,7 @@ struct Shape {
     end: &'static str,
 }
 
-/// Values of a `Content-Type`.
+/// The shapes of values of `Content-Type`.
 static VALUES: [Shape; 17] = [
     Shape {
         start: "a/#;p=\"",
@@ -104,7 +104,7 @@ static VALUES: [Shape; 17] = [
     },
 ];
 
-/// Values of an `Accept` header.
+/// The shapes of values of `Accept`.
 static LISTS: [Shape; 12] = [
     Shape {
         start: "a/#,",

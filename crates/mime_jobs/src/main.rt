@@ -1,4 +1,4 @@
-//! Runs jobs that users of `mime` and `mime_http` have, over many different strings, and prints a digest of all results.
+//! Runs typical jobs of users of `mime` and `mime_http` over many different strings, and prints a digest of all results.
 //!
 //! `mime_jobs JOB SEED ROUNDS` does one of the jobs `requests`, `negotiation`, `log`, `writing` and `awkward`. The job `all` does each of
 //! them once. Each seed makes different strings of the same kinds and sizes. A round is a pass over the job's strings. Each round changes
@@ -36,7 +36,7 @@ fn number_in(word: Option<String>) -> u64 {
     }
 }
 
-/// Returns the job that the arguments select, if there is one.
+/// Returns the job that the arguments select, or `None` if there are no arguments.
 fn asked_job(mut arguments: Args) -> Option<Asked> {
     let _program = arguments.next();
     let job = arguments.next()?;

@@ -114,7 +114,7 @@ pub(crate) fn value_of(alloc: Global, field: &str) -> Result<Mime, FromStrError>
     Mime::from_str(alloc, field)
 }
 
-/// Returns the constant name with an identifier, if there is one.
+/// Returns the constant name with an identifier, or `None` if there is none.
 pub(crate) fn constant_name(field: &str) -> Option<Name<'static>> {
     for (identifier, name) in NAMES {
         if *identifier == field {
