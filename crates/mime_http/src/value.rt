@@ -234,7 +234,7 @@ pub(crate) fn read_rejected(
 
 /// Reads the value of a header such as `Content-Type` as a media type, from bytes as they are received (RFC 9110, 8.3.1, with 5.6.3, 5.6.4
 /// and 5.6.6). Accepts each value in UTF-8 that the grammar in these sections allows, even with white space around semicolons
-/// and with empty parameters. White space around the value is allowed, too. Non-ASCII bytes (obs-text) must be UTF-8.
+/// and with empty parameters. White space around the value is allowed, too. A non-ASCII value that isn't UTF-8 (obs-text) is rejected.
 ///
 /// A request has at most one `Content-Type` line. Treat two such lines as an error, since programs differ in which line they use. A body
 /// without a `Content-Type` may be treated as `application/octet-stream` (8.3).
