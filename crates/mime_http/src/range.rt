@@ -47,9 +47,9 @@ fn weight_in(value: Option<&str>) -> u16
     }
 }
 
-/// Returns the weight of a range in thousandths, or 1000 if it has none (RFC 9110, 12.4.2). The first `q` counts, quoted or not. The weight
-/// is the number with which the value of `q` begins, at most 1, or 0 if it begins with no number: `.2` is 200, `2` is 1000, and `high` and
-/// `\1` are 0.
+/// Returns the weight of a range in thousandths, or 1000 if the range has no `q` (RFC 9110, 12.4.2). The first `q` counts, quoted or not.
+/// The weight is the number with which the value of `q` begins, at most 1, or 0 if it begins with no number: `.2` is 200, `2` is 1000, and
+/// `high` and `\1` are 0.
 pub fn weight_of(range: &Mime) -> u16
     ensures { result ≡ weight_of range.now.media }
 {

@@ -109,8 +109,8 @@ pub fn has_weight(range: &Mime) -> bool
     }
 }
 
-/// Returns the first entry of a header's line, with the white space around it, and the rest of the line after the comma that ends the
-/// entry, if there is such a comma. A comma in a quoted string doesn't end an entry. This doesn't allocate.
+/// Returns the first entry of a header's line, with the white space around it, and the rest of the line after its comma, or `None` if no
+/// comma ends the entry. A comma in a quoted string doesn't end an entry. This doesn't allocate.
 pub fn first_entry(line: &[u8]) -> (&[u8], Option<&[u8]>)
     ensures { MatchOption result.1 ((line.now ≡ result.0.now) × BeginsPiece result.0.now)
         (λ rest. (line.now ≡ result.0.now ++ (comma_byte ∷ rest.now)) × IsPiece result.0.now) }
