@@ -256,8 +256,8 @@ pub fn one_count()
     ensures { OneCount }
 {}
 
-/// A comma ends the text before it, unless this text ends in an open quoted string. The text after the comma is cut as
-/// if it were the whole string: the cut of `e f, a/b` has the item `a/b`, as the cut of `a/b` has.
+/// Unless the text before a comma ends in an open quoted string, the comma ends a piece, and the text after the comma is
+/// cut as a whole string: the cut of `e f, a/b` has the item `a/b`, as the cut of `a/b` has.
 #[tactic(auto, using(crate::proofs::CutLemmas::Containment::comma_contains))]
 pub fn comma_contains()
     ensures { CommaContains }

@@ -1,4 +1,4 @@
-//! Tests for the charset UTF-8.
+//! Recognizes the charset UTF-8.
 
 use mime::{CHARSET, Mime, name_eq_str};
 

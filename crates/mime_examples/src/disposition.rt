@@ -18,7 +18,7 @@ pub struct Disposition {
     pub file_name: Option<Vec<u8>>,
 }
 
-/// Returns the bytes that the value of the first parameter of this name means, or `None` if there is no such parameter.
+/// Returns the unescaped value of the first parameter of this name, or `None` if there is no such parameter.
 fn meaning(alloc: Global, mime: &Mime, name: &str) -> Result<Option<Vec<u8>>, AllocError>
     ensures { IfOk result (λ answer. FirstMeans mime.now.media.pairs name.now (option_map vec_items answer)) }
 {

@@ -1,4 +1,4 @@
-//! Tests for JSON.
+//! Recognizes JSON.
 
 ghost use Rattle.std.specs.Prelude.{◌≡◌, ◌↔◌, ◌⊎◌, IsTrue, Some, codes};
 ghost use Rattle.mime.specs.Values.{suffix_of};

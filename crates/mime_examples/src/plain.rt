@@ -1,4 +1,4 @@
-//! Tests for plain text.
+//! Recognizes plain text.
 
 ghost use Rattle.std.specs.Prelude.{◌≡◌, ◌↔◌, IsTrue, codes};
 ghost use Rattle.mime.specs.Values.{type_of, subtype_of};

@@ -1,4 +1,4 @@
-//! Checks two headers of a request.
+//! Checks requests and chooses replies.
 
 use mime::Mime;
 use mime_http::{Accept, FieldError, content_type};

@@ -67,7 +67,7 @@ fn token_end_far(value: &[u8], from: usize) -> usize
     at
 }
 
-/// Returns `true` if a token begins at a position.
+/// Returns `true` if a token byte is at `pos`.
 #[inline(always)]
 fn is_token_at(value: &[u8], pos: usize) -> bool
     ensures yes { result ≡ true → (pos < length value.now) × (is_token_byte (slice_index value.now pos) ≡ true) }

@@ -51,7 +51,7 @@ struct Buffers {
     meant: Vec<u8>,
 }
 
-/// Adds the printed header of a media type.
+/// Adds a media type's header to a digest.
 fn add_printed(
     made: &Option<Mime>,
     buffers: &mut Buffers,

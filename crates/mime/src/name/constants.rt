@@ -127,8 +127,7 @@ pub const BOUNDARY: Name<'static> = name!("boundary");
 /// The value `utf-8` of a `charset`, as in `text/html; charset=utf-8` (RFC 3629).
 pub const UTF_8: Name<'static> = name!("utf-8");
 
-/// All constant names, for the law `name_constants`. If the law's body listed them, the law's proof would go through
-/// each as a statement.
+/// All constant names, for the law `name_constants`. In the law's body, each name would add a step to the law's proof.
 pub(crate) static NAMES: [Name<'static>; 38] = [
     STAR,
     TEXT,

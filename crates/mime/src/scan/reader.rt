@@ -228,7 +228,7 @@ impl<'a> ByteReader<'a> {
         Some(self.text[stop])
     }
 
-    /// Returns `false` if a known byte ends the token that begins at the next byte, and the string is rejected there.
+    /// Returns `false` only if a known byte ends the subtype being read, and the string is rejected there.
     #[inline(always)]
     fn may_go_on(&self) -> bool {
         if self.at >= self.known {
