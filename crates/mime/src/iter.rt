@@ -17,7 +17,7 @@ use std::marker::Model;
 /// The reason why an item of a [`MimeIter`] isn't a media type.
 #[derive(Clone, Copy, PartialEq, Eq, Debug)]
 pub enum Bad<'a> {
-    /// This piece of the string isn't a media type, as `invalid` in `invalid, a/b`.
+    /// This piece of the string isn't a media type: `invalid` in `invalid, a/b`.
     Piece(&'a str),
     /// The piece is a media type, but memory ran out. The iterator yields nothing more.
     NoMemory,

@@ -270,9 +270,9 @@ pub fn joined_comes_back()
     ensures { JoinedComesBack }
 {}
 
-/// A list that HTTP allows (RFC 7230, 7) is cut into exactly its entries. The entries are accepted texts, separated by
-/// commas. Spaces, tabs and further commas may precede the first entry and follow each comma: `a/b, ,\tc/d` is cut into
-/// `a/b` and `c/d`.
+/// A list of accepted texts (RFC 7230, 7), without white space between an entry and its comma, is cut into exactly its
+/// entries. Spaces, tabs and commas may precede the first entry and follow each comma: `a/b, ,\tc/d` is cut into `a/b`
+/// and `c/d`.
 #[tactic(auto, using(crate::proofs::CutLemmas::Containment::http_list_is_cut))]
 pub fn http_list_is_cut()
     ensures { HttpListIsCut }

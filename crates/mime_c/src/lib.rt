@@ -455,7 +455,7 @@ pub extern "C" fn mime_best(
 }
 
 /// Writes the positions of the acceptable offers of a list to the start of `order`, the best first, and sets `count` to their number (RFC
-/// 9110, 12.5.1). Offers are compared as in `mime_best`. Returns `MIME_OK`, or another answer of include/mime.h if it wrote nothing.
+/// 9110, 12.5.1). Compares offers like `mime_best`. Returns `MIME_OK`, or sets `count` to 0 and returns another answer of include/mime.h.
 #[unsafe(no_mangle)]
 pub extern "C" fn mime_order(
     alloc: Global,

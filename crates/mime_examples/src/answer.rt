@@ -1,4 +1,4 @@
-//! The status for a `Content-Type`.
+//! Rejects every `Content-Type` except JSON.
 
 ghost use Rattle.std.specs.Prelude.{◌≡◌, ◌≢◌, ◌↔◌, ◌⊎◌, Some, None, IfSome, IsSomeAnd, codes};
 ghost use Rattle.std.specs.Str.{IsUtf8};

@@ -49,11 +49,11 @@ fn unescape_in_place(bytes: &mut [u8], start: usize) -> usize
 /// The form in which a value is written (RFC 9110, 5.6.4 and 5.6.6).
 #[derive(Clone, Copy)]
 pub(crate) enum Form {
-    /// As it is, since it is a token.
+    /// The value itself, which is a token.
     Token,
-    /// As it is, in quotes.
+    /// The value in quotes.
     Quoted,
-    /// In quotes, with a backslash before each quote and each backslash.
+    /// The value in quotes, with a backslash before each quote and each backslash.
     Escaped,
 }
 

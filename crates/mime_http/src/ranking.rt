@@ -1,4 +1,4 @@
-//! Explains why an offer is chosen: ranks all offers, names the range that decides each weight, and cuts off a header's entries one by one.
+//! Explains why an offer is chosen: ranks all offers, and finds the range that decides each weight. Splits a header's line into entries.
 
 ghost use Rattle.std.specs.Prelude.{◌≡◌, ◌++◌, ◌∷◌, ◌==◌, ◌||◌, ◌&&◌, not, map, option_map, unwrap_or, true, position, codes, IfOk, MatchOption};
 ghost use Rattle.std.specs.{Char.is_ascii_digit, List.list_all, Vec.vec_items};

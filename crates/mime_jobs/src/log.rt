@@ -134,7 +134,7 @@ fn count(
     Ok(())
 }
 
-/// Adds the media types of a list to a digest.
+/// Adds the items of a list to a digest.
 fn add_list(alloc: Global, list: &str, digest: &mut Digest) {
     let mut items = MimeIter::new(alloc, list);
     while let Some(item) = items.next() {

@@ -187,7 +187,7 @@ pub(crate) fn show_type_for(alloc: Global, out: &mut String, name: &str, lines: 
     }
 }
 
-/// Shows the constants whose files aren't sent compressed.
+/// Shows the constants for which `is_compressible` returns `false`.
 pub(crate) fn show_is_compressible(out: &mut String) {
     for (name, atom) in ATOMS {
         if !is_compressible(*atom) {

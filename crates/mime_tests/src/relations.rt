@@ -87,8 +87,8 @@ pub(crate) fn show_names(out: &mut String, one: &str, other: &str) {
     let _ = writeln!(out, "{one}\n{:?}", (one, sign, other, is_text));
 }
 
-/// Shows whether two values are equal, both by `==` and in their order, whether they feed a hasher the same bytes, and whether the first is
-/// equal to the second's string.
+/// Shows whether two values are equal, both by `==` and by `cmp`, whether they feed a hasher the same bytes, and whether the first is equal
+/// to the second's string.
 pub(crate) fn show_pair(alloc: Global, out: &mut String, field: &str, text: &str) {
     let Some(one) = value_or_fault(alloc, out, field) else {
         return;

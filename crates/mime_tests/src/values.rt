@@ -118,8 +118,8 @@ impl ParamKey for Foo {
     }
 }
 
-/// Shows the value that a key finds, and whether this value is equal to `other`. Then shows the value that the found value finds as a key,
-/// and the value that the key `Foo` finds.
+/// Shows the value that a key finds, and whether this value is equal to `other`. Then shows what this value finds as a key, and what the
+/// key `Foo` finds.
 pub(crate) fn show_found(alloc: Global, out: &mut String, field: &str, key: &str, other: &str) {
     let Some(mime) = value_or_fault(alloc, out, field) else {
         return;

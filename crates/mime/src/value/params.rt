@@ -1,4 +1,4 @@
-//! The parameters of a media type, one by one.
+//! An iterator over the parameters of a media type.
 
 ghost use Rattle.std.specs.Prelude.{◌≡◌, codes, length, IfSome, Some};
 ghost use Rattle.std.specs.Iterator.{YieldsFirstBy, item_count, UpTo, at_most};
