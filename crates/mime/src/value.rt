@@ -68,7 +68,7 @@ impl Text {
 
 /// A media type, such as `text/plain; charset=utf-8` (RFC 7231, 3.1.1.1).
 ///
-/// The text is stored as it was read, with two changes: type, subtype, parameter names and the `charset` value are
+/// The text is stored as it was read, with two changes: type, subtype, parameter names and `charset` values are
 /// lowercased, and an empty parameter list is dropped. `Text/Plain; P=X` is kept as `text/plain; p=X`, and
 /// `text/plain;` as `text/plain`.
 #[derive(Drop)]
@@ -291,7 +291,7 @@ impl Mime {
     }
 
     /// Returns the kept text, which `Display` prints. If there is a parameter, the kept text is the whole string that
-    /// was read, with type, subtype, parameter names and charset in lowercase: `a/b;p=X; ` for `a/b;P=X; `. Otherwise
+    /// was read, with type, subtype, parameter names and charsets in lowercase: `a/b;p=X; ` for `a/b;P=X; `. Otherwise
     /// it is the essence. [`Mime::from_str`] reads the kept text as an equal value with the same kept text.
     pub fn as_str(&self) -> &str
         ensures text { result.now ≡ self.now.media.kept }
@@ -301,7 +301,7 @@ impl Mime {
     }
 
     /// Returns an iterator over the parameters in order of appearance, with duplicates (RFC 7231, 3.1.1.1). For each it
-    /// yields the name, and the value without quotes: `p` with `1`, and then `p` with `;`, for `a/b;p=1;P=";"`.
+    /// yields the name, and the value without its quotes: `p` with `1`, and then `p` with `;`, for `a/b;p=1;P=";"`.
     pub fn params(&self) -> Params<'_>
         ensures items { result ≡ items_of self.now.media.pairs }
         ensures low { AllByRecursion IsLowItem result }
@@ -350,8 +350,8 @@ impl Mime {
 
     /// Returns the value of the first parameter whose name the key accepts, or `None` if the key accepts no name:
     /// `TextKey("P")` finds `1` in `a/b;p=1;P=2`, and `CHARSET` finds `utf-8` in `text/html; Charset="UTF-8"` (RFC
-    /// 7231, 3.1.1.1). The value is returned without quotes, but with backslashes: it is `\"x` for `a/b;p="\"x"`.
-    /// Looking up doesn't allocate.
+    /// 7231, 3.1.1.1). The value is returned without its quotes, but with its backslashes: it is `\"x` for
+    /// `a/b;p="\"x"`. Looking up doesn't allocate.
     #[inline(always)]
     pub fn get_param<K: ParamKey>(&self, key: K) -> Option<Name<'_>>
         ensures found { IsFirstAccepted (K.Accepts key) (items_of self.now.media.pairs) (option_map name_seen result) }

@@ -10,7 +10,7 @@ use std::hash::Hasher;
 /// The number of bytes in a word of a hasher.
 const WORD: usize = 8;
 
-/// The byte that ends a part, which is a name or a value. It never occurs in UTF-8.
+/// The byte that ends a part (a name or a value). This byte never occurs in UTF-8.
 const END: u8 = 0xff;
 
 /// Returns `rest` followed by `END`, as a little-endian number. `rest` has at most one byte.

@@ -8,8 +8,8 @@ use std::alloc::{AllocError, Global};
 use std::marker::Model;
 
 /// A text that is known to be the kept text of a media type: the essence of `like`, followed by parameters (RFC 7231,
-/// 3.1.1.1). Code that creates a `KnownText` proves this, so the text isn't scanned again. This type is for the crates
-/// of this repository, such as `mime_http`: the invariant `IsKnown`, which they prove, is in a private file, and may
+/// 3.1.1.1). Code that creates a `KnownText` proves this, so the text isn't scanned. This type is for the crates of
+/// this repository, such as `mime_http`: the invariant `IsKnown`, which they prove, is in a private file, and may
 /// change within 1.x.
 ///
 /// For example, `text/html; charset=utf-8` with 1 parameter is known if `like` was read from `Text/HTML`.

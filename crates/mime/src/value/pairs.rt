@@ -86,7 +86,7 @@ fn cut_content<'a>(text: &Rest<'a>) -> (&'a str, Rest<'a>)
     text.split_around(length)
 }
 
-/// Returns the quoted or plain value that follows a name's equals sign. The text after the value isn't searched.
+/// Returns the value that follows a name's equals sign, without its quotes. The text after the value isn't searched.
 #[inline(always)]
 fn value_after<'a>(end: &Rest<'a>) -> &'a str
     ensures { (list : ℕ) → (name : List ℕ) → result.now ≡ (cut_after_equals list name end.now).value }
@@ -97,8 +97,7 @@ fn value_after<'a>(end: &Rest<'a>) -> &'a str
     end.split_at_first(b';').0
 }
 
-/// Returns the pair of a name and the quoted or plain value that follows its equals sign. `list` is the list's length
-/// in bytes.
+/// Returns the pair of a name and the value that follows its equals sign. `list` is the list's length in bytes.
 #[inline(always)]
 fn cut_value<'a>(list: usize, name: &'a str, end: &Rest<'a>) -> Pair<'a>
     requires { length end.now ≤ list }
@@ -145,7 +144,7 @@ fn without_spaces<'a>(list: &Rest<'a>) -> Rest<'a>
     list.after(count_spaces(bytes))
 }
 
-/// Cuts the first name and the spaces before it off a list. Returns the name, and the rest after its equals sign.
+/// Cuts the first name and the white space before it off a list. Returns the name, and the rest after its equals sign.
 #[inline(always)]
 fn cut_name<'a>(list: &Rest<'a>) -> (&'a str, Rest<'a>)
     ensures name { result.0.now ≡ before_byte equals_byte (without_spaces list.now) }
@@ -221,8 +220,8 @@ struct FirstName<'a> {
     is_accepted: bool,
 }
 
-/// Cuts the first name and the spaces before it off a list. If the list has only one name (`is_only`) and the key has a
-/// text, no equals sign is searched for, since the key accepts only a name of the text's length. In this case the
+/// Cuts the first name and the white space before it off a list. If the list has only one name (`is_only`) and the key
+/// has a text, no equals sign is searched for, since the key accepts only a name of the text's length. In this case the
 /// result is `None` if the key doesn't accept the name.
 #[inline(always)]
 fn cut_name_for<'a, K: ParamKey>(list: &Rest<'a>, is_only: bool, key: &K) -> Option<FirstName<'a>>

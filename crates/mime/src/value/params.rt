@@ -11,9 +11,9 @@ use crate::value::pairs::Pairs;
 use std::fmt;
 use std::marker::Model;
 
-/// An iterator over the parameters of a media type, which [`Mime::params`](crate::Mime::params) returns. It yields a
-/// name and a value for each, in order of appearance: `p` and `X` for `a/b;P=X` (RFC 7231, 3.1.1.1). Names ignore case.
-/// A value ignores case only if its name is `charset`. Values have no quotes, but keep their backslashes: `\"x` for
+/// An iterator over the parameters of a media type, returned by [`Mime::params`](crate::Mime::params). It yields a name
+/// and a value for each, in order of appearance: `p` and `X` for `a/b;P=X` (RFC 7231, 3.1.1.1). Names ignore case. A
+/// value ignores case only if its name is `charset`. Values lose their quotes, but keep their backslashes: `\"x` for
 /// `a/b;p="\"x"`. The size hint is exact. The iterator doesn't allocate.
 #[derive(Drop)]
 pub struct Params<'a> {
