@@ -145,9 +145,9 @@ pub fn kept_is_safe()
     ensures { KeptIsSafe }
 {}
 
-/// The essence of a value that was read, followed by `; ` and a parameter with a quoted value, is read as this essence
-/// with only this parameter: `a/b; P="X"` is read as `a/b` with the parameter `p`, whose value is `X` (RFC 7231,
-/// 3.1.1.1).
+/// The essence of a value that was read, followed by `; ` and a parameter with its value in quotes, is read as this
+/// essence with only this parameter: `a/b; P="X"` is read as `a/b` with the parameter `p`, whose value is `X` (RFC
+/// 7231, 3.1.1.1).
 #[tactic(auto, using(crate::proofs::LawsLemmas::Written::parameter_is_read))]
 pub fn parameter_is_read()
     ensures { ParameterIsRead }
@@ -208,7 +208,7 @@ pub fn equal_values_feed_the_same()
 {}
 
 /// The bytes that values feed a hasher are prefix-free: the bytes of a value are never a prefix of the bytes of an
-/// unequal value. So a pair of a value and a string feeds bytes that no unequal pair feeds: `a/bx` with `c` and `a/b`
+/// unequal value. So a tuple of a value and a string feeds bytes that no unequal tuple feeds: `a/bx` with `c` and `a/b`
 /// with `xc` feed different bytes.
 #[tactic(auto, using(crate::proofs::ValueLemmas::Hash::hash_is_prefix_free))]
 pub fn hash_is_prefix_free()
@@ -228,9 +228,9 @@ pub fn one_cut()
     ensures { OneCut }
 {}
 
-/// Each item of a cut is a media type, whose piece is read as its value, or a bad piece, which is viable, rejected and
-/// not empty. The rest after the items is viable and rejected: the cut of `a/b, e, c` has the items `a/b` and the bad
-/// piece `e`, and the rest `c`.
+/// Each item of a cut is the media type that its piece is read as, or a bad piece, which is viable, rejected and not
+/// empty. The rest after the items is viable and rejected: the cut of `a/b, e, c` has the items `a/b` and the bad piece
+/// `e`, and the rest `c`.
 #[tactic(auto, using(crate::proofs::CutLemmas::Containment::cut_has_items))]
 pub fn cut_has_items()
     ensures { CutHasItems }
@@ -285,15 +285,15 @@ pub fn run_gives_cut()
     ensures { RunGivesCut }
 {}
 
-/// Unless the text before a comma ends in an open quoted string, a run over the whole string yields the items of this
-/// text, its rest as a bad piece if it isn't empty, and the items of the text after the comma: over `e, c/d` it yields
-/// the bad piece `e` and `c/d`.
+/// Unless memory runs out or the text before a comma ends in an open quoted string, a run over the whole string yields
+/// the items of this text, its rest as a bad piece unless empty, and the items of the text after the comma: over
+/// `e, c/d` it yields the bad piece `e` and `c/d`.
 pub fn comma_contains_on_runs()
     ensures { CommaContainsOnRuns }
 {}
 
-/// If values that were read are printed, and joined with a comma and a space, an iterator over the joined string yields
-/// these values: over `a/b, c/d` it yields `a/b` and `c/d`.
+/// If values that were read are printed, and joined by a comma and a space, a run over the joined string yields these
+/// values unless memory runs out: over `a/b, c/d` it yields `a/b` and `c/d`.
 pub fn printed_list_comes_back()
     ensures { PrintedListComesBack }
 {}
@@ -334,7 +334,7 @@ pub fn name_clone()
     ensures always { (name : Name) → ⟦<Name<'static> as Clone>⟧.is_infallible name }
 {}
 
-/// A constant media type, a fault, a bad item and a key can always be copied and cloned, and the copy is the same.
+/// An `Atom`, a `ParseError`, a `Bad` and a `TextKey` can always be copied and cloned, and the copy is the same.
 pub fn copies_are_same()
     ensures atom { (value copy : Atom) → ⟦<Atom as Clone>⟧.is_clone value copy → copy ≡ value }
     ensures atom_always { (value : Atom) → ⟦<Atom as Clone>⟧.is_infallible value }
