@@ -1,4 +1,4 @@
-//! The classes of bytes (RFC 7231, 3.1.1.1; RFC 7230, 3.2.6).
+//! The classes of a media type's bytes (RFC 7231, 3.1.1.1; RFC 7230, 3.2.6).
 
 ghost use Rattle.std.specs.Prelude.{◌≡◌};
 ghost use Rattle.mime.specs.Inner.ByteClasses.{is_token_except_plus, token_bytes, is_ascii_not_token};

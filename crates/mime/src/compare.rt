@@ -105,9 +105,9 @@ fn has_list_of(mime: &Mime, s: &str) -> bool
     }
 }
 
-/// Returns `true` if a string is equal to a value with parameters. The essences are compared, and then the parameters.
-/// If `equal_ignoring_case` is true, the string equals the kept text ignoring ASCII case, so it is accepted without a
-/// scan. Otherwise the string is scanned. This function isn't inlined: few strings need it.
+/// Returns `true` if a string is equal to a value with parameters. The essences are compared, then the parameters, and
+/// then the string is scanned. If `equal_ignoring_case` is true, the string equals the kept text ignoring ASCII case,
+/// so it is accepted, and isn't scanned. This function isn't inlined: few strings need it.
 #[inline(never)]
 fn eq_by_parts(mime: &Mime, s: &str, equal_ignoring_case: bool) -> bool
     requires reads { Reads mime.now.media.kept mime.now.media }
@@ -138,12 +138,11 @@ fn reaches_value(byte: u8) -> bool
     !(is_space(byte) || byte == b'"')
 }
 
-/// The result of comparing two strings.
+/// The result of comparing two strings ignoring ASCII case.
 enum Compared {
-    /// The strings are equal ignoring ASCII case.
+    /// The strings are equal.
     Equal,
-    /// The strings aren't read as equal values: their first difference, ignoring ASCII case, isn't at a space, tab or
-    /// quote.
+    /// The strings aren't read as equal values: they first differ at bytes other than space, tab and quote.
     Different,
     /// The comparison decides nothing: one string is shorter than a block, one is a prefix of the other, or they first
     /// differ at a space, tab or quote.
@@ -169,8 +168,8 @@ fn compare_texts(kept: &str, text: &str) -> Compared
 }
 
 /// Returns `true` if a string other than the kept text is equal to a value with parameters. The first difference
-/// between the string and the kept text decides most calls. If the two are equal ignoring ASCII case, and the value's
-/// only parameter is a charset, the result is `true`. In all other cases the parts are compared. This function isn't
+/// between the string and the kept text decides most calls. If the two are equal ignoring ASCII case, and the only
+/// parameter is a charset after one space, the result is `true`. Otherwise the parts are compared. This function isn't
 /// inlined: most strings are the kept text.
 #[inline(never)]
 fn eq_other_text(mime: &Mime, s: &str) -> bool

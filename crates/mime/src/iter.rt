@@ -139,7 +139,7 @@ fn read_next_piece<'a>(text: &'a str, from: u128) -> ReadPiece<'a>
 /// The string is cut into pieces. Each piece is the longest prefix of the remaining string that can begin a media type.
 /// The character after a piece, such as the comma of a list, is skipped. A piece is a media type or a bad piece. Empty
 /// pieces aren't yielded, and neither is a last piece that is only the beginning of a media type. A bad entry doesn't
-/// affect the entries after it, unless it ends in an open quoted string. No byte is read twice.
+/// affect the entries after it, unless it ends in an open quoted string. No byte is scanned twice.
 ///
 /// Yielding a media type allocates once, for its kept text, if its piece has more than 40 bytes, including white space.
 /// So does cloning this media type. Yielding any other item doesn't allocate.
@@ -195,8 +195,7 @@ impl<'a> MimeIter<'a> {
         self.steps
     }
 
-    /// Skips empty pieces, and returns the first nonempty piece, with the positions of its parts if the piece is a
-    /// media type.
+    /// Returns the next nonempty piece, if any, with the positions of its parts if the piece is a media type.
     #[inline(always)]
     fn next_piece(&mut self) -> Option<(&'a str, Option<Positions>)>
         ensures { IsFound self.old result self.new }

@@ -61,7 +61,7 @@ fn end_at_plus(text: &[u8], from: usize) -> usize
     end_of_token(text, from, false)
 }
 
-/// Returns `end_of_token(text, from, true)`. Like `end_at_plus`, it isn't inlined.
+/// Returns `end_of_token(text, from, true)`. Like `end_at_plus`, this function isn't inlined.
 #[inline(never)]
 fn end_past_pluses(text: &[u8], from: usize) -> usize
     requires { from ≤ length text.now }

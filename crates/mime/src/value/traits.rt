@@ -177,8 +177,8 @@ impl Ord for Mime {
 }
 
 /// Feeds the parameters and the essence to a hasher. Equal values, such as `a/b; p="x"` and `A/B;P=x`, feed the same
-/// bytes. No value feeds a prefix of the bytes that an unequal value feeds, so a map keyed by `(Mime, String)` hashes
-/// as well as a map keyed by `Mime`. The bytes may change between versions. Hashing doesn't allocate.
+/// bytes. No value feeds a prefix of the bytes that an unequal value feeds, so unequal keys `(Mime, String)` of a map
+/// feed different bytes. The bytes may change between versions. Hashing doesn't allocate.
 impl Hash for Mime {
     ghost hash_input = { λ mime. media_input mime.media };
 
@@ -193,7 +193,7 @@ impl Hash for Mime {
 }
 
 /// Returns a copy with the same kept text, or `AllocError` if memory runs out. Cloning allocates at most once. Cloning
-/// a constant, `*/*`, or a value that was read or made from at most 40 bytes doesn't allocate.
+/// a constant, or a value that was read or made from at most 40 bytes, doesn't allocate.
 impl Clone for Mime {
     ghost is_clone = { λ mime copy. copy ≡ mime };
 
