@@ -1,4 +1,4 @@
-//! Code that the programs share: sources and sinks, an input read up to a limit and cut into lines, a report written at once, and errors.
+//! Code that the programs share: sources and sinks, an input read up to a limit and cut into lines, a report written whole, and errors.
 #![tactic(auto)]
 
 mod device;

@@ -1,4 +1,4 @@
-//! The output: a report that is written at once, and the status of a run.
+//! The output: a report that is written whole, and the status of a run.
 
 ghost use Rattle.std.specs.Prelude.{◌≡◌, true, OnOk, OnErr, IfErr};
 ghost use Rattle.std.specs.Io.KnownBytes.{Appends};

@@ -41,8 +41,8 @@ fn copy_few(out: &mut [u8], bytes: &[u8])
     }
 }
 
-/// Copies `bytes` to `out`, which must have the same length. For short strings it needs fewer instructions than
-/// `copy_from_slice`.
+/// Copies `bytes` to `out`, which must have the same length. For short strings, this function needs fewer instructions
+/// than `copy_from_slice`.
 #[inline(always)]
 pub fn copy_bytes(out: &mut [u8], bytes: &[u8])
     requires { length out.old ≡ length bytes.now }

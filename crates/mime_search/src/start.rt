@@ -110,8 +110,8 @@ pub fn search_start(text: &[u8], class: &Class) -> Start
 }
 
 impl Start {
-    /// Returns the position of the first byte at or after `from` that stops the search, or `known` if none of the first
-    /// `known` bytes does. If `from` is at least `known`, returns `from`.
+    /// Returns the position of the first byte at or after `from` that stops the search, or `known` if there is no such
+    /// byte before `known`. If `from` is at least `known`, returns `from`.
     #[inline(always)]
     pub fn stop_from(self, from: usize) -> usize
         requires { self.known ≤ WINDOW }
