@@ -145,9 +145,9 @@ pub fn kept_is_safe()
     ensures { KeptIsSafe }
 {}
 
-/// The essence of a value that was read, followed by `; ` and a parameter with its value in quotes, is read as this
-/// essence with only this parameter: `a/b; P="X"` is read as `a/b` with the parameter `p`, whose value is `X` (RFC
-/// 7231, 3.1.1.1).
+/// The essence of a value that was read, followed by `; ` and a parameter with a quoted string, is read as this essence
+/// with only this parameter: `a/b; P="X"` is read as `a/b` with the parameter `p`, whose value is `X` (RFC 7231,
+/// 3.1.1.1).
 #[tactic(auto, using(crate::proofs::LawsLemmas::Written::parameter_is_read))]
 pub fn parameter_is_read()
     ensures { ParameterIsRead }
@@ -298,8 +298,8 @@ pub fn printed_list_comes_back()
     ensures { PrintedListComesBack }
 {}
 
-/// Returns the constant names, in the order of their table, with `*` first. Each name ignores case, and its text has no
-/// ASCII capital.
+/// Returns the constant names, in the order of `name_table`, with `*` first. Each name ignores case, and its text has
+/// no ASCII capital.
 pub fn name_constants() -> [Name<'static>; 38]
     ensures texts { map name_text result ≡ name_table }
     ensures flags { IsTrue (list_all (λ name. name.ignores_case) result) }

@@ -20,8 +20,8 @@ pub use crate::scan::fault::{FromStrError, ParseError};
 pub(crate) use crate::scan::reader::{ByteReader, NEAR};
 
 /// The positions of an accepted string's parts, in bytes from 0, and the number of its parameters. The order of the
-/// fields matters for speed: the compiler would copy a position in two parts if the position were beside the byte of
-/// another variant of `Scanned`.
+/// fields matters for speed: the compiler would copy a position in two parts if the position were where another variant
+/// of `Scanned` has its byte.
 #[derive(Clone, Copy)]
 pub(crate) struct Positions {
     /// The plus before the suffix.

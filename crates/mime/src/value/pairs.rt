@@ -27,8 +27,8 @@ pub(crate) struct Pair<'a> {
     pub(crate) rest: Rest<'a>,
 }
 
-/// Returns the length in bytes of a quoted string's content, even if the first quote in `text` is in a quoted pair.
-/// This function isn't inlined: few values have a backslash before their first quote.
+/// Returns the same as `content_len`. This function isn't inlined: few values have a backslash before their first
+/// quote.
 #[cold]
 #[inline(never)]
 fn content_len_past_quoted_pairs(text: &[u8]) -> usize
@@ -37,8 +37,8 @@ fn content_len_past_quoted_pairs(text: &[u8]) -> usize
     content_end(text, 0)
 }
 
-/// Returns the length in bytes of a quoted string's content. The content ends before the first quote outside a quoted
-/// pair, or else at the end of `text`. `quote` is the position of the first quote, or the length if there is none.
+/// Returns the length in bytes of the quoted content that `text` begins with: up to the first quote outside a quoted
+/// pair, or else to the end of `text`. `quote` is the position of the first quote, or the length if there is none.
 #[inline(always)]
 fn content_len(text: &[u8], quote: usize) -> usize
     requires { quote ≡ first_position quote_byte text.now }
