@@ -1,4 +1,4 @@
-//! The calls that include/mime.h declares, for programs that aren't in Rattle.
+//! The proved calls of include/mime.h, for programs that aren't in Rattle.
 //!
 //! No call keeps a pointer or any state. Each call returns a number, its answer. Strings are written into the caller's buffer, each with a
 //! 0 at its end. The files `Answers`, `HeaderAnswers` and `ParameterAnswers` of `Rattle.mime_c.specs` define the answers and the strings.
@@ -263,7 +263,7 @@ pub extern "C" fn mime_read(
     }
 }
 
-/// Reads the value of a header such as `Content-Type` as one media type (RFC 9110, 8.3.1). Writes the strings that `mime_read` writes to
+/// Reads the value of a header such as `Content-Type` as one media type (RFC 9110, 8.3.1). Writes the same strings as `mime_read` to
 /// `out`, which must have at least `3 * value.len() + 2` bytes, and sets `found`. Returns `MIME_OK`, or another answer of include/mime.h if
 /// it wrote nothing.
 #[unsafe(no_mangle)]

@@ -8,7 +8,7 @@ use std::alloc::{AllocError, Global};
 use std::collections::{BTreeMap, HashMap};
 use std::fmt::Write;
 
-/// The number of values of a log.
+/// The maximum number of different values in a log.
 const VALUES: usize = 8192;
 
 /// The number of lines of a log.

@@ -1,4 +1,4 @@
-//! The constants, and the classes of bytes.
+//! The constants, and the rows about constants and bytes.
 
 use crate::values::show_copy;
 use mime::{

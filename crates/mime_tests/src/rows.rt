@@ -21,7 +21,7 @@
 //! feeds. Offers are the fields after it. A bar follows each answer of these rows.
 //!
 //! Between the lines `now` and `end`, only the calls of a row allocate. tools/refused_requests refuses and counts the requests for memory
-//! between these lines. The answers are printed after these lines. An answer for which memory runs out is left out.
+//! between these lines. The answers are printed after these lines. If memory runs out, an answer is left out, or says so.
 
 use crate::constants::{show_bytes, show_copies};
 use crate::fields::string_at;
