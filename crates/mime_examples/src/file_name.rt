@@ -13,8 +13,8 @@ use mime_http::laws::written_is_meant;
 use mime_http::{unescape, with_parameter};
 use std::alloc::{AllocError, Global};
 
-/// Returns the media type with a file's name as its parameter `name`, or `None` exactly if the file's name has a control character other
-/// than the tab. `image/png` with the name `a "b".png` is `image/png; name="a \"b\".png"`.
+/// Returns the media type with a file's name as its parameter `name`, or `None` exactly if the file's name has an ASCII control character
+/// other than the tab. `image/png` with the name `a "b".png` is `image/png; name="a \"b\".png"`.
 ///
 /// # Errors
 /// Returns `AllocError` if memory runs out, as do the functions below.

@@ -75,7 +75,7 @@ fn split_line(text: &[u8]) -> Option<(&[u8], &[u8])>
     None
 }
 
-/// Returns the part before a delimiter. A line ending directly before the delimiter belongs to the delimiter, not to the part.
+/// Returns the part before a delimiter. A line break directly before the delimiter belongs to the delimiter, not to the part.
 fn without_end(before: &[u8]) -> &[u8]
     ensures { EndsLine before.now → IsPart before.now result.now }
 {

@@ -33,7 +33,7 @@ fn is_lowercase(text: &str) -> bool
         .all(|byte| !byte.is_ascii_uppercase())
 }
 
-/// Returns `true` if a parameter is kept as it is written: neither its name nor, for a `charset`, its value has an uppercase letter.
+/// Returns `true` if a parameter is kept as it is written: neither its name nor, for a `charset`, its value has an uppercase ASCII letter.
 #[tactic(auto, using(crate::proofs::Contents::kept_low))]
 fn is_kept_as_written(name: &str, value: &str) -> bool
     ensures { IsTrue result → (lowered name.now ≡ name.now) × (lowered_value name.now (escaped value.now) ≡ escaped value.now) }
@@ -157,8 +157,8 @@ fn mime_with(
 /// parameter is the last, after the others in their order. `text/html; charset=utf-8` with the parameter `title` and the value `a "b"` is
 /// `text/html; charset=utf-8; title="a \"b\""`.
 ///
-/// Returns `None` exactly if the name isn't a token, or the value has a byte that no quoted string can contain: a control character other
-/// than the tab. So neither the name nor the value can inject a parameter, or anything else, into a header.
+/// Returns `None` exactly if the name isn't a token, or the value has a byte that no quoted string can contain: an ASCII control character
+/// other than the tab. So neither the name nor the value can inject a parameter, or anything else, into a header.
 ///
 /// The name is printed in lowercase. A value is printed as it is if it is a token. Any other value is printed in quotes, with a backslash
 /// before each quote and each backslash (5.6.4). [`unescape`](crate::unescape) recovers the value that was passed, in lowercase for a

@@ -121,8 +121,8 @@ fn kind_of(value: &[u8]) -> u8
     kind
 }
 
-/// Returns the form in which a value is written, or `None` if the value has a byte that no quoted string can contain: a control character
-/// other than the tab.
+/// Returns the form in which a value is written, or `None` if the value has a byte that no quoted string can contain: an ASCII
+/// control character other than the tab.
 #[tactic(auto, using(crate::proofs::Contents::token_from_kind))]
 pub(crate) fn form_of(value: &str) -> Option<Form>
     ensures { result ≡ (if list_all is_quoted_byte value.now then Some (form_of value.now) else None) }

@@ -14,7 +14,7 @@ const VALUES: usize = 8192;
 /// The number of lines of a log.
 const LINES: usize = 16_384;
 
-/// Three ways to write each value. All three have the same mark and the same first four letters. The case of these letters tells
+/// Three ways to write each kind of value. All three have the same mark and first four letters. The case of these letters tells
 /// occurrences of a value apart.
 static WRITINGS: [[&str; 3]; 9] = [
     [
