@@ -1,7 +1,7 @@
 //! The operations that bench/ measures, as one call over byte slices.
 //!
 //! The call repeats an operation in rounds. If two calls differ only in their rounds, their times differ by the time of the additional
-//! rounds. No clause states the results. The driver compares the results with the Rust crate's.
+//! rounds. No clause states the results. bench/run compares their sums with the Rust crate's.
 #![tactic(auto)]
 
 use mime::{BOUNDARY, CHARSET, Mime, MimeIter, ParamKey, TextKey, mime_eq_str};
@@ -70,7 +70,7 @@ pub extern "C" fn mime_bench(
     }
 }
 
-/// Returns the lines of a string. If memory runs out, some are left out, which the driver sees in the sums.
+/// Returns the lines of a string. If memory runs out, some are left out, which bench/run sees in the sums.
 fn lines<'a>(alloc: Global, text: &'a str) -> Vec<&'a str> {
     let mut lines = Vec::new(alloc);
     for line in text.split('\n') {

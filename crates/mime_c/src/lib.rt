@@ -1,8 +1,8 @@
 //! The proved calls of include/mime.h, for programs that aren't in Rattle.
 //!
 //! No call keeps a pointer or any state. Each call returns a number, its answer. Strings are written into the caller's buffer, each with a
-//! 0 at its end. The files `Answers`, `HeaderAnswers` and `ParameterAnswers` of `Rattle.mime_c.specs` define the answers and the strings.
-//! include/mime.h describes them in plain words.
+//! 0 at its end. The files `Strings`, `Answers`, `HeaderAnswers` and `ParameterAnswers` of `Rattle.mime_c.specs` define the strings and the
+//! answers. include/mime.h describes them in plain words.
 #![tactic(auto)]
 
 ghost use Rattle.std.specs.Prelude.{◌≡◌, ◌≢◌, ◌+◌, ◌<◌, ◌≤◌, true, false, [], ◌∷◌, length, IfOk, IfErr, IsOk, MatchResult};

@@ -1,5 +1,5 @@
 //! Solutions to common tasks, each in its own module. docs/RECIPES.md lists them. README.md and CALLING.md quote some of them whole.
-//! crates/mime_tests tests them.
+//! crates/mime_tests tests all but [`server`].
 #![tactic(auto)]
 
 pub mod accepted;
