@@ -214,7 +214,7 @@ fn clone(values: &[Mime], rounds: usize) -> usize {
     })
 }
 
-/// Prints media types into a string that is reused.
+/// Prints media types into a reused string.
 #[inline(never)]
 fn print(alloc: Global, values: &[Mime], rounds: usize) -> usize {
     let mut printed = String::new(alloc);
