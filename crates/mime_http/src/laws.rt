@@ -17,7 +17,7 @@ pub fn one_http_reading()
     ensures { OneHttpReading }
 {}
 
-/// Exactly one text is printed for a value. For ` text/html ;; charset="utf-8"` it is `text/html; charset=utf-8`.
+/// At most one text is printed for a value. For ` text/html ;; charset="utf-8"` it is `text/html; charset=utf-8`.
 pub fn one_printed_text()
     ensures { OnePrintedText }
 {}
@@ -93,8 +93,8 @@ pub fn covers_itself()
     ensures { CoversItself }
 {}
 
-/// Whether a range covers an offer, and how specific the range is, depends only on what both mean: `a/b;p="\x"` covers `a/b;p=x` just as
-/// `a/b;p=x` does (RFC 9110, 5.6.4).
+/// For a given weight, whether a range covers an offer, and how specific the range is, depends only on what both mean: `a/b;p="\x"` covers
+/// `a/b;p=x` as `a/b;p=x` does (RFC 9110, 5.6.4).
 #[tactic(auto, using(crate::proofs::Demanded::meaning_counts))]
 pub fn meaning_counts()
     ensures { MeaningCounts }

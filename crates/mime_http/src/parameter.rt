@@ -160,9 +160,9 @@ fn mime_with(
 /// Returns `None` exactly if the name isn't a token, or the value has a byte that no quoted string can contain: an ASCII control character
 /// other than the tab. So neither the name nor the value can inject a parameter, or anything else, into a header.
 ///
-/// The name is printed in lowercase. A value is printed as it is if it is a token. Any other value is printed in quotes, with a backslash
-/// before each quote and each backslash (5.6.4). [`unescape`](crate::unescape) recovers the value that was passed, in lowercase for a
-/// `charset`. The other parameters are printed in the same way, but with only the backslashes that they have: `a/b;p="x"` with the
+/// The name is printed in lowercase. A value that is a token is printed without quotes. Any other value is printed in quotes, with a
+/// backslash before each quote and each backslash (5.6.4). [`unescape`](crate::unescape) recovers the value that was passed, in lowercase
+/// for a `charset`. The other parameters are printed in the same way, but with only the backslashes that they have: `a/b;p="x"` with the
 /// parameter `q` and the value `1` is `a/b; p=x; q=1`.
 ///
 /// Allocates a buffer for the text, which may grow. A text of more than 40 bytes may need one more block.

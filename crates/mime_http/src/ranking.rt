@@ -1,4 +1,5 @@
-//! Explains why an offer is chosen: ranks all offers, and finds the range that decides each weight. Splits a header's line into entries.
+//! Explains why an offer is chosen: ranks all offers, finds the range that decides each weight, and tests weights. Splits a line into
+//! entries.
 
 ghost use Rattle.std.specs.Prelude.{◌≡◌, ◌++◌, ◌∷◌, ◌==◌, ◌||◌, ◌&&◌, not, map, option_map, unwrap_or, true, position, codes, IfOk, MatchOption};
 ghost use Rattle.std.specs.{Char.is_ascii_digit, List.list_all, Vec.vec_items};
@@ -109,8 +110,8 @@ pub fn has_weight(range: &Mime) -> bool
     }
 }
 
-/// Returns the first entry of a header's line, with the white space around it, and the rest of the line after its comma, or `None` if no
-/// comma ends the entry. A comma in a quoted string doesn't end an entry. This doesn't allocate.
+/// Returns the first entry of a header's line, with the white space around it, and the rest after its comma, which is `None` if no comma
+/// ends the entry. A comma in a quoted string doesn't end an entry. This doesn't allocate.
 pub fn first_entry(line: &[u8]) -> (&[u8], Option<&[u8]>)
     ensures { MatchOption result.1 ((line.now ≡ result.0.now) × BeginsPiece result.0.now)
         (λ rest. (line.now ≡ result.0.now ++ (comma_byte ∷ rest.now)) × IsPiece result.0.now) }

@@ -236,7 +236,7 @@ pub(crate) fn read_rejected(
 /// and 5.6.6). Accepts each value in UTF-8 that the grammar in these sections allows, even with white space around semicolons
 /// and with empty parameters. White space around the value is allowed, too. A non-ASCII value that isn't UTF-8 (obs-text) is rejected.
 ///
-/// A request has at most one `Content-Type` line. Treat two such lines as an error, since programs differ in which line they use. A body
+/// A request may have only one `Content-Type` line. Treat two such lines as an error, since programs differ in which line they use. A body
 /// without a `Content-Type` may be treated as `application/octet-stream` (8.3).
 ///
 /// The white space around the value is removed. A value that [`Mime::from_str`] then accepts is read as it is. Any other value is printed
