@@ -4,7 +4,7 @@ use mime_http::{Accept, weight_of};
 use std::alloc::{AllocError, Global};
 use std::fmt::Write;
 
-/// Returns a text for a log: the ranges of an `Accept` header with their weights in thousandths, and the number of bad entries.
+/// Returns a text for a log: the ranges of an `Accept` header with their weights in thousandths, and the number of bad entries, if any.
 ///
 /// # Errors
 /// Returns `AllocError` if memory runs out.

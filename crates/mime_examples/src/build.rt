@@ -7,7 +7,7 @@ use mime::{Mime, ParseError};
 use std::alloc::{AllocError, Global};
 
 /// Returns the media type of a kind of document in JSON: `application/vnd.cart+json` for `cart`. Returns `None` for a name that can't be
-/// part of a token, such as `a/b`, or that would add a parameter, such as `a; q=1`.
+/// part of a token, such as `a/b`, or `a; q=1`, which would add a parameter.
 ///
 /// # Errors
 /// Returns `AllocError` if memory runs out.

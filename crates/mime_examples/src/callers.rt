@@ -31,7 +31,7 @@ pub fn has_param(mime: &Mime, name: &str) -> bool
     mime.get_param(name).is_some()
 }
 
-/// Reads a text as a media type. The text that the media type prints is read as the same media type.
+/// Reads a text as a media type. The printed text is read as the same media type.
 pub fn printed(alloc: Global, text: &str) -> Result<Mime, FromStrError>
     ensures explained { IfErr result (λ error. Explains text.now error) }
     ensures same { IfOk result (λ mime. Reads text.now mime.media × Reads mime.media.kept mime.media) }

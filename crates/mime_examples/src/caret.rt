@@ -1,4 +1,4 @@
-//! A caret under the rejected character.
+//! Marks a string's fault with a caret.
 
 use mime::{FromStrError, ParseError};
 use std::alloc::{AllocError, Global};

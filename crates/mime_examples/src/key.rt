@@ -1,4 +1,4 @@
-//! A `ParamKey` of your own.
+//! A `ParamKey` that accepts two names.
 
 ghost use Rattle.std.specs.Prelude.{◌≡◌, ◌⊎◌, ℕ, List, Bool, Option, codes, option_map, unwrap_or};
 ghost use Rattle.mime.specs.Names.{NameIs};

@@ -14,7 +14,7 @@ use std::alloc::{AllocError, Global};
 /// The parts of a body.
 #[derive(Drop)]
 pub struct Body<'a> {
-    /// The parts, each with its own header, an empty line, and its content.
+    /// The parts: each is usually a header, an empty line, and the content.
     pub parts: Vec<&'a [u8]>,
     /// Whether a delimiter closes the body. If not, the body was cut off, and the bytes after the last delimiter aren't a part.
     pub is_whole: bool,
@@ -131,7 +131,7 @@ fn parts_between<'a>(
 }
 
 /// Returns the parts of a body: the bytes between lines that begin with the delimiter. A line with two hyphens after the delimiter ends the
-/// last part. Returns `None` exactly if the media type has no boundary. Parts aren't examined, and may have no header.
+/// last part. Returns `None` exactly if [`delimiter`] does. Parts aren't examined, and may have no header.
 pub fn parts<'a>(alloc: Global, mime: &Mime, body: &'a [u8]) -> Result<Option<Body<'a>>, AllocError>
     ensures { IfOk result (λ answer. MatchOption answer ((boundary : List ℕ) → ¬ (IsBoundaryOf mime.now.media boundary))
         (λ found. (boundary : List ℕ) × IsBoundaryOf mime.now.media boundary

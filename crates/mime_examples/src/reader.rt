@@ -1,4 +1,4 @@
-//! Chooses a reader without allocating.
+//! Chooses a body's reader without allocating.
 
 ghost use Rattle.std.specs.Prelude.{◌≡◌, ◌==◌, ℕ, List, if◌then◌else◌, codes};
 ghost use Rattle.std.specs.List.{before_first};
