@@ -1,6 +1,6 @@
 //! The weights and the order of a server's offers, according to the ranges of an `Accept` header.
 
-ghost use Rattle.std.specs.Prelude.{◌≡◌, ◌<◌, [], None, map, length, IfSome, IfOk, IsOk};
+ghost use Rattle.std.specs.Prelude.{◌≡◌, ◌<◌, ◌+◌, [], map, length, IfSome, IfOk, IsOk};
 ghost use Rattle.std.specs.{Option.option_cmp, Ordering.ord_max, Vec.vec_items};
 ghost use Rattle.mime.specs.Values.{type_of};
 ghost use Rattle.mime_http.specs.{Sorted.AreRanked, Ranges.rank_cmp, Ranges.closeness, Ranges.closest, Ranges.merit, Ranges.best_offer, Ranges.AreInOrder};
@@ -21,52 +21,58 @@ struct Offer<'a> {
     ghost before_slash: { type_.now ≡ type_of mime.now.media },
 }
 
-/// The most specific range so far that covers an offer: how many parts it names, how many parameters it demands, its weight, and its
-/// position. `named` is `None` if no range so far covers the offer.
+/// The most specific range so far that covers an offer: how many parts it names, how many parameters it demands, its weight, and the number
+/// `left` of ranges from it to the last. All four are 0 if no range so far covers the offer. `all` is the number of ranges.
 #[derive(Drop)]
 struct Closest {
-    named: Option<u8>,
+    named: u8,
     demanded: usize,
     weight: u16,
-    at: usize,
+    left: usize,
+    all: usize,
 }
 
 impl Model for Closest {
-    ghost use Rattle.std.specs.Prelude.{Option, option_map};
+    ghost use Rattle.std.specs.Prelude.{◌≡◌, ◌≤◌, ◌-◌, ◌==◌, ℕ, Option, Some, None, if◌then◌else◌};
     ghost use Rattle.mime_http.specs.Ranges.{Rank};
 
-    ghost Value = { Option Rank };
+    ghost Value = { ℕ × Option Rank };
 
-    ghost view = { λ closest. option_map (λ named. (named, closest.demanded, closest.weight, closest.at)) closest.named };
+    ghost view = { λ closest. (
+      closest.all,
+      if closest.left == 0 then None else Some (closest.named, closest.demanded, closest.weight, closest.all - closest.left),
+    ) };
+
+    ghost invariant = { λ closest. (closest.left ≤ closest.all)
+        × (closest.left ≡ 0 → (closest.named ≡ 0) × (closest.demanded ≡ 0) × (closest.weight ≡ 0)) };
 }
 
 impl Closest {
     /// Keeps the range at position `at` if it covers the offer, unless the range kept so far is more specific, or is equally specific and
-    /// has a higher weight. A range that names fewer parts than the range kept so far isn't examined further.
+    /// has a higher weight. `at` is after the position of that range. A range that names fewer parts isn't examined further.
     #[inline(always)]
     fn look_at(&mut self, range: &Mime, offer: Offer<'_>, at: usize)
-        ensures { self.new ≡ ord_max (option_cmp rank_cmp) self.old (closeness offer.entry.mime.now.media (at, range.now.media)) }
+        requires within { at < self.old.0 }
+        requires later { IfSome self.old.1 (λ kept. kept.3 < at) }
+        ensures later { IfSome self.new.1 (λ kept. kept.3 < at + 1) }
+        ensures kept { self.new ≡ (self.old.0, ord_max (option_cmp rank_cmp) self.old.1 (closeness offer.entry.mime.now.media (at, range.now.media))) }
     {
         let Some(named) = named_parts(range, offer.essence, offer.type_) else {
             return;
         };
-        if let Some(most) = self.named {
-            if named < most {
-                return;
-            }
+        if named < self.named {
+            return;
         }
         let Some((demanded, weight)) = demanded(range, offer.mime) else {
             return;
         };
-        if let Some(most) = self.named {
-            if (named, demanded, weight, at) < (most, self.demanded, self.weight, self.at) {
-                return;
-            }
+        if (named, demanded, weight) < (self.named, self.demanded, self.weight) {
+            return;
         }
-        self.named = Some(named);
+        self.named = named;
         self.demanded = demanded;
         self.weight = weight;
-        self.at = at;
+        self.left = self.all - at;
     }
 }
 
@@ -83,23 +89,21 @@ pub(crate) fn merit(ranges: &[Mime], offer: &Mime) -> (u16, u8, usize, usize)
         type_: offer.type_().text,
     };
     let mut closest = Closest {
-        named: None,
+        named: 0,
         demanded: 0,
         weight: 0,
-        at: 0,
+        left: 0,
+        all: ranges.len(),
     };
     for (at, range) in ranges.iter().enumerate() {
         closest.look_at(range, parts, at);
     }
-    match closest.named {
-        Some(named) => (
-            closest.weight,
-            named,
-            closest.demanded,
-            ranges.len().saturating_sub(closest.at),
-        ),
-        None => (0, 0, 0, 0),
-    }
+    (
+        closest.weight,
+        closest.named,
+        closest.demanded,
+        closest.left,
+    )
 }
 
 /// Returns the position of the first offer of the highest rank, or `None` if all offers weigh 0.

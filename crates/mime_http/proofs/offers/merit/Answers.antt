@@ -5,4 +5,5 @@ use Rattle.mime_http.proofs.offers.merit.Goals as goal
 pub loop-at-preserved : goal.loop-at-preserved
 loop-at-preserved c =
     let next = drop_more c.args.ranges.now c.loop-at.at c.index-ranges-at.result c.loop-at-test.true in
-    rw c.look_at.ensures (rw (next, sym c.index-ranges-at.is) at c.loop-at.invariant)
+    let (so_far, all, before) = c.loop-at.invariant in
+    (rw c.look_at.ensures.kept (rw (next, sym c.index-ranges-at.is) at so_far), rw c.look_at.ensures.kept all, c.look_at.ensures.later)
