@@ -33,21 +33,35 @@ static TEXT_STOPS: Class = Class {
 /// The number of bytes of a run that are tested one by one, before the rest of the run is searched in blocks.
 const LONG: usize = 16;
 
-/// Returns the position of the first byte at or after `from` that isn't white space, or the value's length if there is none.
-fn spaces_end(value: &[u8], from: usize) -> usize
+/// Returns the same position as `spaces_end`. This function isn't inlined, since most positions have no white space, or one space.
+#[inline(never)]
+fn spaces_end_far(value: &[u8], from: usize) -> usize
     requires { from ≤ length value.now }
     ensures end { result ≡ from + prefix_len is_space (drop from value.now) }
     ensures within { result ≤ length value.now }
 {
     let mut at = from;
-    // Most positions have no white space.
-    if at < value.len() && value[at] > b' ' {
-        return at;
-    }
     while at < value.len() && is_space(value[at]) {
         at += 1;
     }
     at
+}
+
+/// Returns the position of the first byte at or after `from` that isn't white space, or the value's length if there is none.
+#[inline(always)]
+fn spaces_end(value: &[u8], from: usize) -> usize
+    requires { from ≤ length value.now }
+    ensures end { result ≡ from + prefix_len is_space (drop from value.now) }
+    ensures within { result ≤ length value.now }
+{
+    if from == value.len() || value[from] > b' ' {
+        return from;
+    }
+    let next = from + 1;
+    if value[from] == b' ' && (next == value.len() || value[next] > b' ') {
+        return next;
+    }
+    spaces_end_far(value, from)
 }
 
 /// Returns the position of the first byte at or after `from` that may not occur in a token, or the value's length if there is none.
