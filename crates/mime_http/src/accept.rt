@@ -94,7 +94,7 @@ impl Accept {
         if entry.is_empty() {
             return Ok(());
         }
-        let Ok(text) = text_of_piece(entry, false) else {
+        let Ok(text) = text_of_piece(entry) else {
             return self.take_bad(alloc, keeps_bad, entry);
         };
         match Mime::from_str(alloc, text) {

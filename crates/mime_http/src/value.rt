@@ -1,8 +1,8 @@
 //! Reads the media type of a header's value from bytes.
 
-ghost use Rattle.std.specs.Prelude.{◌≡◌, ◌≢◌, ◌<◌, ◌≤◌, IsFalse, IsTrue, ℕ, List, true, codes, length, Some, IfOk, IfErr, IfSome, IsOk, MatchResult};
+ghost use Rattle.std.specs.Prelude.{◌≡◌, ◌≢◌, ◌<◌, ◌≤◌, IsFalse, IsTrue, ℕ, List, codes, length, Some, IfOk, IfErr, IfSome, IsOk, MatchResult};
 ghost use Rattle.std.specs.Fmt.InlineText.{inline_text};
-ghost use Rattle.std.specs.Str.{IsAscii, IsUtf8, IsValidUpTo, valid_up_to};
+ghost use Rattle.std.specs.Str.{IsUtf8, IsValidUpTo, valid_up_to};
 ghost use Rattle.mime.specs.Values.{IsAccepted, MediaType};
 ghost use Rattle.mime.specs.Faults.{Explains};
 ghost use Rattle.mime_http.specs.HttpMediaType.{HttpReads, IsHttpMediaType};
@@ -66,16 +66,14 @@ impl fmt::Display for FieldError {
 
 impl Error for FieldError {}
 
-/// Converts bytes to a string as `str::from_utf8` does, but faster for ASCII, which most values are. If `is_ascii` is `true`, the bytes are
-/// known to be ASCII, and aren't tested.
+/// Converts bytes to a string as `str::from_utf8` does, but faster for ASCII, which most values are.
 #[inline(always)]
 #[tactic(auto, using(crate::proofs::Around::ascii_is_utf8))]
-pub(crate) fn text_of_piece(piece: &[u8], is_ascii: bool) -> Result<&str, Utf8Error>
-    requires { is_ascii ≡ true → IsAscii piece.now }
+pub(crate) fn text_of_piece(piece: &[u8]) -> Result<&str, Utf8Error>
     ensures cases { MatchResult result (λ text. (text.now ≡ piece.now) × IsUtf8 piece.now)
         (λ error. ¬ (IsUtf8 piece.now) × IsValidUpTo piece.now (valid_up_to error)) }
 {
-    if is_ascii || piece.is_ascii() {
+    if piece.is_ascii() {
         // SAFETY: ASCII is UTF-8.
         return Ok(unsafe { str::from_utf8_unchecked(piece) });
     }
@@ -267,7 +265,7 @@ pub fn content_type(alloc: Global, value: &[u8]) -> Result<Mime, FieldError>
     // Rejecting a value needs no memory.
     ensures rejected { ¬ (IsHttpMediaType value.now) → IfErr result (λ error. error ≢ FieldError.NoMemory) }
 {
-    let text = match text_of_piece(value, false) {
+    let text = match text_of_piece(value) {
         Ok(text) => text,
         Err(error) => {
             let pos = error.valid_up_to();
