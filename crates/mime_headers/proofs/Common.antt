@@ -1,6 +1,6 @@
 -- The names that the proofs of this crate cite, passed on from one place. Declares nothing.
 pub use Rattle.mime.specs.{Items.Item, Items.items_of, Values.MediaType, Values.suffix_of, declared.scan.fault.ParseError.TheVariants.InvalidToken, declared.scan.fault.ParseError.TheVariants.MissingSubtype}
-pub use Rattle.mime_headers.specs.Head.{bare_lines, begins, continued, goes_on, heads_from, heads_of, is_indented, title_of, unindented, values_of, without_indent, without_mark}
+pub use Rattle.mime_headers.specs.Head.{bare_lines, begins, continued, goes_on, heads_from, heads_of, is_indented, title_of, values_of, without_mark}
 pub use Rattle.mime_headers.specs.Report.{AddsChoice, AddsEntry, AddsHead, AddsLines, AddsReading, AddsType, IsChoice, IsRead, IsReportOf, State, best_of, best_row, count_row, cut_row, fault_place, fault_rows, is_acceptable, is_cut, lacking_at, media_rows, none_lines, none_row, offer_rows, param_row, place_text, range_row, shown, shown_byte, spaced_row, title_row, verdict_of, weight_text, with_entry}
 pub use Rattle.mime_headers.specs.{Inner.begins_control, Inner.lines_now, Inner.state_of, Program.AreOffers, Program.a_word, Program.bad_word, Program.no_memory, Program.no_word, Shown.control_len, Shown.shown_after, Shown.without_controls, declared.offers.BadOffer.BadOffer, declared.offers.BadOffer.TheVariants.Fault, declared.verdict.Verdict.Verdict}
 pub use Rattle.mime_http.proofs.HandedOut.{no_fault, one_http_fault, one_printed_text, only_cut}

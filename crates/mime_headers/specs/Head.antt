@@ -22,19 +22,13 @@ bare_lines bytes = map (λ line. without_mark (strip_carriage_return line)) (lin
 abbrev pub begins : List ℕ → List ℕ → Bool
 begins label line = str_eq_ignore_ascii_case (take (length label) line) label
 
--- `wget -S` indents a head by two spaces, which the line that begins it shows; its other lines may lack them
+-- `wget -S` indents a head by two spaces, which the line that begins it shows; its other lines may lack them, and lose them if they don't
 abbrev pub is_indented : List ℕ → Bool
 is_indented line = begins (codes "  http/") line
 
-abbrev pub without_indent : List ℕ → List ℕ
-without_indent line = if begins (codes "  ") line then drop 2 line else line
-
-abbrev pub has_indent : List (List ℕ) → Bool
-has_indent [] = false
-has_indent (line ∷ lines) = is_indented line
-
-abbrev pub unindented : List (List ℕ) → List (List ℕ)
-unindented head = if has_indent head then map without_indent head else head
+abbrev pub in_head : List (List ℕ) → List ℕ → List ℕ
+in_head [] line = line
+in_head (first ∷ head) line = if begins (codes "  ") line && is_indented first then drop 2 line else line
 
 -- a line that begins with `HTTP/`, or with two spaces and `HTTP/`, begins a head after another, and any other begins none
 abbrev pub begun : List ℕ → Option (List (List ℕ))
@@ -47,12 +41,11 @@ heads_from cut None [] = []
 heads_from cut None (line ∷ lines) = heads_from cut (begun line) lines
 heads_from cut (Some head) [] = if cut then [] else head ∷ []
 heads_from cut (Some head) (line ∷ lines) =
-    if length line == 0 then (if cut && length lines == 0 then [] else head ∷ heads_from cut None lines) else
-    if is_indented line && not (length head == 0) then head ∷ heads_from cut (begun line) lines else
-    heads_from cut (Some (head ++ (line ∷ []))) lines
+    if not (length line == 0) && (length head == 0 || not (is_indented line)) then heads_from cut (Some (head ++ (in_head head line ∷ []))) lines else
+    if cut && (length line == 0 && length lines == 0) then [] else head ∷ heads_from cut (begun line) lines
 
 abbrev pub heads_of : Bool → List (List ℕ) → List (List (List ℕ))
-heads_of cut lines = map unindented (heads_from cut (Some []) lines)
+heads_of cut lines = heads_from cut (Some []) lines
 
 -- a line that begins with white space goes on with the field before it: one space stands for the white space between them (RFC 9112, 5.2)
 abbrev pub goes_on : List ℕ → Bool
@@ -71,10 +64,10 @@ values_of label (line ∷ lines) =
     then (trimmed (drop (length label) line) ++ continued lines) ∷ values_of label lines
     else values_of label lines
 
--- what a head is called: its first line that is no remark, which begins with an asterisk, as `curl -v` prints it
+-- what a head is called: its first line that is no remark, which begins with an asterisk, as `curl -v` prints it, without its indent
 abbrev pub title_of : List (List ℕ) → List ℕ
 title_of [] = []
-title_of (line ∷ lines) = if begins (codes "*") line then title_of lines else line
+title_of (line ∷ lines) = if begins (codes "*") line then title_of lines else if is_indented line then drop 2 line else line
 
 -- a line has a field's name and then white space before a colon, so it is no header (RFC 9112, 5.1)
 abbrev pub is_spaced : List ℕ → List ℕ → Bool

@@ -4,30 +4,24 @@ ghost use Rattle.std.specs.Prelude.{◌≡◌, ◌<◌, ◌∷◌, ◌++◌, [],
 ghost use Rattle.std.specs.Str.Lines.{strip_carriage_return};
 ghost use Rattle.std.specs.Vec.{vec_items};
 ghost use Rattle.mime_http.specs.HttpList.{trimmed};
-ghost use Rattle.mime_headers.specs.Head.{without_mark, bare_lines, is_indented, without_indent, has_indent, unindented, begun, heads_of, title_of, is_spaced, goes_on, continued, begins, values_of};
+ghost use Rattle.mime_headers.specs.Head.{without_mark, bare_lines, is_indented, in_head, begun, heads_of, title_of, is_spaced, goes_on, continued, begins, values_of};
 ghost use Rattle.mime_headers.specs.Inner.{lines_now};
 
 use mime_http::trimmed;
 use mime_io::first_line;
 use std::alloc::{AllocError, Global};
 
-/// Returns a line without the carriage return at its end.
-fn unreturned(line: &[u8]) -> &[u8]
-    ensures { result.now ≡ strip_carriage_return line.now }
+/// Returns a line without the carriage return at its end. Also leaves out the mark that `curl -v` writes before it, and one space after the
+/// mark.
+fn bare(line: &[u8]) -> &[u8]
+    ensures { result.now ≡ without_mark (strip_carriage_return line.now) }
 {
-    match line.split_last() {
+    let line = match line.split_last() {
         Some((b'\r', rest)) => rest,
         _ => line,
-    }
-}
-
-/// Returns a line without the mark that `curl -v` writes before it, and without one space after the mark.
-fn unmarked(line: &[u8]) -> &[u8]
-    ensures { result.now ≡ without_mark line.now }
-{
+    };
     match line {
-        [b'<' | b'>', b' ', rest @ ..] => rest,
-        [b'<' | b'>', rest @ ..] => rest,
+        [b'<' | b'>', b' ', rest @ ..] | [b'<' | b'>', rest @ ..] => rest,
         _ => line,
     }
 }
@@ -38,7 +32,7 @@ fn bare_line(input: &[u8]) -> Option<(&[u8], &[u8])>
     ensures shorter { IfSome result (λ cut. length cut.1.now < length input.now) }
 {
     let (line, rest) = first_line(input)?;
-    Some((unmarked(unreturned(line)), rest))
+    Some((bare(line), rest))
 }
 
 /// Returns `true` if a line begins with a label, ignoring ASCII case.
@@ -53,6 +47,16 @@ fn is_indented(line: &[u8]) -> bool
     ensures { result ≡ is_indented line.now }
 {
     begins(b"  http/", line)
+}
+
+/// Returns a line as it is added to a head. If the head is indented, removes two spaces from the start of the line, if it has them.
+fn in_head<'a>(head: &[&[u8]], line: &'a [u8]) -> &'a [u8]
+    ensures { result.now ≡ in_head (map (λ line. line.now) head.now) line.now }
+{
+    match head {
+        [first, ..] if begins(b"  ", line) && is_indented(first) => &line[2..],
+        _ => line,
+    }
 }
 
 /// Returns a head that has only this line, or `None` if the line doesn't begin a head. The line comes after another head.
@@ -84,63 +88,23 @@ pub(crate) fn heads_of(
             open = begun(alloc, line)?;
             continue;
         };
-        if line.is_empty() {
-            if is_cut && bare_line(more).is_none() {
-                return Ok(heads);
-            }
-            heads.push(unindented(alloc, head)?)?;
-            open = None;
+        if !line.is_empty() && (head.is_empty() || !is_indented(line)) {
+            head.push(in_head(&head, line))?;
+            open = Some(head);
             continue;
         }
-        if is_indented(line) && !head.is_empty() {
-            heads.push(unindented(alloc, head)?)?;
-            open = begun(alloc, line)?;
-            continue;
+        if is_cut && line.is_empty() && bare_line(more).is_none() {
+            return Ok(heads);
         }
-        head.push(line)?;
-        open = Some(head);
+        heads.push(head)?;
+        open = begun(alloc, line)?;
     }
     if let Some(head) = open
         && !is_cut
     {
-        heads.push(unindented(alloc, head)?)?;
+        heads.push(head)?;
     }
     Ok(heads)
-}
-
-/// Returns a line without the two spaces at its start, if it has them.
-fn without_indent(line: &[u8]) -> &[u8]
-    ensures { result.now ≡ without_indent line.now }
-{
-    if begins(b"  ", line) {
-        &line[2..]
-    } else {
-        line
-    }
-}
-
-/// Returns `true` if a head is indented.
-fn has_indent(head: &[&[u8]]) -> bool
-    ensures { result ≡ has_indent (map (λ line. line.now) head.now) }
-{
-    match head {
-        [first, ..] => is_indented(first),
-        [] => false,
-    }
-}
-
-/// Returns the lines of a head. If the head is indented, removes two spaces from the start of each line that has them.
-fn unindented(alloc: Global, head: Vec<&[u8]>) -> Result<Vec<&[u8]>, AllocError>
-    ensures { IfOk result (λ lines. lines_now lines ≡ unindented (lines_now head.entry)) }
-{
-    if !has_indent(&head) {
-        return Ok(head);
-    }
-    let mut lines = Vec::with_capacity(alloc, head.len())?;
-    for line in &head {
-        lines.push(without_indent(line))?;
-    }
-    Ok(lines)
 }
 
 /// Returns `true` if a line continues the field before it.
@@ -182,14 +146,14 @@ pub(crate) fn values_of(
     Ok(values)
 }
 
-/// Returns the title of a head: its first line that isn't a remark of curl, which begins with `*`. Returns an empty title if there is no
-/// such line.
+/// Returns the title of a head: its first line that isn't a remark of curl, which begins with `*`, without the two spaces that indent it.
+/// Returns an empty title if there is no such line.
 pub(crate) fn title_of<'a>(head: &[&'a [u8]]) -> &'a [u8]
     ensures { result.now ≡ title_of (map (λ line. line.now) head.now) }
 {
     for line in head {
         if !begins(b"*", line) {
-            return line;
+            return if is_indented(line) { &line[2..] } else { line };
         }
     }
     &[]
@@ -199,9 +163,5 @@ pub(crate) fn title_of<'a>(head: &[&'a [u8]]) -> &'a [u8]
 pub(crate) fn is_spaced(name: &[u8], line: &[u8]) -> bool
     ensures { result ≡ is_spaced name.now line.now }
 {
-    if !begins(name, line) {
-        return false;
-    }
-    let rest = &line[name.len()..];
-    goes_on(rest) && begins(b":", trimmed(rest))
+    begins(name, line) && goes_on(&line[name.len()..]) && begins(b":", trimmed(&line[name.len()..]))
 }
