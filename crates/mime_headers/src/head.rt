@@ -4,7 +4,7 @@ ghost use Rattle.std.specs.Prelude.{◌≡◌, ◌<◌, ◌∷◌, ◌++◌, [],
 ghost use Rattle.std.specs.Str.Lines.{strip_carriage_return};
 ghost use Rattle.std.specs.Vec.{vec_items};
 ghost use Rattle.mime_http.specs.HttpList.{trimmed};
-ghost use Rattle.mime_headers.specs.Head.{without_mark, bare_lines, is_indented, in_head, begun, heads_of, title_of, is_spaced, goes_on, continued, begins, values_of};
+ghost use Rattle.mime_headers.specs.Head.{without_mark, bare_lines, is_indented, in_head, heads_of, title_of, is_spaced, goes_on, continued, begins, values_of};
 ghost use Rattle.mime_headers.specs.Inner.{lines_now};
 
 use mime_http::trimmed;
@@ -59,18 +59,6 @@ fn in_head<'a>(head: &[&[u8]], line: &'a [u8]) -> &'a [u8]
     }
 }
 
-/// Returns a head that has only this line, or `None` if the line doesn't begin a head. The line comes after another head.
-fn begun(alloc: Global, line: &[u8]) -> Result<Option<Vec<&[u8]>>, AllocError>
-    ensures { IfOk result (λ head. option_map lines_now head ≡ begun line.now) }
-{
-    if !begins(b"http/", line) && !is_indented(line) {
-        return Ok(None);
-    }
-    let mut head = Vec::new(alloc);
-    head.push(line)?;
-    Ok(Some(head))
-}
-
 /// Returns the heads of an input. In an input that is cut off, a head counts only if something follows it.
 pub(crate) fn heads_of(
     alloc: Global,
@@ -84,20 +72,23 @@ pub(crate) fn heads_of(
     let mut rest = input;
     while let Some((line, more)) = bare_line(rest) {
         rest = more;
-        let Some(mut head) = open else {
-            open = begun(alloc, line)?;
-            continue;
-        };
-        if !line.is_empty() && (head.is_empty() || !is_indented(line)) {
-            head.push(in_head(&head, line))?;
+        if let Some(mut head) = open {
+            if !line.is_empty() && (head.is_empty() || !is_indented(line)) {
+                head.push(in_head(&head, line))?;
+                open = Some(head);
+                continue;
+            }
+            if is_cut && line.is_empty() && bare_line(more).is_none() {
+                return Ok(heads);
+            }
+            heads.push(head)?;
+        }
+        open = None;
+        if begins(b"http/", line) || is_indented(line) {
+            let mut head = Vec::new(alloc);
+            head.push(line)?;
             open = Some(head);
-            continue;
         }
-        if is_cut && line.is_empty() && bare_line(more).is_none() {
-            return Ok(heads);
-        }
-        heads.push(head)?;
-        open = begun(alloc, line)?;
     }
     if let Some(head) = open
         && !is_cut
