@@ -1,6 +1,6 @@
 -- Heads, rows and verdicts for which each definition is true, and others for which it is false, so that a page that says less or more
 -- doesn't check.
-use Rattle.mime_headers.proofs.Common.{AreOffers, BadOffer, Bool, Err, Fault, FieldError, Global, Invalid, InvalidToken, IsHttpMediaType, IsRead, List, MediaType, MissingSubtype, None, NotUtf8, Ok, Some, String, Verdict, [], a_word, bad_word, bare_lines, begins, best_of, best_row, codes, continued, control_len, count_row, cut_row, decimal, false, fault_place, fault_rows, flat_map, goes_on, heads_of, is_acceptable, is_cut, lacking_at, length, map, media_rows, no_memory, no_word, none_lines, none_row, offer_rows, place_text, range_row, refl, shown, spaced_row, string_bytes, title_row, trimmed, true, values_of, verdict_of, weight_text, with_entry, without_controls, without_mark, ℕ, ◌++◌, ◌∷◌, ◌≡◌, ◌≢◌}
+use Rattle.mime_headers.proofs.Common.{AreOffers, Bool, Err, FieldError, Global, Invalid, InvalidToken, IsHttpMediaType, IsRead, List, MediaType, MissingSubtype, None, NotUtf8, Ok, Some, String, Verdict, [], a_word, bad_word, bare_lines, begins, best_of, best_row, codes, continued, control_len, count_row, cut_row, decimal, false, fault_place, fault_rows, flat_map, goes_on, heads_of, is_acceptable, is_cut, lacking_at, length, map, media_rows, no_word, none_lines, none_row, offer_rows, place_text, range_row, refl, shown, spaced_row, string_bytes, title_row, trimmed, true, values_of, verdict_of, weight_text, with_entry, without_controls, without_mark, ℕ, ◌++◌, ◌∷◌, ◌≡◌, ◌≢◌}
 
 -- white space before and after, which a form feed and a carriage return aren't; a mark with its space, alone, and no mark
 bare :
@@ -24,13 +24,13 @@ first_heads :
     ∷ (codes "a:| |\r|\t|" ++ 12 ∷ codes "|b: |\n") ∷ []
 first_heads = refl
 
--- one that is indented loses two spaces of each line, and ends before the next one; after an empty line others are passed over until one that
--- begins with `HTTP/`, or with two spaces and `HTTP/`, as one in a head may, too;
+-- one that is indented loses two spaces of each line but the first, and ends before the next one; after an empty line others are passed over
+-- until one that begins with `HTTP/`, or with two spaces and `HTTP/`, as one in a head may, too;
 next_heads :
     heads false (codes "  http/1\n  a: b\n   c\n d\n \n  HTTP/2\n" ∷ codes " HTTP/1\n  a: b\n" ∷ codes "> a:\n>\n* b\n< HTTP/1.1 200\r\n<\n"
     ∷ codes "a:\n\nb\n  HTTP/1.1 200\n  c:\n" ∷ codes "  HTTP/1.0 302\n  HTTP/1.1 200\n" ∷ codes "a:\nHTTP/1.1 200\n" ∷ codes "\nHTTP 1\n X\n HTTP/1" ∷ [])
-    ≡ codes "http/1|a: b| c| d| |\nHTTP/2|\n" ∷ codes " HTTP/1|  a: b|\n" ∷ codes "a:|\nHTTP/1.1 200|\n"
-    ∷ codes "a:|\nHTTP/1.1 200|c:|\n" ∷ codes "HTTP/1.0 302|\nHTTP/1.1 200|\n" ∷ codes "a:|HTTP/1.1 200|\n" ∷ codes "\n" ∷ []
+    ≡ codes "  http/1|a: b| c| d| |\n  HTTP/2|\n" ∷ codes " HTTP/1|  a: b|\n" ∷ codes "a:|\nHTTP/1.1 200|\n"
+    ∷ codes "a:|\n  HTTP/1.1 200|c:|\n" ∷ codes "  HTTP/1.0 302|\n  HTTP/1.1 200|\n" ∷ codes "a:|HTTP/1.1 200|\n" ∷ codes "\n" ∷ []
 next_heads = refl
 
 -- and in an input that is cut off a head counts only if something follows its end
@@ -97,8 +97,8 @@ rows_of_heads :
     × (map count_row ([] ∷ ([] ∷ []) ∷ ([] ∷ [] ∷ []) ∷ []) ≡ codes "no Content-Type\n" ∷ [] ∷ codes "several Content-Type lines (HTTP allows one)\n" ∷ [])
     × (cut_row true ≡ codes "not read after 1048576 bytes\n") × (cut_row false ≡ [])
     × (title_row true (codes "* a" ∷ codes "GET /\t" ∷ codes "b: c" ∷ []) ≡ codes "head GET /.\n") × (title_row true [] ≡ codes "head \n")
-    × (title_row false (codes "a" ∷ []) ≡ [])
-rows_of_heads = (refl, refl, refl, refl, refl, refl, refl, refl, refl, refl)
+    × (title_row true (codes "  HTTP/1" ∷ []) ≡ codes "head HTTP/1\n") × (title_row false (codes "a" ∷ []) ≡ [])
+rows_of_heads = (refl, refl, refl, refl, refl, refl, refl, refl, refl, refl, refl)
 
 -- a line with white space before its colon, and others
 spaced :
@@ -160,11 +160,10 @@ no_offer_of_a_fault word words offers all isnt (a_word reads others) = isnt (_, 
 
 -- but is refused by its fault, after one that is
 refused_words : (word : List ℕ) (offer : MediaType) (other : String Global) (error : FieldError) → IsRead word (Ok offer)
-    → IsRead (string_bytes other) (Err error) → AreOffers (word ∷ string_bytes other ∷ []) [] (Err (Fault other error))
-refused_words word offer other error reads is = a_word reads (bad_word other error is)
+    → IsRead (string_bytes other) (Err error) → AreOffers (word ∷ string_bytes other ∷ []) [] (Err (other, error))
+refused_words word offer other error reads is = a_word reads (bad_word other error (λ _. is.1))
 
 -- no words aren't refused, for want of memory neither
-some_refused : (words : List (List ℕ)) (offers : List MediaType) (error : BadOffer) → AreOffers words offers (Err error) → words ≢ []
+some_refused : (words : List (List ℕ)) (offers : List MediaType) (error : String Global × FieldError) → AreOffers words offers (Err error) → words ≢ []
 some_refused words offers error (a_word reads rest) none = absurd (cc)
 some_refused words offers error (bad_word word fault is) none = absurd (cc)
-some_refused words offers error no_memory none = absurd (cc)

@@ -7,7 +7,6 @@ ghost use Rattle.std.specs.Process.{exit_status};
 
 mod head;
 mod offers;
-mod output;
 mod program;
 mod report;
 mod shown;
@@ -15,22 +14,54 @@ mod shown;
 mod tests;
 mod verdict;
 
-use crate::offers::{BadOffer, read_offers};
-use crate::output::Output;
+use crate::offers::read_offers;
 pub use crate::program::run;
 pub use crate::verdict::Verdict;
+use mime_http::FieldError;
 use mime_io::{Device, RunError};
+use std::io::{Stdout, Write};
 use std::process::ExitCode;
-use std::{env, io};
+use std::{env, fmt, io};
+
+/// Standard output, which may be a closed pipe.
+#[derive(Drop)]
+struct Output {
+    inner: Stdout,
+    /// Whether the last failed write was one to a closed pipe.
+    is_closed: bool,
+}
+
+impl Write for Output {
+    fn write(&mut self, buf: &[u8]) -> io::Result<usize> {
+        let answer = self.inner.write(buf);
+        if let Err(error) = &answer {
+            self.is_closed = error.kind() == io::ErrorKind::BrokenPipe;
+        }
+        answer
+    }
+
+    fn flush(&mut self) -> io::Result<()> {
+        self.inner.flush()
+    }
+}
 
 fn main(rt: HostRuntime) -> ExitCode {
     let arguments = match env::args(&rt) {
         Ok(arguments) => arguments,
-        Err(error) => return unread(&rt, error),
+        Err(error) if error.kind() == io::ErrorKind::InvalidData => {
+            return stopped(&rt, &"an offer isn't UTF-8");
+        }
+        Err(_) => return stopped(&rt, &RunError::NoMemory),
     };
     let offers = match read_offers(rt.alloc(), arguments) {
         Ok(offers) => offers,
-        Err(error) => return refused(&rt, error),
+        Err((_, FieldError::NoMemory)) => return stopped(&rt, &RunError::NoMemory),
+        Err((word, error)) => {
+            return stopped(
+                &rt,
+                &format_args!("bad offer {word}: {error}\nusage: mime_headers [OFFER..]"),
+            );
+        }
     };
     let mut input = Device {
         inner: rt.stdin(),
@@ -44,13 +75,11 @@ fn main(rt: HostRuntime) -> ExitCode {
         failed: false,
     };
     match run(rt.alloc(), &mut input, &mut output, &offers) {
-        Err(RunError::Write) if output.inner.is_closed => ExitCode::from(CLOSED),
+        // As a shell reports a program that wrote to a closed pipe.
+        Err(RunError::Write) if output.inner.is_closed => ExitCode::from(141),
         outcome => status(&rt, outcome),
     }
 }
-
-/// The exit status of a program that wrote to a closed pipe, as a shell reports it.
-const CLOSED: u8 = 141;
 
 /// Returns the exit status of a run. If the run failed, prints its error on standard error.
 fn status(rt: &impl Eprint, outcome: Result<Verdict, RunError>) -> ExitCode
@@ -61,34 +90,14 @@ fn status(rt: &impl Eprint, outcome: Result<Verdict, RunError>) -> ExitCode
     match outcome {
         Ok(Verdict::Acceptable) => ExitCode::SUCCESS,
         Ok(Verdict::NotAcceptable) => ExitCode::FAILURE,
-        Err(error) => {
-            let _ = eprintln!(rt; "mime_headers: {error}");
-            ExitCode::from(2)
-        }
+        Err(error) => stopped(rt, &error),
     }
 }
 
-/// Prints on standard error why the arguments can't be read, and returns the exit status.
-fn unread(rt: &impl Eprint, error: io::Error) -> ExitCode
+/// Prints on standard error why the program stops, and returns the exit status.
+fn stopped(rt: &impl Eprint, reason: &impl fmt::Display) -> ExitCode
     ensures { exit_status result ≡ 2 }
 {
-    if error.kind() == io::ErrorKind::InvalidData {
-        let _ = eprintln!(rt; "mime_headers: an offer isn't UTF-8");
-        return ExitCode::from(2);
-    }
-    status(rt, Err(RunError::NoMemory))
-}
-
-/// Prints on standard error why the arguments aren't offers, and returns the exit status.
-fn refused(rt: &impl Eprint, error: BadOffer) -> ExitCode
-    ensures { exit_status result ≡ 2 }
-{
-    match error {
-        BadOffer::NoMemory => status(rt, Err(RunError::NoMemory)),
-        BadOffer::Fault(word, fault) => {
-            let _ = eprintln!(rt; "mime_headers: bad offer {word}: {fault}");
-            let _ = eprintln!(rt; "usage: mime_headers [OFFER..]");
-            ExitCode::from(2)
-        }
-    }
+    let _ = eprintln!(rt; "mime_headers: {reason}");
+    ExitCode::from(2)
 }

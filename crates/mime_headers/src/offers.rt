@@ -10,17 +10,14 @@ use mime_http::{FieldError, content_type};
 use std::alloc::Global;
 use std::env::Args;
 
-/// The reason why the offers can't be read.
-#[derive(Drop)]
-pub(crate) enum BadOffer {
-    /// Memory ran out.
-    NoMemory,
-    /// An argument isn't a media type. Holds the first such argument, and its fault.
-    Fault(String, FieldError),
-}
-
 /// Returns the offers that the arguments name, each a media type as in a header. Skips the first argument, the program's name.
-pub(crate) fn read_offers(alloc: Global, mut arguments: Args) -> Result<Vec<Mime>, BadOffer>
+///
+/// # Errors
+/// Returns the first argument that isn't a media type, and its fault. If memory runs out, returns `NoMemory` in place of a fault.
+pub(crate) fn read_offers(
+    alloc: Global,
+    mut arguments: Args,
+) -> Result<Vec<Mime>, (String, FieldError)>
     ensures { MatchResult result
         (λ offers. AreOffers (map string_bytes (drop 1 (take (into_iter_len arguments) (into_iter_items arguments)))) []
         (Ok (map (λ offer. offer.media) (vec_items offers))))
@@ -31,11 +28,10 @@ pub(crate) fn read_offers(alloc: Global, mut arguments: Args) -> Result<Vec<Mime
     while let Some(word) = arguments.next() {
         let offer = match content_type(alloc, word.as_bytes()) {
             Ok(offer) => offer,
-            Err(FieldError::NoMemory) => return Err(BadOffer::NoMemory),
-            Err(error) => return Err(BadOffer::Fault(word, error)),
+            Err(error) => return Err((word, error)),
         };
         let Ok(()) = offers.push(offer) else {
-            return Err(BadOffer::NoMemory);
+            return Err((word, FieldError::NoMemory));
         };
     }
     Ok(offers)

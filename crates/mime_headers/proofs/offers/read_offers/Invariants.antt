@@ -1,10 +1,10 @@
 -- The answer to the words that are left is the answer to all.
-use Rattle.mime_headers.proofs.Common.{AreOffers, BadOffer, List, MediaType, Result, [], drop, into_iter_items, into_iter_len, map, string_bytes, take, vec_items}
+use Rattle.mime_headers.proofs.Common.{AreOffers, FieldError, Global, List, MediaType, Result, String, [], drop, into_iter_items, into_iter_len, map, string_bytes, take, vec_items}
 use Rattle.mime_headers.proofs.offers.read_offers.Given as goal
 
 abbrev pub invariant-loop-word : goal.invariant-loop-word
 invariant-loop-word l =
-    (all : Result (List MediaType) BadOffer)
+    (all : Result (List MediaType) (String Global × FieldError))
     → AreOffers (map string_bytes (take (into_iter_len l.arguments) (into_iter_items l.arguments))) (map (λ offer. offer.media) (vec_items l.offers)) all
     → AreOffers (map string_bytes (drop 1 (take (into_iter_len l.fn.arguments) (into_iter_items l.fn.arguments)))) [] all
 

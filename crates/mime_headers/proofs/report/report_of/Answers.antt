@@ -1,26 +1,23 @@
 -- The next head is added.
-use Rattle.mime_headers.proofs.Common.{AddsHead, Bool, List, Some, [], ap, append-nil, arith, bare_lines, false, heads_from, heads_of, if◌then◌else◌, is_indented, length, length-map, lines_now, map, nat_lt, nil_from_length, not, refl, rules, state_of, take_all, tests, true, unindented, vec_items, ℕ, ◌&&◌, ◌++◌, ◌<◌, ◌==◌, ◌∙◌, ◌∷◌, ◌≡◌, ◌≢◌, ◌≤◌}
+use Rattle.mime_headers.proofs.Common.{AddsHead, Bool, List, Some, [], ap, append-nil, arith, bare_lines, false, heads_from, heads_of, if◌then◌else◌, in_head, is_indented, length, length-map, lines_now, map, nat_lt, nil_from_length, not, refl, rules, state_of, take_all, tests, true, vec_items, ℕ, ◌&&◌, ◌++◌, ◌<◌, ◌==◌, ◌||◌, ◌∙◌, ◌∷◌, ◌≡◌, ◌≢◌, ◌≤◌}
 use Rattle.mime_headers.proofs.Rows.{folds-next}
 use Rattle.mime_headers.proofs.report.report_of.Goals as goal
 
 -- heads with a head before them are some
-one_of : {X : Type 0} (is_end begins : Bool) (head : X) (heads others more : List X) → more ≢ []
-    → (if is_end then head ∷ heads else if begins then head ∷ others else more) ≢ []
-one_of true begins head heads others more some none = absurd (cc)
-one_of false true head heads others more some none = absurd (cc)
-one_of false false head heads others more some none = some none
+one_of : {X : Type 0} (is_in : Bool) (head : X) (heads more : List X) → more ≢ [] → (if is_in then more else head ∷ heads) ≢ []
+one_of true head heads more some none = some none
+one_of false head heads more some none = absurd (cc)
 
 -- lines of an input that isn't cut off have a head
 some_head : (head lines : List (List ℕ)) → heads_from false (Some head) lines ≢ []
 some_head head [] none = absurd (cc)
 some_head head (line ∷ lines) none =
-    one_of (length line == 0) (is_indented line && not (length head == 0)) head _ _ _ (some_head (head ++ (line ∷ [])) lines) none
+    one_of (not (length line == 0) && (length head == 0 || not (is_indented line))) head _ _ (some_head (head ++ (in_head head line ∷ [])) lines) none
 
 -- so an input that has none is cut off
 none_cut : (cut : Bool) (lines : List (List ℕ)) → heads_of cut lines ≡ [] → (cut ≡ true) × (heads_of true lines ≡ [])
 none_cut true lines none = (refl, none)
-none_cut false lines none =
-    absurd (some_head [] lines (nil_from_length _ (omega (arith, length-map (heads_from false (Some []) lines) unindented, ap length none))))
+none_cut false lines none = absurd (some_head [] lines none)
 
 pub returns-then-is_empty : goal.returns-then-is_empty
 returns-then-is_empty c =
