@@ -1,5 +1,5 @@
 -- The rows of a report, as the code adds them one by one.
-use Rattle.mime_headers.proofs.Common.{AddsChoice, AddsEntry, AddsLines, BeginsPiece, Bor, FieldError, FoldsTo, FoldsTo-push, IsChoice, IsPiece, IsRead, Item, List, MatchOption, MediaType, None, Option, Result, Some, State, [], ap, append-nil, arith, begins_control, comma, control_len, false, flat_map, get_or, items_of, length, line_end, list_any, map, map-append, nat_tests, or_parts, param_row, refl, subst, sym, take, take_more, trimmed, with_entry, without_controls, ℕ, ◌++◌, ◌+◌, ◌<◌, ◌∙◌, ◌∷◌, ◌≡◌}
+use Rattle.mime_headers.proofs.Common.{AddsChoice, AddsEntry, AddsLines, BeginsPiece, Bor, FieldError, FoldsTo, FoldsTo-push, IsChoice, IsPiece, IsRead, Item, List, MatchOption, MediaType, None, Option, Result, Some, State, [], ap, append-nil, arith, comma, flat_map, get_or, items_of, length, line_end, map, map-append, param_row, refl, subst, sym, take, take_more, trimmed, with_entry, ℕ, ◌++◌, ◌+◌, ◌<◌, ◌∙◌, ◌∷◌, ◌≡◌}
 
 -- ---- a loop that adds something for each item
 
@@ -68,18 +68,3 @@ pub adds_choice : (offers : List MediaType) (lines : List (List ℕ)) (old new :
     → AddsChoice offers lines old new
 adds_choice offers [] old new some is = absurd (omega arith)
 adds_choice offers (line ∷ lines) old new some is = is
-
--- ---- control characters
-
--- no control character begins with another byte
-none_begins : (b : ℕ) (bytes : List ℕ) → begins_control b ≡ false → control_len (b ∷ bytes) ≡ 0
-none_begins b [] other = grind (arith, nat_tests, other)
-none_begins b (c ∷ []) other = grind (arith, nat_tests, other)
-none_begins b (c ∷ d ∷ bytes) other = grind (arith, nat_tests, other)
-
--- so bytes without one are shown as they are
-pub none_shown : (bytes : List ℕ) → list_any begins_control bytes ≡ false → bytes ≡ without_controls bytes
-none_shown [] none = refl
-none_shown (b ∷ bytes) none =
-    let parts = or_parts (begins_control b) (list_any begins_control bytes) none in
-    rw (none_begins b bytes parts.0) (ap (λ bytes. b ∷ bytes) (none_shown bytes parts.1))

@@ -1,7 +1,7 @@
 -- What the code says on the way; no contract of another crate names it.
-use Rattle.std.specs.Prelude.{ℕ, Bool, List, Vec, map, vec_items, ◌==◌, ◌||◌}
+use Rattle.std.specs.Prelude.{ℕ, List, Vec, map, vec_items}
 use Rattle.std.specs.{Borrow.Bor, Global.Global}
-use Rattle.mime_headers.specs.{Report.State, Shown.is_ascii_control, declared.report.Report.Report}
+use Rattle.mime_headers.specs.{Report.State, declared.report.Report.Report}
 
 -- the lines that are listed
 abbrev pub lines_now : Vec (Bor (List ℕ)) Global → List (List ℕ)
@@ -10,7 +10,3 @@ lines_now lines = map (λ line. line.now) (vec_items lines)
 -- the state that a report shows
 abbrev pub state_of : Report → State
 state_of report = record { text = vec_items report.text; are_good = report.are_good; choice = report.choice }
-
--- a control character may begin with this byte
-abbrev pub begins_control : ℕ → Bool
-begins_control b = is_ascii_control b || (b == 194 || b == 226)

@@ -1,9 +1,7 @@
 //! The report without control characters, as a terminal can print it.
 
 ghost use Rattle.std.specs.Prelude.{◌≡◌, IfOk};
-ghost use Rattle.std.specs.List.{list_any};
 ghost use Rattle.std.specs.Vec.{vec_items};
-ghost use Rattle.mime_headers.specs.Inner.{begins_control};
 ghost use Rattle.mime_headers.specs.Shown.{control_len, without_controls};
 
 use std::alloc::{AllocError, Global};
@@ -22,24 +20,16 @@ fn control_len(bytes: &[u8]) -> usize
     }
 }
 
-/// Returns `true` if some of these bytes may begin a control character. The loop has no early exit, so that several bytes are tested at a
-/// time.
-fn may_have_controls(bytes: &[u8]) -> bool
-    ensures { result ≡ list_any begins_control bytes.now }
-{
-    let mut found = false;
-    for byte in bytes {
-        found |= (*byte < 32 && *byte != b'\n') || *byte == 127 || *byte == 0xC2 || *byte == 0xE2;
-    }
-    found
-}
-
 /// Returns bytes with a dot in place of each control character.
 pub(crate) fn without_controls(alloc: Global, bytes: Vec<u8>) -> Result<Vec<u8>, AllocError>
     ensures { IfOk result (λ text. vec_items text ≡ without_controls (vec_items bytes)) }
 {
-    // Most reports have no control character.
-    if !may_have_controls(&bytes) {
+    // Most reports have no byte that may begin a control character. The loop has no early exit, so that several bytes are tested at a time.
+    let mut found = false;
+    for byte in &bytes {
+        found |= (*byte < 32 && *byte != b'\n') || *byte == 127 || *byte == 0xC2 || *byte == 0xE2;
+    }
+    if !found {
         return Ok(bytes);
     }
     let mut text = Vec::new(alloc);
