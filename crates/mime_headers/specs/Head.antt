@@ -41,7 +41,8 @@ heads_from cut None [] = []
 heads_from cut None (line ∷ lines) = heads_from cut (begun line) lines
 heads_from cut (Some head) [] = if cut then [] else head ∷ []
 heads_from cut (Some head) (line ∷ lines) =
-    if not (length line == 0) && (length head == 0 || not (is_indented line)) then heads_from cut (Some (head ++ (in_head head line ∷ []))) lines else
+    if not (length line == 0) && (length head == 0 || not (is_indented line))
+    then heads_from cut (Some (head ++ (in_head head line ∷ []))) lines else
     if cut && (length line == 0 && length lines == 0) then [] else head ∷ heads_from cut (begun line) lines
 
 abbrev pub heads_of : Bool → List (List ℕ) → List (List (List ℕ))

@@ -27,16 +27,14 @@ use std::{env, fmt, io};
 #[derive(Drop)]
 struct Output {
     inner: Stdout,
-    /// Whether the last failed write was one to a closed pipe.
+    /// Whether the last write was one to a closed pipe.
     is_closed: bool,
 }
 
 impl Write for Output {
     fn write(&mut self, buf: &[u8]) -> io::Result<usize> {
         let answer = self.inner.write(buf);
-        if let Err(error) = &answer {
-            self.is_closed = error.kind() == io::ErrorKind::BrokenPipe;
-        }
+        self.is_closed = matches!(&answer, Err(error) if error.kind() == io::ErrorKind::BrokenPipe);
         answer
     }
 
@@ -63,21 +61,23 @@ fn main(rt: HostRuntime) -> ExitCode {
             );
         }
     };
-    let mut input = Device {
-        inner: rt.stdin(),
-        failed: false,
-    };
-    let mut output = Device {
-        inner: Output {
-            inner: rt.stdout(),
-            is_closed: false,
-        },
-        failed: false,
-    };
+    let mut input = device(rt.stdin());
+    let mut output = device(Output {
+        inner: rt.stdout(),
+        is_closed: false,
+    });
     match run(rt.alloc(), &mut input, &mut output, &offers) {
         // As a shell reports a program that wrote to a closed pipe.
         Err(RunError::Write) if output.inner.is_closed => ExitCode::from(141),
         outcome => status(&rt, outcome),
+    }
+}
+
+/// Returns a device over a reader or a writer.
+fn device<T>(inner: T) -> Device<T> {
+    Device {
+        inner,
+        failed: false,
     }
 }
 

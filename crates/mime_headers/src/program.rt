@@ -10,7 +10,7 @@ use crate::report::report_of;
 use crate::verdict::Verdict;
 use mime::Mime;
 use mime_io::{LIMIT, RunError, Sink, Source, read_past_limit, write_report};
-use std::alloc::Global;
+use std::alloc::{AllocError, Global};
 
 /// Reads a source to its end, or to one byte past the limit. Then writes the report on the source's heads and on the offers to a sink, and
 /// returns the verdict.
@@ -45,11 +45,10 @@ pub fn run<S: Source, T: Sink>(
 {
     let input = read_past_limit(alloc, source)?;
     let is_cut = input.len() > LIMIT;
-    let Ok(answer) = report_of(alloc, input.as_slice(), is_cut, offers) else {
-        return Err(RunError::NoMemory);
-    };
-    let Some((report, verdict)) = answer else {
-        return Err(RunError::TooLong);
+    let (report, verdict) = match report_of(alloc, input.as_slice(), is_cut, offers) {
+        Ok(Some(answer)) => answer,
+        Ok(None) => return Err(RunError::TooLong),
+        Err(AllocError) => return Err(RunError::NoMemory),
     };
     write_report(sink, report.as_slice())?;
     Ok(verdict)
