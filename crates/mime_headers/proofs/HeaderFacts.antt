@@ -1,6 +1,6 @@
 -- Heads, rows and verdicts for which each definition is true, and others for which it is false, so that a page that says less or more
 -- doesn't check.
-use Rattle.mime_headers.proofs.Common.{AreOffers, Bool, Err, FieldError, Global, Invalid, InvalidToken, IsHttpMediaType, IsRead, List, MediaType, MissingSubtype, None, NotUtf8, Ok, Some, String, Verdict, [], a_word, bad_word, bare_lines, begins, best_of, best_row, codes, continued, control_len, count_row, cut_row, decimal, false, fault_place, fault_rows, flat_map, goes_on, heads_of, is_acceptable, is_cut, lacking_at, length, map, media_rows, no_word, none_lines, none_row, offer_rows, place_text, range_row, refl, shown, spaced_row, string_bytes, title_row, trimmed, true, values_of, verdict_of, weight_text, with_entry, without_controls, without_mark, ℕ, ◌++◌, ◌∷◌, ◌≡◌, ◌≢◌}
+use Rattle.mime_headers.proofs.Common.{AreOffers, Bool, Err, FieldError, Global, Invalid, InvalidToken, IsHttpMediaType, IsRead, List, MediaType, MissingSubtype, None, NotUtf8, Ok, Some, String, Verdict, [], a_word, bad_word, bare_lines, begins, best_row, codes, continued, control_len, count_row, cut_row, decimal, false, fault_place, fault_rows, flat_map, goes_on, heads_of, is_cut, lacking_at, length, map, media_rows, missing, no_word, offer_rows, place_text, range_row, refl, shown, spaced_row, string_bytes, title_row, trimmed, true, values_of, verdict_of, weight_text, with_entry, without_controls, without_mark, ℕ, ◌++◌, ◌∷◌, ◌≡◌, ◌≢◌}
 
 -- white space before and after, which a form feed and a carriage return aren't; a mark with its space, alone, and no mark
 bare :
@@ -93,12 +93,12 @@ faults = (refl, refl, refl)
 
 -- a field that isn't there, and one that is; an input that is cut off; and the title of a head among many
 rows_of_heads :
-    (none_row None ≡ codes "no Accept\n") × (none_row (Some true) ≡ []) × (none_lines None ≡ codes "*/*" ∷ []) × (none_lines (Some false) ≡ [])
+    (missing None ≡ (codes "no Accept\n", codes "*/*" ∷ [])) × (missing (Some false) ≡ ([], []))
     × (map count_row ([] ∷ ([] ∷ []) ∷ ([] ∷ [] ∷ []) ∷ []) ≡ codes "no Content-Type\n" ∷ [] ∷ codes "several Content-Type lines (HTTP allows one)\n" ∷ [])
     × (cut_row true ≡ codes "not read after 1048576 bytes\n") × (cut_row false ≡ [])
     × (title_row true (codes "* a" ∷ codes "GET /\t" ∷ codes "b: c" ∷ []) ≡ codes "head GET /.\n") × (title_row true [] ≡ codes "head \n")
     × (title_row true (codes "  HTTP/1" ∷ []) ≡ codes "head HTTP/1\n") × (title_row false (codes "a" ∷ []) ≡ [])
-rows_of_heads = (refl, refl, refl, refl, refl, refl, refl, refl, refl, refl, refl)
+rows_of_heads = (refl, refl, refl, refl, refl, refl, refl, refl, refl)
 
 -- a line with white space before its colon, and others
 spaced :
@@ -140,13 +140,12 @@ rows_of_offers = refl
 
 -- the best offer, none that is acceptable, and none at all; the verdict is that of all values and of the last choice
 verdicts :
-    (best_of (plain ∷ media ∷ []) (record { offer = 1; weight = 1; range = Some 0 } ∷ []) ≡ Some media)
-    × (best_of (media ∷ []) (record { offer = 0; weight = 0; range = None } ∷ []) ≡ None) × (best_of [] [] ≡ None)
-    × (map (best_row (media ∷ [])) (Some media ∷ None ∷ []) ≡ codes "best a/b+c;p=\"x\\\"y\"\n" ∷ codes "406 Not Acceptable\n" ∷ []) × (best_row [] None ≡ [])
-    × (map (is_acceptable (media ∷ [])) (Some media ∷ None ∷ []) ≡ true ∷ false ∷ []) × (is_acceptable [] None ≡ true)
+    (best_row (plain ∷ media ∷ []) (record { offer = 1; weight = 1; range = Some 0 } ∷ []) ≡ (codes "best a/b+c;p=\"x\\\"y\"\n", true))
+    × (best_row (media ∷ []) (record { offer = 0; weight = 0; range = None } ∷ []) ≡ (codes "406 Not Acceptable\n", false))
+    × (best_row [] [] ≡ ([], true))
     × (map (verdict_of true) (Some true ∷ None ∷ Some false ∷ []) ≡ Verdict.Acceptable ∷ Verdict.Acceptable ∷ Verdict.NotAcceptable ∷ [])
     × (verdict_of false (Some true) ≡ Verdict.NotAcceptable)
-verdicts = (refl, refl, refl, refl, refl, refl, refl, refl, refl)
+verdicts = (refl, refl, refl, refl, refl)
 
 -- each word that is a media type names an offer, in its order
 offers_of_words : (word other : List ℕ) (offer second : MediaType) → IsRead word (Ok offer) → IsRead other (Ok second)

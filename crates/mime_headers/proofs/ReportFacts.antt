@@ -1,5 +1,5 @@
 -- Heads and offers have one report, with one verdict, so that a page that says less doesn't check: if offers have one ranking.
-use Rattle.mime_headers.proofs.Common.{AddsChoice, AddsEntry, AddsHead, AddsLines, AddsReading, AddsType, Bool, Err, FieldError, FoldsTo, HttpExplains, Invalid, IsBoundaryOf, IsHttpMediaType, IsRanking, IsRead, IsReportOf, IsUtf8, List, MatchOption, MediaType, NoMemory, None, NotUtf8, Ok, Option, RankedOffer, Result, Some, State, Verdict, [], ap, ap₂, best_of, best_row, codes, count_row, is_acceptable, map, media_rows, no_fault, none_lines, none_row, offer_rows, one_http_fault, one_printed_text, only_cut, refl, subst, sym, trimmed, utf8_valid_len-IsValidUpTo, values_of, with_entry, ℕ, ◌++◌, ◌∙◌, ◌∷◌, ◌≡◌, ◌≢◌}
+use Rattle.mime_headers.proofs.Common.{AddsChoice, AddsEntry, AddsHead, AddsLines, AddsReading, AddsType, Bool, Err, FieldError, FoldsTo, HasBoundary, HttpExplains, Invalid, IsHttpMediaType, IsRanking, IsRead, IsReportOf, IsUtf8, List, MediaType, NoMemory, None, NotUtf8, Ok, Option, RankedOffer, Result, Some, State, Verdict, [], ap, ap₂, arith, map, media_rows, no_fault, one_http_fault, one_printed_text, only_cut, refl, subst, sym, trimmed, utf8_valid_len-IsValidUpTo, with_entry, ℕ, ◌++◌, ◌∙◌, ◌∷◌, ◌≡◌, ◌≢◌}
 
 -- no value is both a media type and rejected
 not_both : (value : List ℕ) (error : FieldError) → IsUtf8 value → IsHttpMediaType value → error ≢ NoMemory → ¬ (HttpExplains value error)
@@ -27,9 +27,7 @@ one_reading value (Err error) (Ok media) why is = absurd (not_both value error i
 one_reading value (Err error) (Err other) why too = ap Err (one_error value error other why.0 too.0 why.1 too.1)
 
 -- a media type has one boundary or none
-one_boundary : (media : MediaType) (one other : Option (List ℕ))
-    → MatchOption one ((bytes : List ℕ) → ¬ (IsBoundaryOf media bytes)) (IsBoundaryOf media)
-    → MatchOption other ((bytes : List ℕ) → ¬ (IsBoundaryOf media bytes)) (IsBoundaryOf media) → one ≡ other
+one_boundary : (media : MediaType) (one other : Option (List ℕ)) → HasBoundary media one → HasBoundary media other → one ≡ other
 one_boundary media None None none again = refl
 one_boundary media None (Some bytes) none is = absurd (none bytes is)
 one_boundary media (Some bytes) None is none = absurd (none bytes is)
@@ -50,9 +48,11 @@ one_type old value new other (one, is, adds) (two, too, more) =
 -- and so does an entry,
 one_entry : (old : List ℕ × List MediaType) (entry : List ℕ) (new other : List ℕ × List MediaType) → AddsEntry old entry new
     → AddsEntry old entry other → new ≡ other
-one_entry old [] new other adds more = adds ∙ sym more
-one_entry old (b ∷ entry) new other (one, is, adds) (two, too, more) =
-    adds ∙ ap (with_entry old (b ∷ entry)) (one_reading (b ∷ entry) one two is too) ∙ sym more
+one_entry old [] new other one two = one.0 refl ∙ sym (two.0 refl)
+one_entry old (b ∷ entry) new other one two =
+    let adds = one.1 (omega arith) in
+    let more = two.1 (omega arith) in
+    adds.2 ∙ ap (with_entry old (b ∷ entry)) (one_reading (b ∷ entry) adds.0 more.0 adds.1 more.1) ∙ sym more.2
 
 -- items in a row, if each does,
 one_of_all : {P A : Type 0} (R : P → A → P → Type 0) → ((p : P) (x : A) (q r : P) → R p x q → R p x r → q ≡ r) → (p : P) (xs : List A) (q r : P)
@@ -71,34 +71,28 @@ one_of_lines lines old new other one two =
 module _ (one_ranking : (ranges offers : List MediaType) (ranking other : List RankedOffer) → IsRanking ranges offers ranking
     → IsRanking ranges offers other → ranking ≡ other) where
   -- what is chosen under a head,
-  one_choice : (offers : List MediaType) (lines : List (List ℕ)) (old new other : State) → AddsChoice offers lines old new
+  one_choice : (offers : List MediaType) (lines : List (List ℕ)) (old new other : List ℕ × Option Bool) → AddsChoice offers lines old new
       → AddsChoice offers lines old other → new ≡ other
-  one_choice offers [] old new other adds more = adds ∙ sym more
+  one_choice offers [] old new other one two = one.0 refl ∙ sym (two.0 refl)
   one_choice offers (line ∷ lines) old new other one two =
-      let read = one_of_lines (line ∷ lines) (old.text, []) one.read two.read one.are_read two.are_read in
-      let rank = one_ranking two.read.1 offers one.ranking two.ranking
-      (subst (λ ranges. IsRanking ranges offers one.ranking) (ap (λ it. it.1) read) one.is_ranking) two.is_ranking in
-      let state : List ℕ × List MediaType → List RankedOffer → State = λ read ranking. record {
-        text = read.0 ++ (offer_rows read.1 offers ranking ++ best_row offers (best_of offers ranking));
-        are_good = old.are_good;
-        choice = Some (is_acceptable offers (best_of offers ranking));
-      } in
-      one.is_new ∙ ap₂ state read rank ∙ sym two.is_new
+      let adds = one.1 (omega arith) in
+      let more = two.1 (omega arith) in
+      let read = one_of_lines (line ∷ lines) (old.0, []) adds.read more.read adds.are_read more.are_read in
+      let rank = one_ranking more.read.1 offers adds.ranking more.ranking (rw (ap (λ it. it.1) read) at adds.is_ranking) more.is_ranking in
+      cc (adds.is_new, more.is_new, read, rank)
 
   -- a head,
   one_head : (offers : List MediaType) (many : Bool) (old : State) (head : List (List ℕ)) (new other : State) → AddsHead offers many old head new
       → AddsHead offers many old head other → new ≡ other
   one_head offers many old head new other one two =
-      let same = one_of_all AddsType one_type _ _ one.between two.between one.types two.types in
-      one_choice offers _ _ new other
-      (subst (λ it. AddsChoice offers (values_of (codes "accept:") head)
-      (record { text = it.0 ++ count_row (values_of (codes "content-type:") head); are_good = it.1; choice = old.choice }) new) same one.choice) two.choice
+      let same = one_of_all AddsType one_type _ _ _ _ one.types two.types in
+      let last = one_choice offers _ _ _ _ (rw (ap (λ it. it.0) same) at one.choice) two.choice in
+      ap₂ (λ last are_good. record { text = last.0; are_good = are_good; choice = last.1 }) last (ap (λ it. it.1) same)
 
   -- and all heads: bytes and offers have one report, with one verdict
   one_report : (offers : List MediaType) (bytes text other : List ℕ) (verdict another : Verdict) → IsReportOf offers bytes text verdict
       → IsReportOf offers bytes other another → (text ≡ other) × (verdict ≡ another)
   one_report offers bytes text other verdict another one two =
       let heads = one_of_all _ (one_head offers _) _ _ one.state two.state one.adds two.adds in
-      let last = one_choice offers _ _ one.last two.last
-      (subst (λ (it : State). AddsChoice offers (none_lines it.choice) (record it { text = it.text ++ none_row it.choice }) one.last) heads one.chosen) two.chosen in
-      (cc (one.is_text, two.is_text, last), cc (one.is_verdict, two.is_verdict, last))
+      let last = one_choice offers _ _ _ _ (rw heads at one.chosen) two.chosen in
+      (cc (one.is_text, two.is_text, last), cc (one.is_verdict, two.is_verdict, heads, last))

@@ -1,12 +1,8 @@
 -- What the code says on the way; no contract of another crate names it.
 use Rattle.std.specs.Prelude.{ℕ, List, Vec, map, vec_items}
 use Rattle.std.specs.{Borrow.Bor, Global.Global}
-use Rattle.mime_headers.specs.{Report.State, declared.report.Report.Report}
 
 -- the lines that are listed
 abbrev pub lines_now : Vec (Bor (List ℕ)) Global → List (List ℕ)
 lines_now lines = map (λ line. line.now) (vec_items lines)
 
--- the state that a report shows
-abbrev pub state_of : Report → State
-state_of report = record { text = vec_items report.text; are_good = report.are_good; choice = report.choice }

@@ -1,7 +1,7 @@
 -- What the program writes of heads and of offers: of each `Content-Type`, of `Accept`, and of each offer (RFC 9110, 8.3, 12.5.1 and 15.5.7).
-use Rattle.std.specs.Prelude.{◌≡◌, ◌≢◌, ℕ, ◌+◌, ◌/◌, ◌%◌, Bool, true, false, List, [], ◌∷◌, ◌++◌, ◌==◌, ◌||◌, ◌&&◌, Option, Some, None, Result, Ok, Err, MatchOption, is_some, option_map, unwrap_or, position, map, flat_map, length, slice_get, replicate, nat_lt, if◌then◌else◌, codes}
+use Rattle.std.specs.Prelude.{◌≡◌, ◌≢◌, ◌<◌, ℕ, ◌+◌, ◌/◌, ◌%◌, Bool, true, false, List, [], ◌∷◌, ◌++◌, ◌==◌, ◌||◌, ◌&&◌, Option, Some, None, Result, Ok, Err, MatchOption, option_map, unwrap_or, position, map, flat_map, length, slice_get, replicate, nat_lt, if◌then◌else◌, codes}
 use Rattle.std.specs.{Char.is_ascii_graphic, Fmt.decimal, List.FoldsTo, Str.IsUtf8}
-use Rattle.mime.specs.{Values.MediaType, Values.suffix_of, declared.scan.fault.ParseError.ParseError, declared.scan.fault.ParseError.TheVariants.InvalidToken}
+use Rattle.mime.specs.{Values.MediaType, Values.suffix_of, declared.scan.fault.ParseError.TheVariants.InvalidToken}
 use Rattle.mime_http.specs.{Boundary.IsBoundaryOf, HttpFaults.HttpExplains, HttpList.trimmed, HttpList.AreBetweenCommas, HttpList.IsPrinted, HttpList.IsPiece, HttpList.BeginsPiece, HttpMediaType.HttpReads, HttpPrinted.field_error_text, Ranges.weight_of, Ranges.first_value, Ranking.is_qvalue, Ranking.is_lacking, Ranking.IsRanking, Unescaped.unescaped, declared.ranking.RankedOffer.RankedOffer, declared.value.FieldError.FieldError, declared.value.FieldError.TheVariants.NotUtf8, declared.value.FieldError.TheVariants.Invalid, declared.value.FieldError.TheVariants.NoMemory}
 use Rattle.mime_io.specs.{Lines.row, Stops.limit}
 use Rattle.mime_headers.specs.{Head.bare_lines, Head.heads_of, Head.is_spaced, Head.title_of, Head.values_of, Shown.without_controls}
@@ -22,22 +22,15 @@ pub record State : Type 0 where
 -- ---- a rejected value
 
 -- bytes that may be any, as they are shown: a dot for each that isn't printable ASCII
-abbrev pub shown_byte : ℕ → ℕ
-shown_byte b = if b == 32 || is_ascii_graphic b then b else 46
-
 abbrev pub shown : List ℕ → List ℕ
-shown bytes = map shown_byte bytes
+shown bytes = map (λ b. if b == 32 || is_ascii_graphic b then b else 46) bytes
 
 -- the position of the byte at fault, or the value's end if something is missing there; and a word on a comment, which mails have, and HTTP
 -- doesn't
-abbrev pub invalid_place : List ℕ → ParseError → ℕ × List ℕ
-invalid_place value (InvalidToken pos byte) = (pos, if byte == 40 then codes " (HTTP has no comments)" else [])
-invalid_place value fault = (length value, [])
-
 abbrev pub fault_place : List ℕ → FieldError → ℕ × List ℕ
 fault_place value (NotUtf8 pos) = (pos, [])
-fault_place value (Invalid fault) = invalid_place value fault
-fault_place value NoMemory = (length value, [])
+fault_place value (Invalid (InvalidToken pos byte)) = (pos, if byte == 40 then codes " (HTTP has no comments)" else [])
+fault_place value error = (length value, [])
 
 -- the rows of a rejected value of a field: its fault, and the value over a caret at the byte at fault
 abbrev pub fault_rows : List ℕ → List ℕ → FieldError → List ℕ
@@ -62,12 +55,15 @@ media_rows media boundary =
     codes "Content-Type " ++ (media.kept ++ (codes "\nessence " ++ (media.essence ++ (codes "\n"
     ++ (row_if (codes "suffix ") (suffix_of media) ++ (flat_map param_row media.pairs ++ row_if (codes "boundary ") boundary))))))
 
+-- a media type has this boundary, or none
+abbrev pub HasBoundary : MediaType → Option (List ℕ) → Type 0
+HasBoundary media boundary = MatchOption boundary ((bytes : List ℕ) → ¬ (IsBoundaryOf media bytes)) (IsBoundaryOf media)
+
 -- a report before and after what is read of a value of `Content-Type`, and whether all values so far are good; and a value, which is read
 -- without the white space around it (RFC 9110, 5.5)
 abbrev pub AddsReading : List ℕ × Bool → List ℕ → Result MediaType FieldError → List ℕ × Bool → Type 0
 AddsReading (text, are_good) value (Ok media) new =
-    (boundary : Option (List ℕ)) × MatchOption boundary ((bytes : List ℕ) → ¬ (IsBoundaryOf media bytes)) (IsBoundaryOf media)
-    × (new ≡ (text ++ media_rows media boundary, are_good))
+    (boundary : Option (List ℕ)) × HasBoundary media boundary × (new ≡ (text ++ media_rows media boundary, are_good))
 AddsReading (text, are_good) value (Err error) new = new ≡ (text ++ fault_rows (codes "bad Content-Type ") value error, false)
 
 abbrev pub AddsType : List ℕ × Bool → List ℕ → List ℕ × Bool → Type 0
@@ -102,9 +98,9 @@ with_entry (text, ranges) entry (Ok range) = (text ++ range_row range, ranges ++
 with_entry (text, ranges) entry (Err error) = (text ++ fault_rows (codes "bad Accept ") entry error, ranges)
 
 abbrev pub AddsEntry : List ℕ × List MediaType → List ℕ → List ℕ × List MediaType → Type 0
-AddsEntry old [] new = new ≡ old
-AddsEntry old (b ∷ entry) new =
-    (reading : Result MediaType FieldError) × IsRead (b ∷ entry) reading × (new ≡ with_entry old (b ∷ entry) reading)
+AddsEntry old entry new =
+    (length entry ≡ 0 → new ≡ old)
+    × (0 < length entry → (reading : Result MediaType FieldError) × IsRead entry reading × (new ≡ with_entry old entry reading))
 
 -- and the entries of lines, between the commas outside strings, each without the white space around it
 pub record AddsLines (lines : List (List ℕ)) (old new : List ℕ × List MediaType) : Type 0 where
@@ -115,13 +111,10 @@ pub record AddsLines (lines : List (List ℕ)) (old new : List ℕ × List Media
 -- ---- offers
 
 -- a range's place among the ranges, from 1, and its kept text, between other words, or a word if there is none
-abbrev pub place_of : List ℕ → ℕ → Option MediaType → List ℕ → List ℕ
-place_of before at None after = []
-place_of before at (Some range) after = before ++ (decimal (at + 1) ++ (codes " " ++ (range.kept ++ after)))
-
 abbrev pub place_text : List MediaType → List ℕ → Option ℕ → List ℕ → List ℕ → List ℕ
 place_text ranges before None after none = none
-place_text ranges before (Some at) after none = place_of before at (slice_get ranges at) after
+place_text ranges before (Some at) after none =
+    unwrap_or (option_map (λ range. before ++ (decimal (at + 1) ++ (codes " " ++ (range.kept ++ after)))) (slice_get ranges at)) []
 
 -- the range that an offer lacks a parameter of, if it weighs nothing
 abbrev pub lacking_at : List MediaType → ℕ → MediaType → Option ℕ
@@ -138,35 +131,25 @@ offer_row ranges one (Some offer) =
 abbrev pub offer_rows : List MediaType → List MediaType → List RankedOffer → List ℕ
 offer_rows ranges offers ranking = flat_map (λ one. offer_row ranges one (slice_get offers one.offer)) ranking
 
--- the best of the offers, which is the first, if it weighs anything; and the row that says so, if there are offers
-abbrev pub best_of : List MediaType → List RankedOffer → Option MediaType
-best_of offers [] = None
-best_of offers (one ∷ ranking) = if one.weight == 0 then None else slice_get offers one.offer
-
-abbrev pub best_row : List MediaType → Option MediaType → List ℕ
-best_row offers (Some best) = row (codes "best ") best.kept
-best_row offers None = if length offers == 0 then [] else codes "406 Not Acceptable\n"
-
--- whether an offer is acceptable, or there is none
-abbrev pub is_acceptable : List MediaType → Option MediaType → Bool
-is_acceptable offers best = length offers == 0 || is_some best
+-- the row of the best of the offers, which is the first, if it weighs anything; and whether an offer is acceptable, or there is none
+abbrev pub best_row : List MediaType → List RankedOffer → List ℕ × Bool
+best_row offers [] = ([], true)
+best_row offers (one ∷ ranking) =
+    if one.weight == 0 then (codes "406 Not Acceptable\n", false)
+    else (row_if (codes "best ") (option_map (λ best. best.kept) (slice_get offers one.offer)), true)
 
 -- ---- heads
 
--- a state before and after the lines of `Accept`, which are one list (5.3), and offers, if there are lines
-pub record IsChoice (offers : List MediaType) (lines : List (List ℕ)) (old new : State) : Type 0 where
+-- a report and the last choice, before and after the lines of `Accept`, which are one list (5.3), and offers, if there are lines
+pub record IsChoice (offers : List MediaType) (lines : List (List ℕ)) (old : List ℕ) (new : List ℕ × Option Bool) : Type 0 where
   pub read : List ℕ × List MediaType
-  pub are_read : AddsLines lines (old.text, []) read
+  pub are_read : AddsLines lines (old, []) read
   pub ranking : List RankedOffer
   pub is_ranking : IsRanking read.1 offers ranking
-  pub is_new : new ≡ record old {
-    text = read.0 ++ (offer_rows read.1 offers ranking ++ best_row offers (best_of offers ranking));
-    choice = Some (is_acceptable offers (best_of offers ranking));
-  }
+  pub is_new : new ≡ (read.0 ++ (offer_rows read.1 offers ranking ++ (best_row offers ranking).0), Some (best_row offers ranking).1)
 
-abbrev pub AddsChoice : List MediaType → List (List ℕ) → State → State → Type 0
-AddsChoice offers [] old new = new ≡ old
-AddsChoice offers (line ∷ lines) old new = IsChoice offers (line ∷ lines) old new
+abbrev pub AddsChoice : List MediaType → List (List ℕ) → List ℕ × Option Bool → List ℕ × Option Bool → Type 0
+AddsChoice offers lines old new = (length lines ≡ 0 → new ≡ old) × (0 < length lines → IsChoice offers lines old.0 new)
 
 -- the row of a head, if there are many
 abbrev pub title_row : Bool → List (List ℕ) → List ℕ
@@ -177,22 +160,18 @@ abbrev pub spaced_row : List ℕ → List ℕ
 spaced_row line =
     if is_spaced (codes "content-type") line || is_spaced (codes "accept") line then row (codes "white space before the colon: ") (shown line) else []
 
--- a state before and after a head
+-- what is known before and after a head
 pub record AddsHead (offers : List MediaType) (many : Bool) (old : State) (head : List (List ℕ)) (new : State) : Type 0 where
-  pub between : List ℕ × Bool
+  pub between : List ℕ
   pub types : FoldsTo AddsType (old.text ++ (title_row many head ++ flat_map spaced_row head), old.are_good)
-      (values_of (codes "content-type:") head) between
+      (values_of (codes "content-type:") head) (between, new.are_good)
   pub choice : AddsChoice offers (values_of (codes "accept:") head)
-      (record { text = between.0 ++ count_row (values_of (codes "content-type:") head); are_good = between.1; choice = old.choice }) new
+      (between ++ count_row (values_of (codes "content-type:") head), old.choice) (new.text, new.choice)
 
 -- the row which says that no head has an `Accept`, and the line that is read in its place, under the last head
-abbrev pub none_row : Option Bool → List ℕ
-none_row None = codes "no Accept\n"
-none_row (Some choice) = []
-
-abbrev pub none_lines : Option Bool → List (List ℕ)
-none_lines None = codes "*/*" ∷ []
-none_lines (Some choice) = []
+abbrev pub missing : Option Bool → List ℕ × List (List ℕ)
+missing None = (codes "no Accept\n", codes "*/*" ∷ [])
+missing (Some choice) = ([], [])
 
 -- the row of an input that is cut off
 abbrev pub cut_row : Bool → List ℕ
@@ -202,15 +181,16 @@ cut_row cut = if cut then codes "not read after 1048576 bytes\n" else []
 abbrev pub verdict_of : Bool → Option Bool → Verdict
 verdict_of are_good choice = if are_good && unwrap_or choice true then Verdict.Acceptable else Verdict.NotAcceptable
 
--- the text is the report on these heads and offers, and the verdict is the last choice's, unless a `Content-Type` is bad
+-- the text is the report on these heads and offers, of which there is one if the input is cut off, and the verdict is the last choice's,
+-- unless a `Content-Type` is bad
 pub record IsReport (offers : List MediaType) (cut : Bool) (heads : List (List (List ℕ))) (text : List ℕ) (verdict : Verdict) : Type 0 where
   pub state : State
-  pub last : State
-  pub some : heads ≢ []
+  pub last : List ℕ × Option Bool
+  pub some : cut ≡ true → heads ≢ []
   pub adds : FoldsTo (AddsHead offers (nat_lt 1 (length heads))) (record { text = []; are_good = true; choice = None }) heads state
-  pub chosen : AddsChoice offers (none_lines state.choice) (record state { text = state.text ++ none_row state.choice }) last
-  pub is_text : text ≡ without_controls (last.text ++ cut_row cut)
-  pub is_verdict : verdict ≡ verdict_of last.are_good last.choice
+  pub chosen : AddsChoice offers (missing state.choice).1 (state.text ++ (missing state.choice).0, state.choice) last
+  pub is_text : text ≡ without_controls (last.0 ++ cut_row cut)
+  pub is_verdict : verdict ≡ verdict_of state.are_good last.1
 
 -- an input of more bytes than the limit is cut off: it is read to one byte past it, which only shows that the line before has ended
 abbrev pub is_cut : List ℕ → Bool

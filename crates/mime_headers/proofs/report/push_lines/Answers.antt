@@ -1,12 +1,24 @@
 -- The next entry is added.
-use Rattle.mime_headers.proofs.Common.{[], arith, drop_of_length-le, length, no_line, refl, ◌≤◌}
-use Rattle.mime_headers.proofs.Rows.{entry-next}
+use Rattle.mime_headers.proofs.Common.{[], arith, comma, drop_of_length-le, length, line_end, no_line, refl, ◌≤◌, ◌∷◌}
 use Rattle.mime_headers.proofs.report.push_lines.Goals as goal
 
-pub loop-left-preserved : goal.loop-left-preserved
-loop-left-preserved c end adds =
-    c.loop-left.invariant end (rw c.in-Some.is (entry-next _ _ c.first_entry.result.1 _ _ _ end c.first_entry.ensures
-    (rw c.trimmed.ensures at c.in_ok-push_entry.ensures) adds))
+pub loop-rest-preserved : goal.loop-rest-preserved
+loop-rest-preserved c end adds =
+    let cut = rw c.in-Some.is at c.first_entry.ensures in
+    c.loop-rest.invariant end (rw cut.0 (record {
+      pieces = c.first_entry.result.0.now ∷ adds.pieces;
+      cut = comma _ _ _ adds.pieces cut.1 adds.cut;
+      entries = (_, rw c.trimmed.ensures at c.in_ok-push_entry.ensures, adds.entries);
+    }))
+
+pub loop-line-preserved : goal.loop-line-preserved
+loop-line-preserved c end adds =
+    let cut = rw c.in_default.is at c.first_entry.ensures in
+    c.loop-rest.invariant end (rw cut.0 (record {
+      pieces = c.first_entry.result.0.now ∷ adds.pieces;
+      cut = line_end _ _ adds.pieces cut.1 adds.cut;
+      entries = (_, rw c.trimmed.ensures at c.in_ok-push_entry.ensures, adds.entries);
+    }))
 
 pub returns : goal.returns
 returns c =

@@ -1,7 +1,8 @@
--- The values so far are added.
-use Rattle.mime_headers.proofs.Common.{AddsType, FoldsTo, map, take, vec_items}
+-- What adding the values that are left adds, adding all does.
+use Rattle.mime_headers.proofs.Common.{AddsType, Bool, FoldsTo, List, drop, map, vec_items, ℕ}
 use Rattle.mime_headers.proofs.report.push_types.Given as goal
 
 abbrev pub invariant-loop-value : goal.invariant-loop-value
 invariant-loop-value l =
-    FoldsTo AddsType (vec_items l.fn.text, l.fn.are_good) (map vec_items (take l.value-index l.values)) (vec_items l.text, l.are_good)
+    (end : List ℕ × Bool) → FoldsTo AddsType (vec_items l.text, l.are_good) (map vec_items (drop l.value-index l.values)) end
+    → FoldsTo AddsType (vec_items l.fn.text, l.fn.are_good) (map vec_items l.fn.values) end
