@@ -1,5 +1,5 @@
 -- Heads and offers have one report, with one verdict, so that a page that says less doesn't check: if offers have one ranking.
-use Rattle.mime_headers.proofs.Common.{AddsChoice, AddsEntry, AddsHead, AddsLines, AddsReading, AddsType, Bool, Err, FieldError, FoldsTo, HasBoundary, HttpExplains, Invalid, IsHttpMediaType, IsRanking, IsRead, IsReportOf, IsUtf8, List, MediaType, NoMemory, None, NotUtf8, Ok, Option, RankedOffer, Result, Some, State, Verdict, [], ap, ap₂, arith, map, media_rows, no_fault, one_http_fault, one_printed_text, only_cut, refl, subst, sym, trimmed, utf8_valid_len-IsValidUpTo, with_entry, ℕ, ◌++◌, ◌∙◌, ◌∷◌, ◌≡◌, ◌≢◌}
+use Rattle.mime_headers.proofs.Common.{AddsChoice, AddsEntry, AddsHead, AddsReading, AddsType, Bool, Err, FieldError, FoldsTo, HasBoundary, HttpExplains, Invalid, IsHttpMediaType, IsRanking, IsRead, IsReportOf, IsUtf8, List, MediaType, NoMemory, None, NotUtf8, Ok, Option, RankedOffer, Result, Some, State, Verdict, [], ap, ap₂, arith, media_rows, no_fault, one_http_fault, one_printed_text, only_cut, refl, sym, trimmed, utf8_valid_len-IsValidUpTo, with_entry, ℕ, ◌++◌, ◌∙◌, ◌∷◌, ◌≡◌, ◌≢◌}
 
 -- no value is both a media type and rejected
 not_both : (value : List ℕ) (error : FieldError) → IsUtf8 value → IsHttpMediaType value → error ≢ NoMemory → ¬ (HttpExplains value error)
@@ -42,8 +42,7 @@ one_added old value (Err error) new other adds more = adds ∙ sym more
 
 one_type : (old : List ℕ × Bool) (value : List ℕ) (new other : List ℕ × Bool) → AddsType old value new → AddsType old value other → new ≡ other
 one_type old value new other (one, is, adds) (two, too, more) =
-    one_added old (trimmed value) two new other
-    (subst (λ reading. AddsReading old (trimmed value) reading new) (one_reading (trimmed value) one two is too) adds) more
+    one_added old (trimmed value) two new other (rw (one_reading (trimmed value) one two is too) at adds) more
 
 -- and so does an entry,
 one_entry : (old : List ℕ × List MediaType) (entry : List ℕ) (new other : List ℕ × List MediaType) → AddsEntry old entry new
@@ -59,25 +58,19 @@ one_of_all : {P A : Type 0} (R : P → A → P → Type 0) → ((p : P) (x : A) 
     → FoldsTo R p xs q → FoldsTo R p xs r → q ≡ r
 one_of_all R one p [] q r is too = sym is ∙ too
 one_of_all R one p (x ∷ xs) q r (next, is, rest) (other, too, others) =
-    one_of_all R one other xs q r (subst (λ p. FoldsTo R p xs q) (one p x next other is too) rest) others
-
--- lines of `Accept`,
-one_of_lines : (lines : List (List ℕ)) (old new other : List ℕ × List MediaType) → AddsLines lines old new → AddsLines lines old other → new ≡ other
-one_of_lines lines old new other one two =
-    let same = only_cut one.cut ∙ sym (only_cut two.cut) in
-    one_of_all AddsEntry one_entry old (map trimmed two.pieces) new other
-    (subst (λ pieces. FoldsTo AddsEntry old (map trimmed pieces) new) same one.entries) two.entries
+    one_of_all R one other xs q r (rw (one p x next other is too) at rest) others
 
 module _ (one_ranking : (ranges offers : List MediaType) (ranking other : List RankedOffer) → IsRanking ranges offers ranking
     → IsRanking ranges offers other → ranking ≡ other) where
-  -- what is chosen under a head,
+  -- lines of `Accept` with what is chosen,
   one_choice : (offers : List MediaType) (lines : List (List ℕ)) (old new other : List ℕ × Option Bool) → AddsChoice offers lines old new
       → AddsChoice offers lines old other → new ≡ other
   one_choice offers [] old new other one two = one.0 refl ∙ sym (two.0 refl)
   one_choice offers (line ∷ lines) old new other one two =
       let adds = one.1 (omega arith) in
       let more = two.1 (omega arith) in
-      let read = one_of_lines (line ∷ lines) (old.0, []) adds.read more.read adds.are_read more.are_read in
+      let same = only_cut adds.are_read.cut ∙ sym (only_cut more.are_read.cut) in
+      let read = one_of_all AddsEntry one_entry _ _ _ _ (rw same at adds.are_read.entries) more.are_read.entries in
       let rank = one_ranking more.read.1 offers adds.ranking more.ranking (rw (ap (λ it. it.1) read) at adds.is_ranking) more.is_ranking in
       cc (adds.is_new, more.is_new, read, rank)
 

@@ -181,8 +181,8 @@ cut_row cut = if cut then codes "not read after 1048576 bytes\n" else []
 abbrev pub verdict_of : Bool → Option Bool → Verdict
 verdict_of are_good choice = if are_good && unwrap_or choice true then Verdict.Acceptable else Verdict.NotAcceptable
 
--- the text is the report on these heads and offers, of which there is one if the input is cut off, and the verdict is the last choice's,
--- unless a `Content-Type` is bad
+-- the text is the report on these heads and offers, and the verdict is the last choice's, unless a `Content-Type` is bad; an input that is
+-- cut off may have no head, and then has no report
 pub record IsReport (offers : List MediaType) (cut : Bool) (heads : List (List (List ℕ))) (text : List ℕ) (verdict : Verdict) : Type 0 where
   pub state : State
   pub last : List ℕ × Option Bool
