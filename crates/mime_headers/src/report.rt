@@ -35,8 +35,7 @@ pub(crate) fn report_of(
     }
     let many = heads.len() > 1;
     let mut text = Vec::new(alloc);
-    let mut are_good = true;
-    let mut choice = None;
+    let (mut are_good, mut choice) = (true, None);
     for head in &heads {
         let head = head.as_slice();
         push_shown(&mut text, many, b"head ", title_of(head))?;
@@ -196,11 +195,8 @@ fn push_media(text: &mut Vec<u8>, mime: &Mime) -> Pushed
     ensures { OnOk result ((boundary : Option (List ℕ)) × HasBoundary mime.now.media boundary
         × (vec_items text.new ≡ vec_items text.old ++ media_rows mime.now.media boundary)) }
 {
-    let (kept, essence) = (mime.as_str().as_bytes(), mime.essence_str().as_bytes());
-    push(
-        text,
-        &[b"Content-Type ", kept, b"\nessence ", essence, b"\n"],
-    )?;
+    push_if(text, b"Content-Type ", Some(mime.as_str().as_bytes()))?;
+    push_if(text, b"essence ", Some(mime.essence_str().as_bytes()))?;
     let suffix = mime.suffix().map(|suffix| suffix.as_str().as_bytes());
     push_if(text, b"suffix ", suffix)?;
     for (name, value) in mime.params() {
@@ -323,14 +319,8 @@ fn push_offer(
     } else {
         lacking(ranges, offer)
     };
-    push_place(
-        text,
-        ranges,
-        b" (lacks a parameter of ",
-        lacking,
-        b")\n",
-        b"\n",
-    )
+    let before = b" (lacks a parameter of ";
+    push_place(text, ranges, before, lacking, b")\n", b"\n")
 }
 
 /// Returns the media type at a position, or `None` if there is none.

@@ -11,14 +11,14 @@ rows_of_items ((name, value) ∷ pairs) = ap (λ rows. param_row (name, value) +
 pub returns : goal.returns
 returns c =
     let media = c.args.mime.now.media in
-    let kept : c.as_bytes-kept.result.now ≡ media.kept = search rules in
-    let essence : c.as_bytes-essence.result.now ≡ media.essence = search rules in
+    let kept : c.as_bytes.result.now ≡ media.kept = search rules in
+    let essence : c.as_bytes-2.result.now ≡ media.essence = search rules in
     let suffix : option_map (λ bytes. bytes.now) c.map-suffix.result ≡ suffix_of media = search rules in
     let items : c.into_iter-name-iterator.result ≡ items_of media.pairs = cc in
-    let params : vec_items c.loop-name.text ≡ vec_items c.push_if.new.text ++ flat_map param_row media.pairs =
+    let params : vec_items c.loop-name.text ≡ vec_items c.push_if-3.new.text ++ flat_map param_row media.pairs =
     simp (c.in-None.ensures.steps.0, items, rows_of_items, append-nil) at c.loop-name.invariant in
     let bound : HasBoundary media (option_map (λ bytes. bytes.now) c.as_deref.result) = search rules in (
       _,
       bound,
-      simp (c.in_ok-push_if-2.ensures, params, c.in_ok-push_if.ensures, c.in_ok-push.ensures, kept, essence, suffix, append_assoc, append-nil),
+      simp (c.in_ok-push_if-4.ensures, params, c.in_ok-push_if-3.ensures, c.in_ok-push_if-2.ensures, c.in_ok-push_if.ensures, kept, essence, suffix, append_assoc),
     )
