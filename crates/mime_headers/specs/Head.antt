@@ -1,18 +1,14 @@
 -- The heads of an input, and the values of a field there (RFC 9110, 5.5 and 5.6.3; RFC 9112, 2.2 and 5).
-use Rattle.std.specs.Prelude.{ℕ, Bool, false, List, [], ◌∷◌, ◌++◌, ◌==◌, ◌||◌, ◌&&◌, not, Option, Some, None, map, take, drop, length, if◌then◌else◌, codes}
-use Rattle.std.specs.{Str.str_eq_ignore_ascii_case, Str.Lines.strip_carriage_return}
+use Rattle.std.specs.Prelude.{ℕ, Bool, List, [], ◌∷◌, ◌++◌, ◌==◌, ◌||◌, ◌&&◌, not, Option, Some, None, map, take, drop, length, if◌then◌else◌, codes}
+use Rattle.std.specs.{List.slice_index, Str.str_eq_ignore_ascii_case, Str.Lines.strip_carriage_return}
 use Rattle.mime.specs.Grammar.{is_space}
 use Rattle.mime_http.specs.HttpList.{trimmed}
 use Rattle.mime_io.specs.Lines.{lines_of}
 
 -- a line without the mark that `curl -v` writes before it, `>` or `<` and a space, which begins no field's name
-abbrev pub without_space : List ℕ → List ℕ
-without_space [] = []
-without_space (b ∷ line) = if b == 32 then line else b ∷ line
-
 abbrev pub without_mark : List ℕ → List ℕ
 without_mark [] = []
-without_mark (b ∷ line) = if b == 60 || b == 62 then without_space line else b ∷ line
+without_mark (b ∷ line) = if b == 60 || b == 62 then (if slice_index line 0 == 32 then drop 1 line else line) else b ∷ line
 
 -- the lines of an input; one carriage return at a line's end is no part of it
 abbrev pub bare_lines : List ℕ → List (List ℕ)
@@ -50,8 +46,7 @@ heads_of cut lines = heads_from cut (Some []) lines
 
 -- a line that begins with white space goes on with the field before it: one space stands for the white space between them (RFC 9112, 5.2)
 abbrev pub goes_on : List ℕ → Bool
-goes_on [] = false
-goes_on (b ∷ line) = is_space b
+goes_on line = is_space (slice_index line 0)
 
 abbrev pub continued : List (List ℕ) → List ℕ
 continued [] = []
