@@ -26,7 +26,7 @@ abbrev pub shown_after : ℕ → List ℕ → List ℕ
 shown_after passed [] = []
 shown_after passed (b ∷ bytes) =
     if not (passed == 0) then shown_after (passed - 1) bytes else
-    if control_len (b ∷ bytes) == 0 then b ∷ shown_after 0 bytes else 46 ∷ shown_after (control_len (b ∷ bytes) - 1) bytes
+    (if control_len (b ∷ bytes) == 0 then b else 46) ∷ shown_after (control_len (b ∷ bytes) - 1) bytes
 
 abbrev pub without_controls : List ℕ → List ℕ
 without_controls bytes = shown_after 0 bytes

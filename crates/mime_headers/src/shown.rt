@@ -40,12 +40,8 @@ pub(crate) fn without_controls(alloc: Global, bytes: Vec<u8>) -> Result<Vec<u8>,
             continue;
         }
         let len = control_len(&bytes[at..]);
-        if len == 0 {
-            text.push(byte)?;
-        } else {
-            text.push(b'.')?;
-            passed = len - 1;
-        }
+        text.push(if len == 0 { byte } else { b'.' })?;
+        passed = len.saturating_sub(1);
     }
     Ok(text)
 }
