@@ -1,5 +1,5 @@
 -- Lines are cut in one way, and each line is; and how far a line's first piece goes.
-use Rattle.mime_http.proofs.Common.{drop_of_length-le, AreBetweenCommas, At, BeginsPiece, IsInString, IsPiece, List, OneCut, Outside, [], after, after_outside, ap, append-nil, append_assoc, arith, nat_tests, comma, cond_both, cut, cut_from, ends, eqb-true, false, flat_map, line_end, no_line, opens_string, piece_byte, piece_end, piece_string, refl, string_byte, string_end, string_pair, subst, sym, true, ℕ, ⊤, ◌++◌, ◌==◌, ◌∙◌, ◌∷◌, ◌≡◌, Equals, Paired, before_mark, Bool, cond, cut_after, drop, drop-drop, drop_more, get_or, get_or-drop, is_mark, length, length-drop, min, not, prefix_len, prefix_len-le-length, suc, take, zero, ◌&&◌, ◌+◌, ◌-◌, ◌<◌, ◌≤◌, IsNextOutside, piece_len, passes_at_first, true≢false, cases_Bool, ⊎_elim, take-append-drop, take_all, cases_lt}
+use Rattle.mime_http.proofs.Common.{drop_of_length-le, AreBetweenCommas, At, BeginsPiece, IsInString, IsPiece, List, OneCut, Outside, [], after, ap, append-nil, append_assoc, arith, nat_tests, comma, cond_both, cut, cut_from, ends, eqb-true, false, flat_map, line_end, no_line, opens_string, piece_byte, piece_end, piece_string, refl, string_byte, string_end, string_pair, subst, sym, true, ℕ, ⊤, ◌++◌, ◌==◌, ◌∙◌, ◌∷◌, ◌≡◌, Equals, Paired, before_mark, Bool, cond, cut_after, drop, drop-drop, drop_more, get_or, get_or-drop, is_mark, length, length-drop, min, not, prefix_len, prefix_len-le-length, suc, take, zero, ◌&&◌, ◌+◌, ◌-◌, ◌<◌, ◌≤◌, IsNextOutside, piece_len, passes_at_first, true≢false, cases_Bool, ⊎_elim, take-append-drop, take_all, cases_lt}
 use Rattle.mime_http.specs.LineCut.{Quoted}
 use Rattle.mime_search.{specs.Classes.is_stop, specs.Classes.end_of_run, specs.Quoted.awaits_next, specs.Quoted.len_from, specs.declared.class.Class.Class}
 
@@ -56,7 +56,7 @@ Continues Quoted bytes = IsPiece (61 ∷ 34 ∷ bytes)
 Continues Paired bytes = IsPiece (61 ∷ 34 ∷ 92 ∷ bytes)
 
 -- a byte outside strings may stand before a piece,
-byte_before : (b : ℕ) (bytes : List ℕ) → (b == 44) ≡ false → Continues (after_outside b) bytes → IsPiece (b ∷ bytes)
+byte_before : (b : ℕ) (bytes : List ℕ) → (b == 44) ≡ false → Continues (after Outside b) bytes → IsPiece (b ∷ bytes)
 byte_before b bytes on = cond_both (b == 61) _ _ (λ place. Continues place bytes → IsPiece (b ∷ bytes))
     (λ equals. subst (λ c. IsPiece (c ∷ bytes)) (sym (eqb-true b 61 equals))) (λ other. piece_byte b bytes on (opens_none b bytes other))
 

@@ -10,7 +10,4 @@ worth unit (b ∷ bytes) = if is_ascii_digit b then unit * (b - 48) + worth (uni
 -- the number that bytes begin with, in thousandths: zeros are passed, another digit is 1 at least
 abbrev pub read_number : List ℕ → ℕ
 read_number [] = 0
-read_number (b ∷ bytes) =
-    if b == 48 then read_number bytes else
-    if is_ascii_digit b then 1000 else
-    if b == 46 then worth 100 bytes else 0
+read_number (b ∷ bytes) = if b == 48 then read_number bytes else if is_ascii_digit b then 1000 else if b == 46 then worth 100 bytes else 0

@@ -12,14 +12,10 @@ pub data At : Type 0 where
   Quoted : At
   Paired : At
 
--- the place after a byte outside strings
-abbrev pub after_outside : ℕ → At
-after_outside b = if b == equals_byte then Equals else Outside
-
 -- the place after a byte
 abbrev pub after : At → ℕ → At
-after Outside b = after_outside b
-after Equals b = if b == quote_byte then Quoted else after_outside b
+after Outside b = if b == equals_byte then Equals else Outside
+after Equals b = if b == quote_byte then Quoted else if b == equals_byte then Equals else Outside
 after Quoted b = if b == backslash_byte then Paired else if b == quote_byte then Outside else Quoted
 after Paired b = Quoted
 

@@ -29,8 +29,7 @@ pub data State : Type 0 where
 -- the state after a byte that ends a subtype or a parameter,
 abbrev pub next_after : Parts → ℕ → Option State
 next_after parts b =
-    if is_space b then Some (before_semicolon parts) else
-    if b == semicolon_byte then Some (after_semicolon parts) else None
+    if is_space b then Some (before_semicolon parts) else if b == semicolon_byte then Some (after_semicolon parts) else None
 
 -- and after any, if a media type may go on so
 abbrev pub next : State → ℕ → Option State
