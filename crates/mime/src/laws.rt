@@ -285,8 +285,8 @@ pub fn run_gives_cut()
     ensures { RunGivesCut }
 {}
 
-/// Unless memory runs out or the text before a comma ends in an open quoted string, a run over the whole string yields
-/// the items of this text, its rest as a bad piece unless empty, and the items of the text after the comma: over
+/// Unless memory runs out, a run over a string with a comma outside quoted strings yields the items of the text before
+/// the comma, then this text's rest as a bad piece unless empty, then the items of the text after the comma: over
 /// `e, c/d` it yields the bad piece `e` and `c/d`.
 pub fn comma_contains_on_runs()
     ensures { CommaContainsOnRuns }

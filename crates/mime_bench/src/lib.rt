@@ -291,7 +291,7 @@ fn written(made: Result<Option<Mime>, AllocError>) -> usize {
     }
 }
 
-/// Reads an `Accept` header and chooses the best of the offers. The result is the best offer's position from 1, or 0 if there is none.
+/// Reads each `Accept` header, and chooses the best offer for it. Returns the sum of these offers' positions, from 1, over all rounds.
 #[inline(never)]
 fn negotiate(alloc: Global, texts: &[&str], offers: &[Mime], rounds: usize) -> usize {
     sum!(rounds, text in texts => match Accept::from_lines(alloc, &[text.as_bytes()]) {

@@ -76,7 +76,7 @@ static OFFERS: [&[&str]; 6] = [
     ],
 ];
 
-/// Returns the media types that a server offers.
+/// Returns the offers read from these texts.
 fn offers_of(alloc: Global, texts: &[&str]) -> Result<Vec<Mime>, AllocError> {
     let mut offers = Vec::new(alloc);
     for text in texts {

@@ -124,7 +124,7 @@ pub(crate) fn constant_name(field: &str) -> Option<Name<'static>> {
     None
 }
 
-/// A name as tables write it: the identifier of the constant that is equal to it, or its text in quotes.
+/// A name as answers show it: the identifier of the constant that is equal to it, or its text in quotes.
 #[derive(Clone, Copy)]
 pub(crate) struct Shown<'a>(pub(crate) Name<'a>);
 

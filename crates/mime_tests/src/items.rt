@@ -46,8 +46,7 @@ fn is_equal(alloc: Global, one: &Mime, text: &str) -> bool {
     }
 }
 
-/// Shows a sign for each string after the first: `=` if its media type is equal to the item at the same place in the first string, or else
-/// a space.
+/// Shows a sign for each string after the first: `=` if its media type is equal to the first string's next item, or else a space.
 pub(crate) fn show_list(alloc: Global, out: &mut String, strings: &[String]) {
     let mut iter = MimeIter::new(alloc, string_at(strings, 0));
     for at in 1..strings.len() {
