@@ -11,8 +11,7 @@ use mime_http::trimmed;
 use mime_io::first_line;
 use std::alloc::{AllocError, Global};
 
-/// Returns a line without the carriage return at its end. Also leaves out the mark that `curl -v` writes before it, and one space after the
-/// mark.
+/// Returns a line without a carriage return at its end, and without a mark of `curl -v` at its start: `<` or `>`, and one space after it.
 fn bare(line: &[u8]) -> &[u8]
     ensures { result.now ≡ without_mark (strip_carriage_return line.now) }
 {
@@ -26,7 +25,7 @@ fn bare(line: &[u8]) -> &[u8]
     }
 }
 
-/// Returns the first line of an input, without its line ending and its mark, and the rest of the input.
+/// Returns an input's first line, without its line ending and its mark, and the rest, or `None` if the input is empty.
 fn bare_line(input: &[u8]) -> Option<(&[u8], &[u8])>
     ensures lines { MatchOption result (bare_lines input.now ≡ []) (λ cut. bare_lines input.now ≡ cut.0.now ∷ bare_lines cut.1.now) }
     ensures shorter { IfSome result (λ cut. length cut.1.now < length input.now) }
@@ -49,7 +48,7 @@ fn is_indented(line: &[u8]) -> bool
     begins(b"  http/", line)
 }
 
-/// Returns a line as it is added to a head. If the head is indented, removes two spaces from the start of the line, if it has them.
+/// Returns a line as it is added to a head: without two spaces at its start, if it has them and the head is indented.
 fn in_head<'a>(head: &[&[u8]], line: &'a [u8]) -> &'a [u8]
     ensures { result.now ≡ in_head (map (λ line. line.now) head.now) line.now }
 {
@@ -59,7 +58,7 @@ fn in_head<'a>(head: &[&[u8]], line: &'a [u8]) -> &'a [u8]
     }
 }
 
-/// Returns the heads of an input. In an input that is cut off, a head counts only if something follows it.
+/// Returns the heads of an input. In an input that is cut off, a head counts only if a line follows its end.
 pub(crate) fn heads_of(
     alloc: Global,
     input: &[u8],
@@ -98,7 +97,7 @@ pub(crate) fn heads_of(
     Ok(heads)
 }
 
-/// Returns `true` if a line continues the field before it.
+/// Returns `true` if a line begins with white space, and so continues a field.
 fn goes_on(line: &[u8]) -> bool
     ensures { result ≡ goes_on line.now }
 {
@@ -137,8 +136,8 @@ pub(crate) fn values_of(
     Ok(values)
 }
 
-/// Returns the title of a head: its first line that isn't a remark of curl, which begins with `*`, without the two spaces that indent it.
-/// Returns an empty title if there is no such line.
+/// Returns the title of a head: its first line that isn't a remark of curl, which begins with `*`. If this line is indented, leaves out its
+/// two spaces. Returns an empty title if all lines are remarks.
 pub(crate) fn title_of<'a>(head: &[&'a [u8]]) -> &'a [u8]
     ensures { result.now ≡ title_of (map (λ line. line.now) head.now) }
 {

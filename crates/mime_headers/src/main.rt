@@ -27,7 +27,7 @@ use std::{env, fmt, io};
 #[derive(Drop)]
 struct Output {
     inner: Stdout,
-    /// Whether the last write was one to a closed pipe.
+    /// Whether the pipe was closed at the last write.
     is_closed: bool,
 }
 
@@ -67,7 +67,7 @@ fn main(rt: HostRuntime) -> ExitCode {
         is_closed: false,
     });
     match run(rt.alloc(), &mut input, &mut output, &offers) {
-        // As a shell reports a program that wrote to a closed pipe.
+        // Shells report this status for a write to a closed pipe.
         Err(RunError::Write) if output.inner.is_closed => ExitCode::from(141),
         outcome => status(&rt, outcome),
     }
@@ -94,7 +94,7 @@ fn status(rt: &impl Eprint, outcome: Result<Verdict, RunError>) -> ExitCode
     }
 }
 
-/// Prints on standard error why the program stops, and returns the exit status.
+/// Prints on standard error why the program stops, and returns the exit status 2.
 fn stopped(rt: &impl Eprint, reason: &impl fmt::Display) -> ExitCode
     ensures { exit_status result ≡ 2 }
 {

@@ -10,10 +10,10 @@ use mime_http::{FieldError, content_type};
 use std::alloc::Global;
 use std::env::Args;
 
-/// Returns the offers that the arguments name, each a media type as in a header. Skips the first argument, the program's name.
+/// Returns the offers that the arguments name, each read like a header's value. Skips the first argument, the program's name.
 ///
 /// # Errors
-/// Returns the first argument that isn't a media type, and its fault. If memory runs out, returns `NoMemory` in place of a fault.
+/// Returns the first argument that isn't a media type, and its fault. If memory runs out, returns the argument reached, and `NoMemory`.
 pub(crate) fn read_offers(
     alloc: Global,
     mut arguments: Args,

@@ -40,7 +40,7 @@ pub fn run<S: Source, T: Sink>(
     // If the result is `TooLong`, the run has read one byte more than the limit, and the first head doesn't end within the limit.
     ensures too_long { result ≡ Err RunError.TooLong → (bytes : List ℕ) × Consumes (S.left source.old) (S.left source.new) bytes
         × (length bytes ≡ limit + 1) × (heads_of true (bare_lines bytes) ≡ []) }
-    // Nothing is written before the report is complete.
+    // An error other than `Write` leaves the sink unchanged.
     ensures untouched { IfErr result (λ error. error ≢ RunError.Write → sink.new ≡ sink.old) }
 {
     let input = read_past_limit(alloc, source)?;

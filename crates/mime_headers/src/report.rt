@@ -18,8 +18,8 @@ use mime_http::{
 };
 use std::alloc::{AllocError, Global};
 
-/// Returns the text and the verdict of the report on the heads of an input and on offers, or `None` if the input is cut off and nothing
-/// follows its first head.
+/// Returns the text and the verdict of the report on the heads of an input and on offers, or `None` if the input is cut off and no
+/// line follows the end of its first head.
 pub(crate) fn report_of(
     alloc: Global,
     input: &[u8],
@@ -57,8 +57,8 @@ pub(crate) fn report_of(
     Ok(Some((text, verdict)))
 }
 
-/// Adds the rows of the lines of `Accept` and of the offers, and returns the outcome: `true` if an offer is acceptable or there are no
-/// offers. If there are no lines, adds nothing and returns `last`.
+/// Adds the rows of the lines of `Accept` and of the offers, and returns the outcome: `Some(true)` if an offer is acceptable or there
+/// are no offers, and otherwise `Some(false)`. If there are no lines, adds nothing and returns `last`.
 fn push_choice(
     text: &mut Vec<u8>,
     offers: &[Mime],
@@ -81,7 +81,7 @@ fn push_choice(
     Ok(Some(is_acceptable))
 }
 
-/// Adds the rows of the offers if no head has an `Accept`, since a request without one accepts everything. Returns the last outcome.
+/// Adds `no Accept`, and the rows of `*/*` and of the offers, if no head has an `Accept` (RFC 9110, 12.5.1). Returns the last outcome.
 fn push_missing(
     text: &mut Vec<u8>,
     offers: &[Mime],
@@ -122,7 +122,7 @@ fn push_if(text: &mut Vec<u8>, label: &[u8], bytes: Option<&[u8]>) -> Pushed
     }
 }
 
-/// Adds a row with bytes, if `is_wanted`. A dot replaces each byte that isn't printable ASCII.
+/// Adds a row of a label and bytes if `is_wanted`. A dot replaces each byte that isn't printable ASCII.
 fn push_shown(text: &mut Vec<u8>, is_wanted: bool, label: &[u8], bytes: &[u8]) -> Pushed
     ensures { OnOk result (vec_items text.new ≡ vec_items text.old ++ (if is_wanted then row label.now (shown bytes.now) else [])) }
 {
@@ -148,7 +148,7 @@ fn push_spaced(text: &mut Vec<u8>, head: &[&[u8]]) -> Pushed
     Ok(())
 }
 
-/// Trims values of `Content-Type`, and adds the rows of each media type or fault. Clears `are_good` if a value is rejected.
+/// Adds the rows of values of `Content-Type`, each trimmed. Sets `are_good` to `false` if a value is rejected.
 fn push_types(text: &mut Vec<u8>, are_good: &mut bool, values: &[Vec<u8>]) -> Pushed
     ensures { OnOk result (FoldsTo AddsType (vec_items text.old, are_good.old) (map vec_items values.now)
         (vec_items text.new, are_good.new)) }
@@ -179,7 +179,7 @@ fn read(text: &mut Vec<u8>, label: &[u8], value: &[u8]) -> Result<Option<Mime>, 
     }
 }
 
-/// Returns the row that says that there is no `Content-Type`, or more than one.
+/// Returns the row for no `Content-Type` or for several, or an empty slice for one.
 fn count_row(values: &[Vec<u8>]) -> &'static [u8]
     ensures { result.now ≡ count_row (map vec_items values.now) }
 {
@@ -258,7 +258,7 @@ fn push_lines(text: &mut Vec<u8>, ranges: &mut Vec<Mime>, lines: &[Vec<u8>]) -> 
     Ok(())
 }
 
-/// Adds the rows of an entry, and pushes it to `ranges` if it is a range.
+/// Adds the rows of an entry that isn't empty, and pushes it to `ranges` if it is a range.
 fn push_entry(text: &mut Vec<u8>, ranges: &mut Vec<Mime>, entry: &[u8]) -> Pushed
     ensures { OnOk result (AddsEntry (vec_items text.old, map (λ range. range.media) (vec_items ranges.old)) entry.now
         (vec_items text.new, map (λ range. range.media) (vec_items ranges.new))) }
@@ -299,7 +299,7 @@ fn push_weighed(text: &mut Vec<u8>, label: &[u8], weight: u16, mime: &Mime) -> P
     push(text, &[label, &decimals, b" ", mime.as_str().as_bytes()])
 }
 
-/// Adds the row of a ranked offer, or nothing if there is no offer.
+/// Adds the row of a ranked offer, or nothing if `offer` is `None`.
 fn push_offer(
     text: &mut Vec<u8>,
     ranges: &[Mime],
@@ -331,7 +331,7 @@ fn nth(mimes: &[Mime], at: usize) -> Option<&Mime>
     mimes.get(at)
 }
 
-/// Adds `before`, the number (from 1) and the text of the range at a position, and `after`. Adds only `none` if there is no position.
+/// Adds `before`, the number (from 1) and the text of the range at a position, and `after`. Adds only `none` if `at` is `None`.
 fn push_place(
     text: &mut Vec<u8>,
     ranges: &[Mime],

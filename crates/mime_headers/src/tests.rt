@@ -18,7 +18,7 @@ struct Calls {
 }
 
 impl Calls {
-    /// Removes the next expected call if it is `call` or `x`.
+    /// Removes the next expected call if it is `call` or `x`. Succeeds only if it is `call`.
     fn take(&mut self, call: u8) -> io::Result<()> {
         let (next, left) = self.left.split_first().unwrap_or((&b'?', b""));
         self.left = if *next == call || *next == b'x' {
