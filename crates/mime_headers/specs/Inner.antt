@@ -1,8 +1,7 @@
--- What the code says on the way; no contract of another crate names it.
+-- What only contracts of this crate say.
 use Rattle.std.specs.Prelude.{ℕ, List, Vec, map, vec_items}
 use Rattle.std.specs.{Borrow.Bor, Global.Global}
 
--- the lines that are listed
+-- the lines that a vector borrows
 abbrev pub lines_now : Vec (Bor (List ℕ)) Global → List (List ℕ)
 lines_now lines = map (λ line. line.now) (vec_items lines)
-

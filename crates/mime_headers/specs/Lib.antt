@@ -1,4 +1,4 @@
--- the trusted pages
+-- the trusted files
 pub mod Head
 pub mod Shown
 pub mod Report

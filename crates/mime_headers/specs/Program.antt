@@ -5,8 +5,8 @@ use Rattle.mime.specs.Values.{MediaType}
 use Rattle.mime_http.specs.{HttpFaults.HttpExplains, declared.value.FieldError.FieldError, declared.value.FieldError.TheVariants.NoMemory}
 use Rattle.mime_headers.specs.Report.{IsRead}
 
--- the offers before some words, and all, or the word at which there are none, and why: each word names one, which is printed as a value of
--- `Content-Type` is; the first that is no media type is refused by its fault, unless memory runs out before
+-- The result of reading words after some offers. If each word is read as an offer, the result has all offers. Otherwise, it has the first
+-- word that isn't read, and an error, which explains why that word is rejected or is `NoMemory`.
 pub data AreOffers : List (List ℕ) → List MediaType → Result (List MediaType) (String Global × FieldError) → Type 0 where
   no_word : {offers : List MediaType} → AreOffers [] offers (Ok offers)
   a_word : {word : List ℕ} {offer : MediaType} {words : List (List ℕ)} {offers : List MediaType} {all : Result (List MediaType) (String Global × FieldError)}

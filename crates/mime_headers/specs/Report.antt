@@ -1,4 +1,4 @@
--- What the program writes of heads and of offers: of each `Content-Type`, of `Accept`, and of each offer (RFC 9110, 8.3, 12.5.1 and 15.5.7).
+-- The report on heads and offers: the rows of each `Content-Type`, of `Accept`, and of each offer (RFC 9110, 8.3, 12.5.1 and 15.5.7).
 use Rattle.std.specs.Prelude.{◌≡◌, ◌≢◌, ◌<◌, ℕ, ◌+◌, ◌/◌, ◌%◌, Bool, true, false, List, [], ◌∷◌, ◌++◌, ◌==◌, ◌||◌, ◌&&◌, Option, Some, None, Result, Ok, Err, MatchOption, option_map, unwrap_or, position, map, flat_map, length, slice_get, replicate, nat_lt, if◌then◌else◌, codes}
 use Rattle.std.specs.{Char.is_ascii_graphic, Fmt.decimal, List.FoldsTo, Str.IsUtf8}
 use Rattle.mime.specs.{Values.MediaType, Values.suffix_of, declared.scan.fault.ParseError.TheVariants.InvalidToken}
@@ -7,13 +7,13 @@ use Rattle.mime_io.specs.{Lines.row, Stops.limit}
 use Rattle.mime_headers.specs.{Head.bare_lines, Head.heads_of, Head.is_spaced, Head.title_of, Head.values_of, Shown.without_controls}
 use Rattle.mime_headers.specs.declared.verdict.Verdict.{Verdict}
 
--- what is read of a value of a field: a media type, with the kept text that is printed of it, or the fault of a value that is none
+-- A value of a field is read as this media type, which is printed for the value, or is rejected with this error, which isn't `NoMemory`.
 abbrev pub IsRead : List ℕ → Result MediaType FieldError → Type 0
 IsRead value (Ok media) = IsUtf8 value × HttpReads value media × IsPrinted value media
 IsRead value (Err error) = (error ≢ NoMemory) × HttpExplains value error
 
--- what is known after some heads: the report, whether each `Content-Type` is good, and the last choice, if there was one: whether an offer
--- was acceptable, or there was none
+-- What is known after some heads: the report, whether each `Content-Type` is accepted, and the last choice, if a head has an `Accept`. A
+-- choice is `true` if an offer is acceptable or there are no offers.
 pub record State : Type 0 where
   pub text : List ℕ
   pub are_good : Bool
@@ -21,18 +21,18 @@ pub record State : Type 0 where
 
 -- ---- a rejected value
 
--- bytes that may be any, as they are shown: a dot for each that isn't printable ASCII
+-- bytes with a dot in place of each that isn't printable ASCII
 abbrev pub shown : List ℕ → List ℕ
 shown bytes = map (λ b. if b == 32 || is_ascii_graphic b then b else 46) bytes
 
--- the position of the byte at fault, or the value's end if something is missing there; and a word on a comment, which mails have, and HTTP
--- doesn't
+-- the position of the byte at fault, or the value's length if something is missing at its end; and a remark, which is empty unless that
+-- byte is `(`, which begins a comment in mail
 abbrev pub fault_place : List ℕ → FieldError → ℕ × List ℕ
 fault_place value (NotUtf8 pos) = (pos, [])
 fault_place value (Invalid (InvalidToken pos byte)) = (pos, if byte == 40 then codes " (HTTP has no comments)" else [])
 fault_place value error = (length value, [])
 
--- the rows of a rejected value of a field: its fault, and the value over a caret at the byte at fault
+-- the rows of a rejected value of a field: its fault, and the value over a caret at the byte at fault, with the remark
 abbrev pub fault_rows : List ℕ → List ℕ → FieldError → List ℕ
 fault_rows label value error =
     row label (field_error_text error) ++ (row (codes "    ") (shown value) ++ (codes "    "
@@ -40,11 +40,11 @@ fault_rows label value error =
 
 -- ---- Content-Type
 
--- a parameter with what its value means
+-- the row of a parameter with what its value means
 abbrev pub param_row : List ℕ × List ℕ → List ℕ
 param_row (name, value) = row (codes "param ") (name ++ (codes "=" ++ unescaped value))
 
--- a row, if there is one
+-- the row of a text, or nothing if there is none
 abbrev pub row_if : List ℕ → Option (List ℕ) → List ℕ
 row_if label None = []
 row_if label (Some text) = row label text
@@ -59,18 +59,19 @@ media_rows media boundary =
 abbrev pub HasBoundary : MediaType → Option (List ℕ) → Type 0
 HasBoundary media boundary = MatchOption boundary ((bytes : List ℕ) → ¬ (IsBoundaryOf media bytes)) (IsBoundaryOf media)
 
--- a report before and after what is read of a value of `Content-Type`, and whether all values so far are good; and a value, which is read
--- without the white space around it (RFC 9110, 5.5)
+-- What is read of a value of `Content-Type` adds its rows to a report. `are_good`, whether all values so far are accepted, becomes `false`
+-- if this value is rejected.
 abbrev pub AddsReading : List ℕ × Bool → List ℕ → Result MediaType FieldError → List ℕ × Bool → Type 0
 AddsReading (text, are_good) value (Ok media) new =
     (boundary : Option (List ℕ)) × HasBoundary media boundary × (new ≡ (text ++ media_rows media boundary, are_good))
 AddsReading (text, are_good) value (Err error) new = new ≡ (text ++ fault_rows (codes "bad Content-Type ") value error, false)
 
+-- A value of `Content-Type` is read without the white space around it (RFC 9110, 5.5), and what is read adds its rows.
 abbrev pub AddsType : List ℕ × Bool → List ℕ → List ℕ × Bool → Type 0
 AddsType old value new =
     (reading : Result MediaType FieldError) × IsRead (trimmed value) reading × AddsReading old (trimmed value) reading new
 
--- the row which says that there is no `Content-Type`, or more than one
+-- the row which says that there is no `Content-Type`, or more than one; nothing if there is one
 abbrev pub count_row : List (List ℕ) → List ℕ
 count_row [] = codes "no Content-Type\n"
 count_row (value ∷ []) = []
@@ -78,31 +79,32 @@ count_row (value ∷ other ∷ values) = codes "several Content-Type lines (HTTP
 
 -- ---- Accept
 
--- a weight in thousandths with its three decimals, as 0.800
+-- a weight in thousandths as a number with three decimals, such as 0.800
 abbrev pub weight_text : ℕ → List ℕ
 weight_text weight = (48 + weight / 1000 % 10) ∷ 46 ∷ (48 + weight / 100 % 10) ∷ (48 + weight / 10 % 10) ∷ (48 + weight % 10) ∷ []
 
--- a weight and a media type's kept text
+-- a label, a weight and a media type's kept text
 abbrev pub weighed_text : List ℕ → ℕ → MediaType → List ℕ
 weighed_text label weight media = label ++ (weight_text weight ++ (codes " " ++ media.kept))
 
--- the row of a range, with a word if its `q` is no weight
+-- the row of a range, with a remark if RFC 9110, 12.4.2, doesn't allow its `q`
 abbrev pub range_row : MediaType → List ℕ
 range_row range =
     weighed_text (codes "Accept ") (weight_of range) range
     ++ (if unwrap_or (option_map is_qvalue (first_value (codes "q") range.pairs)) true then codes "\n" else codes " (q is no weight)\n")
 
--- a report and its ranges before and after an entry: nothing isn't reported, and what is read as a range is one
+-- a report and its ranges after an entry: an entry that is a range adds its row and itself, and a rejected entry adds its fault's rows
 abbrev pub with_entry : List ℕ × List MediaType → List ℕ → Result MediaType FieldError → List ℕ × List MediaType
 with_entry (text, ranges) entry (Ok range) = (text ++ range_row range, ranges ++ (range ∷ []))
 with_entry (text, ranges) entry (Err error) = (text ++ fault_rows (codes "bad Accept ") entry error, ranges)
 
+-- An empty entry changes nothing. Any other entry is read and added.
 abbrev pub AddsEntry : List ℕ × List MediaType → List ℕ → List ℕ × List MediaType → Type 0
 AddsEntry old entry new =
     (length entry ≡ 0 → new ≡ old)
     × (0 < length entry → (reading : Result MediaType FieldError) × IsRead entry reading × (new ≡ with_entry old entry reading))
 
--- and the entries of lines, between the commas outside strings, each without the white space around it
+-- Lines add their entries in order: the texts between commas outside strings, each without the white space around it.
 pub record AddsLines (lines : List (List ℕ)) (old new : List ℕ × List MediaType) : Type 0 where
   pub pieces : List (List ℕ)
   pub cut : AreBetweenCommas IsPiece BeginsPiece lines pieces
@@ -110,17 +112,17 @@ pub record AddsLines (lines : List (List ℕ)) (old new : List ℕ × List Media
 
 -- ---- offers
 
--- a range's place among the ranges, from 1, and its kept text, between other words, or a word if there is none
+-- `before`, a range's place among the ranges, from 1, its kept text, and `after`; or `none` if there is no position
 abbrev pub place_text : List MediaType → List ℕ → Option ℕ → List ℕ → List ℕ → List ℕ
 place_text ranges before None after none = none
 place_text ranges before (Some at) after none =
     unwrap_or (option_map (λ range. before ++ (decimal (at + 1) ++ (codes " " ++ (range.kept ++ after)))) (slice_get ranges at)) []
 
--- the range that an offer lacks a parameter of, if it weighs nothing
+-- the position of the first range of which an offer lacks a parameter, if the offer weighs 0
 abbrev pub lacking_at : List MediaType → ℕ → MediaType → Option ℕ
 lacking_at ranges weight offer = if weight == 0 then position (is_lacking offer) ranges else None
 
--- the row of an offer: its weight, its kept text, and why it weighs so much
+-- the row of an offer, if there is one: its weight, its kept text, the range that decides, and the range that `lacking_at` finds
 abbrev pub offer_row : List MediaType → RankedOffer → Option MediaType → List ℕ
 offer_row ranges one None = []
 offer_row ranges one (Some offer) =
@@ -128,10 +130,11 @@ offer_row ranges one (Some offer) =
     ++ (place_text ranges (codes " by ") one.range [] (codes " by none")
     ++ place_text ranges (codes " (lacks a parameter of ") (lacking_at ranges one.weight offer) (codes ")\n") (codes "\n"))
 
+-- the rows of the offers, in the ranking's order
 abbrev pub offer_rows : List MediaType → List MediaType → List RankedOffer → List ℕ
 offer_rows ranges offers ranking = flat_map (λ one. offer_row ranges one (slice_get offers one.offer)) ranking
 
--- the row of the best of the offers, which is the first, if it weighs anything; and whether an offer is acceptable, or there is none
+-- the row of the best offer, the ranking's first, or of 406 if it weighs 0; and whether an offer is acceptable or there are no offers
 abbrev pub best_row : List MediaType → List RankedOffer → List ℕ × Bool
 best_row offers [] = ([], true)
 best_row offers (one ∷ ranking) =
@@ -140,7 +143,7 @@ best_row offers (one ∷ ranking) =
 
 -- ---- heads
 
--- a report and the last choice, before and after the lines of `Accept`, which are one list (5.3), and offers, if there are lines
+-- The lines of `Accept`, which are one list (RFC 9110, 5.3), and the offers add their rows to a report. `best_row` has the new choice.
 pub record IsChoice (offers : List MediaType) (lines : List (List ℕ)) (old : List ℕ) (new : List ℕ × Option Bool) : Type 0 where
   pub read : List ℕ × List MediaType
   pub are_read : AddsLines lines (old, []) read
@@ -148,19 +151,20 @@ pub record IsChoice (offers : List MediaType) (lines : List (List ℕ)) (old : L
   pub is_ranking : IsRanking read.1 offers ranking
   pub is_new : new ≡ (read.0 ++ (offer_rows read.1 offers ranking ++ (best_row offers ranking).0), Some (best_row offers ranking).1)
 
+-- Without lines of `Accept`, nothing changes. Otherwise, the lines make the new choice.
 abbrev pub AddsChoice : List MediaType → List (List ℕ) → List ℕ × Option Bool → List ℕ × Option Bool → Type 0
 AddsChoice offers lines old new = (length lines ≡ 0 → new ≡ old) × (0 < length lines → IsChoice offers lines old.0 new)
 
--- the row of a head, if there are many
+-- the row of a head's title, if there are several heads
 abbrev pub title_row : Bool → List (List ℕ) → List ℕ
 title_row many head = if many then row (codes "head ") (shown (title_of head)) else []
 
--- the row of a line that would be a header without its white space
+-- the row of a line with white space between the name `Content-Type` or `Accept` and a colon; nothing for any other line
 abbrev pub spaced_row : List ℕ → List ℕ
 spaced_row line =
     if is_spaced (codes "content-type") line || is_spaced (codes "accept") line then row (codes "white space before the colon: ") (shown line) else []
 
--- what is known before and after a head
+-- A head adds, in order: its title, its lines with white space before a colon, its values of `Content-Type`, `count_row`, and its choice.
 pub record AddsHead (offers : List MediaType) (many : Bool) (old : State) (head : List (List ℕ)) (new : State) : Type 0 where
   pub between : List ℕ
   pub types : FoldsTo AddsType (old.text ++ (title_row many head ++ flat_map spaced_row head), old.are_good)
@@ -168,21 +172,21 @@ pub record AddsHead (offers : List MediaType) (many : Bool) (old : State) (head 
   pub choice : AddsChoice offers (values_of (codes "accept:") head)
       (between ++ count_row (values_of (codes "content-type:") head), old.choice) (new.text, new.choice)
 
--- the row which says that no head has an `Accept`, and the line that is read in its place, under the last head
+-- the row which says that no head has an `Accept`, and the line that is read in its place; neither if a head has one
 abbrev pub missing : Option Bool → List ℕ × List (List ℕ)
 missing None = (codes "no Accept\n", codes "*/*" ∷ [])
 missing (Some choice) = ([], [])
 
--- the row of an input that is cut off
+-- the row which says that an input is cut off, if it is
 abbrev pub cut_row : Bool → List ℕ
 cut_row cut = if cut then codes "not read after 1048576 bytes\n" else []
 
--- the verdict on values that are all good or not, and on the last choice
+-- the verdict: acceptable if each `Content-Type` is accepted, and the last choice, if there is one, is `true`
 abbrev pub verdict_of : Bool → Option Bool → Verdict
 verdict_of are_good choice = if are_good && unwrap_or choice true then Verdict.Acceptable else Verdict.NotAcceptable
 
--- the text is the report on these heads and offers, and the verdict is the last choice's, unless a `Content-Type` is bad; an input that is
--- cut off may have no head, and then has no report
+-- The text is the report on these heads and offers, without control characters. The verdict follows from each `Content-Type` and the last
+-- choice. An input that is cut off may have no head, and then has no report.
 pub record IsReport (offers : List MediaType) (cut : Bool) (heads : List (List (List ℕ))) (text : List ℕ) (verdict : Verdict) : Type 0 where
   pub state : State
   pub last : List ℕ × Option Bool
@@ -192,10 +196,10 @@ pub record IsReport (offers : List MediaType) (cut : Bool) (heads : List (List (
   pub is_text : text ≡ without_controls (last.0 ++ cut_row cut)
   pub is_verdict : verdict ≡ verdict_of state.are_good last.1
 
--- an input of more bytes than the limit is cut off: it is read to one byte past it, which only shows that the line before has ended
+-- whether an input is cut off: more bytes than the limit were read
 abbrev pub is_cut : List ℕ → Bool
 is_cut bytes = nat_lt limit (length bytes)
 
--- the text is the report on the bytes that were read, and on offers
+-- The text and the verdict are those of the report on the bytes that were read, and on offers.
 abbrev pub IsReportOf : List MediaType → List ℕ → List ℕ → Verdict → Type 0
 IsReportOf offers bytes text verdict = IsReport offers (is_cut bytes) (heads_of (is_cut bytes) (bare_lines bytes)) text verdict

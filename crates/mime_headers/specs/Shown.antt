@@ -1,17 +1,19 @@
--- What a terminal would act on: the characters of which a dot is shown.
+-- The control characters, which a terminal would act on, and the text that shows a dot in place of each.
 use Rattle.std.specs.Prelude.{ℕ, ◌-◌, Bool, List, [], ◌∷◌, ◌==◌, ◌||◌, ◌&&◌, nat_le, nat_lt, not, if◌then◌else◌}
 
--- the number of bytes of the control character that bytes begin with: U+0000 to U+001F but the line feed, U+007F, U+0080 to U+009F in UTF-8,
--- and those that turn the direction of text, U+202A to U+202E and U+2066 to U+2069; or 0
+-- whether a byte is from `least` to `most`
 abbrev pub is_within : ℕ → ℕ → ℕ → Bool
 is_within least most b = nat_le least b && nat_le b most
 
+-- whether a byte is an ASCII control character other than the line feed: U+0000 to U+001F, or U+007F
 abbrev pub is_ascii_control : ℕ → Bool
 is_ascii_control b = (nat_lt b 32 && not (b == 10)) || b == 127
 
+-- whether these bytes after byte 226 encode a character that changes the direction of text: U+202A to U+202E, or U+2066 to U+2069
 abbrev pub is_direction : ℕ → ℕ → Bool
 is_direction c d = (c == 128 && is_within 170 174 d) || (c == 129 && is_within 166 169 d)
 
+-- the number of bytes of the control character that bytes begin with: one of the above, or U+0080 to U+009F; 0 if there is none
 abbrev pub control_len : List ℕ → ℕ
 control_len [] = 0
 control_len (b ∷ []) = if is_ascii_control b then 1 else 0
@@ -21,7 +23,7 @@ control_len (b ∷ c ∷ d ∷ bytes) =
     if b == 194 && is_within 128 159 c then 2 else
     if b == 226 && is_direction c d then 3 else 0
 
--- bytes with a dot for each, of which so many at the start are passed over
+-- the bytes after the first `passed`, with a dot in place of each control character
 abbrev pub shown_after : ℕ → List ℕ → List ℕ
 shown_after passed [] = []
 shown_after passed (b ∷ bytes) =
