@@ -5,8 +5,7 @@ ghost use Rattle.std.specs.List.{FoldsTo};
 ghost use Rattle.std.specs.Vec.{vec_items};
 ghost use Rattle.mime_io.specs.Lines.{row};
 ghost use Rattle.mime_headers.specs.Head.{bare_lines, heads_of};
-ghost use Rattle.mime_headers.specs.Report.{AddsChoice, AddsEntry, AddsLines, AddsType, HasBoundary, IsRead, IsReport, best_row, count_row, fault_place, fault_rows, media_rows, missing, offer_row};
-ghost use Rattle.mime_headers.specs.Report.{place_text, range_row, row_if, shown, spaced_row, weighed_text};
+ghost use Rattle.mime_headers.specs.Report.{AddsChoice, AddsEntry, AddsLines, AddsType, HasBoundary, IsRead, IsReport, best_row, count_row, fault_place, fault_rows, media_rows, missing, offer_row, place_text, range_row, row_if, shown, spaced_row, weighed_text};
 
 use crate::head::{heads_of, is_spaced, title_of, values_of};
 use crate::shown::without_controls;
