@@ -12,13 +12,11 @@ from contextlib import suppress
 from itertools import chain, islice, repeat
 from types import SimpleNamespace
 
-from commands import TOP, run, told
+from commands import SHORT, TOP, run, told
 
 # The model shares no code with the crates.
 MODEL = SimpleNamespace(**runpy.run_path(f"{TOP}/vectors/http_model"))
 OK, _, MISSING_SUBTYPE, _, _, _, INVALID_BYTE, NO_MEMORY, NOT_UTF8, _, NOT_ACCEPTABLE, BAD_OFFER, NO_BOUNDARY, BAD_PARAMETER = range(14)
-# The length of the longest media type that asks for no memory.
-SHORT = 40
 # The size of the buffer that a call needs, if it needs one.
 ROOMS = {"read": lambda text: 2 * len(text) + 2, "content_type": lambda value: 3 * len(value) + 2,
          "accept": lambda text: 3 * len(text) + 3, "list": lambda text: 2 * len(text),

@@ -30,6 +30,8 @@ RT_SECONDS, PROGRAM_SECONDS = 60 * 60, 60
 KINDS = {"": "rt run --backend llvm", ".by-rattle": "rt run --backend rattle", "_tests": "rt test"}
 # The program logic that the proofs are made for, as `rt version` prints it: that of rattle-kit-13b and rattle-kit-13f.
 LOGIC = "dac8208d650f15bf"
+# The length of the longest media type that asks for no memory.
+SHORT = 40
 # The lines by which two lists of lines differ, with the names of the lists.
 differences = functools.partial(unified_diff, n=0, lineterm="")
 say = functools.partial(print, file=sys.stderr, flush=True)
