@@ -20,16 +20,15 @@ pub use crate::scan::fault::{FromStrError, ParseError};
 pub(crate) use crate::scan::reader::{ByteReader, NEAR};
 
 /// The positions of an accepted string's parts, in bytes from 0, and the number of its parameters. The order of the
-/// fields matters for speed: the compiler would copy a position in two parts if the position were where another variant
-/// of `Scanned` has its byte.
+/// fields matters for speed: a position would be copied in two parts if it were where another variant of `Scanned` has
+/// its byte.
 #[derive(Clone, Copy)]
 pub(crate) struct Positions {
-    /// The plus before the suffix.
+    /// The position of the plus before the suffix.
     pub(crate) plus: Option<usize>,
-    /// The semicolon after the essence.
+    /// The position of the semicolon after the essence.
     pub(crate) semicolon: Option<usize>,
     pub(crate) slash: usize,
-    /// The number of parameters.
     pub(crate) pair_count: usize,
 }
 
@@ -47,8 +46,7 @@ pub(crate) enum Scanned {
     Followed(Positions, u8),
 }
 
-/// Reads the bytes of a token, and returns the byte that ends it. A plus ends the token, too, unless `with_plus` is
-/// true.
+/// Reads the rest of a token, and returns the byte that ends it. A plus ends the token, too, unless `with_plus` is true.
 #[inline(always)]
 fn token(reader: &mut ByteReader<'_>, with_plus: bool) -> Option<u8>
     ensures { Passes (token_bytes with_plus) reader.old reader.new result }
@@ -118,7 +116,7 @@ fn content(reader: &mut ByteReader<'_>) -> Option<u8>
     stop
 }
 
-/// Reads a subtype after its first byte. Returns the position of the last plus that was read, if any, and the byte that
+/// Reads a subtype's bytes after the first. Returns the position of the last plus among them, if any, and the byte that
 /// ends the subtype. `from` is the reader's count at the start of the string.
 #[inline(always)]
 fn subtype(reader: &mut ByteReader<'_>, from: u128) -> (Option<usize>, Option<u8>)

@@ -252,7 +252,7 @@ impl Mime {
         }
     }
 
-    /// Returns the subtype without its suffix, in lowercase: `svg` in `image/svg+xml`, `b+c` in
+    /// Returns the subtype without its suffix, in lowercase: `svg` for `image/svg+xml`, `b+c` for
     /// `a/b+c+d` (RFC 6838, 4.2.8).
     pub fn subtype(&self) -> Name<'_>
         ensures text { result.text.now ≡ subtype_of self.now.media }

@@ -35,8 +35,8 @@ pub enum ParseError {
     NoMemory,
 }
 
-/// Returns the text that `InvalidToken` prints, of at most 69 bytes. This function doesn't use the caller's formatter,
-/// whose width would pad each number.
+/// Returns the text, of at most 69 bytes, that `InvalidToken { pos, byte }` prints. This function doesn't use the
+/// caller's formatter, whose width would pad each number.
 fn token_text(pos: usize, byte: u8) -> Result<InlineText<80>, fmt::Error>
     ensures { IfOk result (λ text. inline_text text ≡ token_text pos byte) }
 {

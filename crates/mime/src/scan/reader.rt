@@ -20,12 +20,12 @@ pub(crate) struct ByteReader<'a> {
     at: usize,
     /// The count at which this reader begins.
     before: u128,
-    /// The number of known bytes: the bytes at the start of the string that `stops` describes.
+    /// The number of known bytes: `stops` describes this many bytes at the start of the string.
     known: usize,
     /// Which of the known bytes aren't common token bytes, as a bit mask.
     stops: u64,
-    /// The maximum number of bytes of a token that the caller's loop reads. `next_far` reads the others with a call,
-    /// which is slower for a short token.
+    /// The maximum number of a token's bytes that the first loop of `token` reads. `next_far` reads the others with a
+    /// call, which is slower for a short token.
     near: usize,
 }
 
@@ -98,8 +98,8 @@ impl<'a> Model for ByteReader<'a> {
 
 impl<'a> ByteReader<'a> {
     /// Creates a reader of all bytes of `text` that counts from `count`. The reader looks only at bytes that it has
-    /// counted, and at the next one, so that its count is the number of steps of a `MimeIter`. The caller's loop reads
-    /// at most `near` bytes of a token.
+    /// counted, and at the next one, so that its count is the number of steps of a `MimeIter`. The first loop of `token`
+    /// reads at most `near` bytes.
     #[inline(always)]
     pub(crate) fn new(text: &'a str, count: u128, near: usize) -> ByteReader<'a>
         requires { count + length text.now < 2 ^ 128 }
@@ -148,15 +148,15 @@ impl<'a> ByteReader<'a> {
         Some(byte)
     }
 
-    /// Returns the position up to which the caller's loop reads a token that begins at the next byte.
+    /// Returns the position up to which the first loop of `token` reads, if it begins at the next byte.
     #[inline(always)]
     pub(crate) fn near_end(&self) -> usize {
         // The sum wraps only if `near` is `usize::MAX`. Then `is_before` ignores the position.
         self.at.wrapping_add(self.near).min(self.text.len())
     }
 
-    /// Returns `true` if the caller's loop reads the next byte: if a byte is left, and either its position is before
-    /// `end`, or `near` is `usize::MAX`.
+    /// Returns `true` if the first loop of `token` reads the next byte: if a byte is left, and either its position is
+    /// before `end`, or `near` is `usize::MAX`.
     #[inline(always)]
     pub(crate) fn is_before(&self, end: usize) -> bool
         ensures { IsTrue result → 0 < length self.now.left }
@@ -178,7 +178,7 @@ impl<'a> ByteReader<'a> {
         byte
     }
 
-    /// Skips a token's bytes with a call that isn't inlined, unless the string has ended.
+    /// Skips the bytes up to the position that `end_far` returns, unless the string has ended.
     #[inline(always)]
     fn skip_far(&mut self, with_plus: bool)
         ensures { Passing (token_bytes with_plus) self.old self.new }
@@ -188,7 +188,7 @@ impl<'a> ByteReader<'a> {
         }
     }
 
-    /// Skips a token's bytes with a call that isn't inlined, and returns the byte after them, or `None` at the end.
+    /// Skips the same bytes as `skip_far`, and returns the byte after them, or `None` at the end.
     #[inline(always)]
     pub(crate) fn next_far(&mut self, with_plus: bool) -> Option<u8>
         ensures reaches { Reaches (token_bytes with_plus) self.old self.new result }
@@ -209,7 +209,7 @@ impl<'a> ByteReader<'a> {
     }
 
     /// Skips common token bytes, and returns the known byte after them, or `None` if no known byte ends them. Tokens
-    /// after the known bytes are read byte by byte, since many short tokens may follow.
+    /// that begin after the known bytes are read byte by byte, since many short tokens may follow.
     #[inline(always)]
     pub(crate) fn known_stop(&mut self) -> Option<u8>
         ensures { Reaches is_token_except_plus self.old self.new result }
@@ -242,8 +242,8 @@ impl<'a> ByteReader<'a> {
         stop == b';' || is_token(stop)
     }
 
-    /// Makes all bytes of a window known, if only a block is known and `may_go_on` returns `true`. Most rejected
-    /// strings are rejected before a window is needed.
+    /// Makes up to `WINDOW` bytes known, if only a block is known and `may_go_on` returns `true`. Most rejected strings
+    /// are rejected within this block.
     #[inline(always)]
     pub(crate) fn look_further(&mut self)
         ensures { self.new ≡ self.old }

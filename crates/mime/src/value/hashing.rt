@@ -53,7 +53,7 @@ fn number_up_to_seven(rest: &[u8]) -> u64
     low as u64 + number_up_to_three(&rest[4..]) * 0x1_0000_0000
 }
 
-/// Returns the last word of a part: the bytes after its whole words, `END`, and zeros. The word is computed as a
+/// Returns the last word of a part: `rest` (the bytes after its whole words), `END`, and zeros. The word is computed as a
 /// little-endian number, since most hashers hash words as numbers.
 #[inline(always)]
 fn end_word(rest: &[u8]) -> [u8; WORD]

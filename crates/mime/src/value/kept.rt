@@ -66,7 +66,7 @@ fn low_len(name: &str, value: &str) -> usize
     if names_charset(name) { value.len() } else { 0 }
 }
 
-/// Lowercases everything up to the semicolon, the names of the first `count` pairs, and the values of `charset`.
+/// Lowercases everything up to position `semicolon`, the names of the first `count` pairs, and the values of `charset`.
 /// `bytes` is a copy of the bytes of `text`. This function isn't inlined: most strings have no capital.
 #[cold]
 #[inline(never)]
@@ -88,7 +88,7 @@ pub(crate) fn lowercase_text(bytes: &mut [u8], text: &str, semicolon: usize, cou
     }
 }
 
-/// Returns the kept text of a string with `count` pairs. Only the parts that ignore case are lowercased.
+/// Returns the kept text of a string with `count` pairs after position `semicolon`. Only the parts that ignore case are lowercased.
 #[inline(always)]
 fn keep_pairs(
     alloc: Global,

@@ -27,8 +27,8 @@ pub(crate) struct Pair<'a> {
     pub(crate) rest: Rest<'a>,
 }
 
-/// Returns the same as `content_len`. This function isn't inlined: few values have a backslash before their first
-/// quote.
+/// Returns the same as `content_len`. This function isn't inlined: few values have a backslash directly before their
+/// first quote.
 #[cold]
 #[inline(never)]
 fn content_len_past_quoted_pairs(text: &[u8]) -> usize
@@ -38,7 +38,7 @@ fn content_len_past_quoted_pairs(text: &[u8]) -> usize
 }
 
 /// Returns the length in bytes of the quoted content that `text` begins with: up to the first quote outside a quoted
-/// pair, or else to the end of `text`. `quote` is the position of the first quote, or the length if there is none.
+/// pair, or else to the end of `text`. `quote` is the position of the first quote, or `text.len()` if there is none.
 #[inline(always)]
 fn content_len(text: &[u8], quote: usize) -> usize
     requires { quote ≡ first_position quote_byte text.now }
@@ -61,8 +61,8 @@ fn count_spaces(bytes: &[u8]) -> usize
     first_stop(bytes, 0, &Class::of(b' ', b'\t').others())
 }
 
-/// Returns the rest after the first semicolon, or an empty rest if there is none. Most rests begin with a semicolon, or
-/// are empty.
+/// Returns the rest after the first semicolon of `end`, or an empty rest if there is none. `end` usually begins with a
+/// semicolon, or is empty.
 #[inline(always)]
 fn after_semicolon<'a>(end: Rest<'a>) -> Rest<'a>
     ensures { result ≡ after_byte semicolon_byte end.entry }
@@ -86,7 +86,7 @@ fn cut_content<'a>(text: &Rest<'a>) -> (&'a str, Rest<'a>)
     text.split_around(length)
 }
 
-/// Returns the value that follows a name's equals sign, without its quotes. The text after the value isn't searched.
+/// Returns a pair's value without its quotes. `end` begins after the equals sign, and isn't searched after the value.
 #[inline(always)]
 fn value_after<'a>(end: &Rest<'a>) -> &'a str
     ensures { (list : ℕ) → (name : List ℕ) → result.now ≡ (cut_after_equals list name end.now).value }
@@ -97,7 +97,7 @@ fn value_after<'a>(end: &Rest<'a>) -> &'a str
     end.split_at_first(b';').0
 }
 
-/// Returns the pair of a name and the value that follows its equals sign. `list` is the list's length in bytes.
+/// Returns the pair of a name and its value. `end` begins after the equals sign. `list` is the list's length in bytes.
 #[inline(always)]
 fn cut_value<'a>(list: usize, name: &'a str, end: &Rest<'a>) -> Pair<'a>
     requires { length end.now ≤ list }
@@ -284,8 +284,8 @@ impl<'a> Pairs<'a> {
         }
     }
 
-    /// Returns an iterator over the first `count` pairs after a string's semicolon, or over no pairs if there is no
-    /// semicolon.
+    /// Returns an iterator over the first `count` pairs after the semicolon at position `semicolon`, or over no pairs if
+    /// `semicolon` is `None`.
     #[inline(always)]
     pub(crate) fn of_text(text: &'a str, semicolon: Option<usize>, count: usize) -> Pairs<'a>
         requires { IfSome semicolon (λ at. slice_get text.now at ≡ Some semicolon_byte) }

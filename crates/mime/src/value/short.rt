@@ -47,7 +47,7 @@ fn padded(text: &str) -> [u8; PADDED]
     bytes
 }
 
-/// Lowercases the text at the start of `block`, but only its parts that ignore case. The text has `count` pairs.
+/// Lowercases the text at the start of `block`, but only its parts that ignore case. `count` pairs follow position `semicolon`.
 #[inline(always)]
 fn lowercase_pairs(block: &mut [u8; PADDED], text: &str, semicolon: usize, count: usize)
     requires short { length text.now ≤ SHORT }
