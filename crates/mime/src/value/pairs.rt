@@ -284,7 +284,7 @@ impl<'a> Pairs<'a> {
         }
     }
 
-    /// Returns an iterator over the first `count` pairs after the semicolon at position `semicolon`, or over no pairs if
+    /// Returns an iterator over the first `count` pairs of `text` after position `semicolon`, or over no pairs if
     /// `semicolon` is `None`.
     #[inline(always)]
     pub(crate) fn of_text(text: &'a str, semicolon: Option<usize>, count: usize) -> Pairs<'a>
