@@ -79,7 +79,7 @@ fn are_pairs(kept: Pairs<'_>, pairs: Pairs<'_>) -> bool
     others.next().is_none()
 }
 
-/// Returns `true` if the first semicolon is at position `semicolon`, and `count` parameters follow it.
+/// Returns `true` if a string with these `positions` has its first semicolon at `semicolon`, and `count` parameters.
 #[inline(always)]
 fn has_shape(positions: Positions, semicolon: usize, count: usize) -> bool
     ensures { IsTrue result ↔ ((positions.semicolon ≡ Some semicolon) × (positions.pair_count ≡ count)) }

@@ -197,7 +197,7 @@ pub fn mime_equality()
     ensures { (first second : OwnedMedia) → IsTrue (⟦<Mime as PartialEq>⟧.eq first second) ↔ Same first.media second.media }
 {}
 
-/// The `Ordering` of two values says which of them is before the other: `a/b` is less than `a/c`.
+/// The `Ordering` of two values says which is before the other, or that they are equal: `a/b` is less than `a/c`.
 pub fn mime_order()
     ensures { (first second : OwnedMedia) → IsOrderOf first.media second.media (⟦<Mime as Ord>⟧.cmp first second) }
 {}
@@ -270,23 +270,23 @@ pub fn joined_comes_back()
     ensures { JoinedComesBack }
 {}
 
-/// A list of accepted texts (RFC 7230, 7), without white space between an entry and its comma, is cut into exactly its
-/// entries. Spaces, tabs and commas may precede the first entry and follow each comma: `a/b, ,\tc/d` is cut into `a/b`
-/// and `c/d`.
+/// A list of accepted texts (RFC 7230, 7), without white space between an entry and the comma after it, is cut into
+/// exactly its entries. Spaces, tabs and commas may precede the first entry and follow each comma: `a/b, ,\tc/d` is cut
+/// into `a/b` and `c/d`.
 #[tactic(auto, using(crate::proofs::CutLemmas::Containment::http_list_is_cut))]
 pub fn http_list_is_cut()
     ensures { HttpListIsCut }
 {}
 
-/// A run of a `MimeIter` yields the items of the cut: over `a/b, e, c/d` it yields two media types and a bad piece. In
-/// place of a media type whose piece has more than 40 bytes, it may yield `NoMemory`, which ends the run.
+/// A run of a `MimeIter` yields the items of the remaining string's cut: over `a/b, e, c/d` it yields `a/b`, the bad piece
+/// `e`, and `c/d`. In place of a media type whose piece has more than 40 bytes, it may yield `NoMemory`, which ends the run.
 #[tactic(auto, using(crate::proofs::IterLemmas::run_gives_cut))]
 pub fn run_gives_cut()
     ensures { RunGivesCut }
 {}
 
 /// Unless memory runs out, a run over a string with a comma outside quoted strings yields the items of the text before
-/// the comma, then this text's rest as a bad piece unless empty, then the items of the text after the comma: over
+/// the comma, then its rest as a bad piece if the rest isn't empty, then the items of the text after the comma: over
 /// `e, c/d` it yields the bad piece `e` and `c/d`.
 pub fn comma_contains_on_runs()
     ensures { CommaContainsOnRuns }

@@ -75,8 +75,8 @@ pub trait ParamKey: Drop {
     fn accepts(&self, name: Name<'_>) -> bool
         ensures { IsTrue result ↔ Accepts self.now name.entry.text.now name.entry.ignores_case };
 
-    /// Returns the text that every accepted name equals, ignoring ASCII case, if there is such a text: `P` for
-    /// `TextKey("P")`. The text makes a look-up faster, and doesn't change its result. The default implementation
+    /// Returns a text that every accepted name equals, ignoring ASCII case, such as `P` for `TextKey("P")`, or else
+    /// `None`. The text makes a look-up faster, and doesn't change its result. The default implementation
     /// returns `None`.
     #[inline]
     fn text(&self) -> Option<&str>
