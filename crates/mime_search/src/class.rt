@@ -5,7 +5,7 @@ ghost use Rattle.mime_search.specs.Classes.{is_stop, outside, stops};
 
 use std::simd::prelude::*;
 
-/// The number of bytes that are compared at once.
+/// The number of bytes of a block, which are compared at once.
 pub const BLOCK: usize = 16;
 
 /// An inclusive range of bytes: its first byte, and its last.
@@ -13,7 +13,7 @@ pub const BLOCK: usize = 16;
 pub struct Range(pub u8, pub u8);
 
 /// The bytes at which a search stops: the bytes in any of three ranges, or all other bytes. Before a byte is compared
-/// with the first range, the bits of `fold` are set in it. If `fold` is 32, the range `a` to `z` includes the capitals.
+/// with `folded`, the bits of `fold` are set in the byte. If `fold` is 32, a `folded` of `a` to `z` includes the capitals.
 #[derive(Clone, Copy)]
 pub struct Class {
     pub fold: u8,

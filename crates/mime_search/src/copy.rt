@@ -4,7 +4,7 @@ ghost use Rattle.std.specs.Prelude.{◌≡◌, ◌+◌, ◌<◌, ◌≤◌, leng
 
 use std::simd::Simd;
 
-/// Copies all bytes: the first `N` and the last `N`, which may overlap.
+/// Copies `bytes` to `out`: the first `N` bytes and the last `N`, which may overlap.
 #[inline(always)]
 fn copy_ends<const N: usize>(out: &mut [u8], bytes: &[u8])
     requires same { length out.old ≡ length bytes.now }
@@ -17,7 +17,7 @@ fn copy_ends<const N: usize>(out: &mut [u8], bytes: &[u8])
     Simd::<u8, N>::from_slice(&bytes[last..]).copy_to_slice(&mut out[last..]);
 }
 
-/// Copies a long string. This function isn't inlined: few strings are long.
+/// Copies `bytes`, a long string, to `out`. This function isn't inlined: few strings are long.
 #[inline(never)]
 fn copy_long(out: &mut [u8], bytes: &[u8])
     requires { length out.old ≡ length bytes.now }
@@ -26,7 +26,7 @@ fn copy_long(out: &mut [u8], bytes: &[u8])
     out.copy_from_slice(bytes);
 }
 
-/// Copies fewer than 8 bytes.
+/// Copies `bytes`, fewer than 8, to `out`.
 #[inline(always)]
 fn copy_few(out: &mut [u8], bytes: &[u8])
     requires same { length out.old ≡ length bytes.now }

@@ -6,7 +6,7 @@ ghost use Rattle.mime_search.specs.Differences.{DifferAt};
 use crate::class::BLOCK;
 use std::simd::prelude::*;
 
-/// Returns the position at which two strings first differ in the block that begins at `at`, if they differ there.
+/// Returns the position in two strings at which the blocks that begin at `at` first differ, or `None` if they are equal.
 #[inline(always)]
 pub fn difference_from(a: &[u8], b: &[u8], at: usize) -> Option<usize>
     requires room { at + BLOCK ≤ length a.now }

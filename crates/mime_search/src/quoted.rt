@@ -78,7 +78,7 @@ fn after_quoted_pairs_among(text: &[u8], from: usize, size: usize, stops: u64) -
     end
 }
 
-/// Skips bytes up to the next quote or backslash. If one of them is in the first block, skips this block with its
+/// Skips bytes up to the next quote or backslash. If the block at `from` has such a byte, skips this block with its
 /// quoted pairs, but stops at a quote outside these pairs. Returns the position after the skipped bytes.
 #[inline(always)]
 fn after_plain(text: &[u8], from: usize) -> usize

@@ -126,8 +126,8 @@ impl<'a> Rest<'a> {
         first_stop_at_end(whole, from, &class) - from
     }
 
-    /// Splits the rest at the ASCII byte at `position`, and drops this byte. If `position` is the rest's end, returns
-    /// the whole rest and an empty rest.
+    /// Returns the text before the ASCII byte at `position`, and the rest after this byte. If `position` is the rest's
+    /// end, returns the whole rest and an empty rest.
     #[inline(always)]
     pub fn split_around(&self, position: usize) -> (&'a str, Rest<'a>)
         requires within { position ≤ length self.now }
@@ -140,8 +140,8 @@ impl<'a> Rest<'a> {
         (&text[..position], self.after(position + dropped))
     }
 
-    /// Splits the rest at the first `byte`, which must be ASCII, and drops this byte. If the rest has no such byte,
-    /// returns the whole rest and an empty rest.
+    /// Returns the text before the first `byte`, which must be ASCII, and the rest after this byte. If the rest has no
+    /// such byte, returns the whole rest and an empty rest.
     #[inline(always)]
     pub fn split_at_first(&self, byte: u8) -> (&'a str, Rest<'a>)
         requires ascii { byte < 128 }

@@ -6,7 +6,7 @@ ghost use Rattle.mime_search.specs.Classes.{stops, end_of_run};
 use crate::class::{BLOCK, Class, stops_in_lanes};
 use std::simd::prelude::*;
 
-/// Returns a bit mask of the bytes that stop a search, for the block that begins at `at`.
+/// Returns which bytes of the block that begins at `at` stop a search, as a bit mask.
 #[inline(always)]
 pub(crate) fn stops_in_block(text: &[u8], at: usize, class: &Class) -> u64
     requires { at + BLOCK ≤ length text.now }
