@@ -65,7 +65,7 @@ pub struct Device<T> {
 }
 
 impl<T> Device<T> {
-    /// Returns the result of a call of `inner`, without the cause of an error. An error sets the flag `failed`.
+    /// Returns `answer`, the result of a call of `inner`, without an error's cause. An error sets the flag `failed`.
     fn flagged<V>(&mut self, answer: io::Result<V>) -> Result<V, Failed>
         ensures inner { self.new.inner ≡ self.old.inner }
         ensures answer { MatchResult answer (λ value. result ≡ Ok value) (λ _. IsErr result) }

@@ -58,8 +58,8 @@ pub fn read_past_limit<S: Source>(alloc: Global, source: &mut S) -> Result<Vec<u
     read(alloc, source, LIMIT + 1)
 }
 
-/// Reads a source to its end or to one byte past the limit. Returns at most `most` bytes. `most` is the limit or the
-/// limit plus one. If `most` is the limit and the source has more bytes, returns `TooLong`.
+/// Reads a source to its end or to one byte past the limit, and returns the bytes read. `most` is the maximum length of
+/// the result: the limit or the limit plus one. If `most` is the limit and the source has more bytes, returns `TooLong`.
 fn read<S: Source>(alloc: Global, source: &mut S, most: usize) -> Result<Vec<u8>, RunError>
     requires least { limit ≤ most }
     requires greatest { most ≤ limit + 1 }

@@ -25,7 +25,7 @@ pub(crate) fn report_of(alloc: Global, input: &[u8], mode: Mode) -> Result<Strin
     Ok(report)
 }
 
-/// Adds the report on a line.
+/// Adds the report on a line to `report`.
 fn push_line(alloc: Global, report: &mut String, line: &[u8], mode: Mode) -> Result<(), AllocError>
     ensures { OnOk result (Adds (ReportsLine mode line.now) (string_bytes report.old) (string_bytes report.new)) }
 {
@@ -35,7 +35,7 @@ fn push_line(alloc: Global, report: &mut String, line: &[u8], mode: Mode) -> Res
     }
 }
 
-/// Adds the report on a line that is valid UTF-8.
+/// Adds the report on a line of valid UTF-8 to `report`.
 #[inline(always)]
 fn push_text(alloc: Global, report: &mut String, text: &str, mode: Mode) -> Result<(), AllocError>
     ensures { OnOk result (Adds (ReportsLine mode text.now) (string_bytes report.old) (string_bytes report.new)) }
@@ -46,8 +46,8 @@ fn push_text(alloc: Global, report: &mut String, text: &str, mode: Mode) -> Resu
     }
 }
 
-/// Adds the rows of the media type that a string is read as, or a row with the string's fault. This function isn't
-/// inlined: within the loop over the lines, the scanner's loops would be slower.
+/// Adds to `report` the rows of the media type that a string is read as, or a row with the string's fault. This function
+/// isn't inlined: within the loop over the lines, the scanner's loops would be slower.
 #[inline(never)]
 fn push_reading(alloc: Global, report: &mut String, text: &str) -> Result<(), AllocError>
     ensures { OnOk result (Adds (ReportsText Mode.Parts text.now) (string_bytes report.old) (string_bytes report.new)) }
@@ -61,7 +61,7 @@ fn push_reading(alloc: Global, report: &mut String, text: &str) -> Result<(), Al
     }
 }
 
-/// Adds a row for each item of a string.
+/// Adds a row to `report` for each item that `MimeIter` yields for a string.
 fn push_items(alloc: Global, report: &mut String, text: &str) -> Result<(), AllocError>
     ensures { OnOk result (Adds (ReportsText Mode.List text.now) (string_bytes report.old) (string_bytes report.new)) }
 {
@@ -76,7 +76,7 @@ fn push_items(alloc: Global, report: &mut String, text: &str) -> Result<(), Allo
     Ok(())
 }
 
-/// Adds the rows of a media type.
+/// Adds the rows of a media type to `report`.
 fn push_value(report: &mut String, mime: &Mime) -> Result<(), AllocError>
     ensures { OnOk result (string_bytes report.new ≡ string_bytes report.old ++ value_rows mime.now.media) }
 {
@@ -87,7 +87,7 @@ fn push_value(report: &mut String, mime: &Mime) -> Result<(), AllocError>
     push_params(report, mime)
 }
 
-/// Adds the row of the suffix, if there is one.
+/// Adds the row of a media type's suffix, if any, to `report`.
 fn push_suffix(report: &mut String, mime: &Mime) -> Result<(), AllocError>
     ensures { OnOk result (string_bytes report.new ≡ string_bytes report.old ++ suffix_row (suffix_of mime.now.media)) }
 {
@@ -97,7 +97,7 @@ fn push_suffix(report: &mut String, mime: &Mime) -> Result<(), AllocError>
     }
 }
 
-/// Adds a row for each parameter.
+/// Adds a row for each parameter of a media type to `report`.
 fn push_params(report: &mut String, mime: &Mime) -> Result<(), AllocError>
     ensures { OnOk result (string_bytes report.new ≡ string_bytes report.old ++ param_rows mime.now.media.pairs) }
 {
@@ -109,7 +109,7 @@ fn push_params(report: &mut String, mime: &Mime) -> Result<(), AllocError>
     Ok(())
 }
 
-/// Adds a row: a label, a string and a line feed.
+/// Adds a row to `report`: a label, a string and a line feed.
 #[inline(always)]
 fn push_row(report: &mut String, label: &str, text: &str) -> Result<(), AllocError>
     ensures { OnOk result (string_bytes report.new ≡ string_bytes report.old ++ row label.now text.now) }

@@ -65,7 +65,7 @@ struct Reader<'a> {
     is_called_again: bool,
 }
 
-/// Returns a reader of these bytes.
+/// Returns a reader of `bytes` in a scenario. The reader fails after `reads` reads.
 fn giving<'a>(bytes: &'a [u8], scenario: &Scenario, reads: usize, fails_once: bool) -> Reader<'a> {
     Reader {
         byte: *bytes.first().unwrap_or(&b'a'),
@@ -121,7 +121,7 @@ struct Writer<'a> {
     is_called_again: bool,
 }
 
-/// Returns a writer that accepts these bytes.
+/// Returns a writer that accepts `bytes`, within the limits of a scenario.
 fn taking<'a>(bytes: &'a [u8], scenario: &Scenario, fails_once: bool) -> Writer<'a> {
     Writer {
         bytes,
@@ -199,8 +199,8 @@ fn written<'a>(case: &Case<'a>, scenario: &Scenario, at: usize) -> &'a [u8] {
 
 /// Checks a run of a scenario. If the run must return `Read`, read number `at`, counted from 0, fails. If it must
 /// return `Write`, the writer fails at byte `at`, or at the flush if the scenario allows no flush. The run must return
-/// the scenario's result, and must write all the bytes that the writer accepts. The source may fail only if the result
-/// is `Read`, and the sink only if the result is `Write`. No call may follow a failure.
+/// the scenario's result, and must write all the bytes that the writer accepts. The source must fail exactly if the
+/// result is `Read`, and the sink exactly if the result is `Write`. No call may follow a failure.
 fn check(
     rt: &impl Abort,
     alloc: Global,
@@ -238,8 +238,8 @@ fn check(
     );
 }
 
-/// Checks two runs of a scenario for each place where a read or a write can fail: with a single failure, and with
-/// repeated failures.
+/// Checks two runs of a scenario, with a single failure and with repeated failures, for each place where a read or a
+/// write must fail. If none must fail, checks two runs.
 fn check_each(rt: &impl Abort, alloc: Global, case: &Case<'_>, scenario: &Scenario) {
     let count = match scenario.answer {
         // The last of these reads would have returned the end.
@@ -351,7 +351,7 @@ fn an_earlier_failure_stops_nothing(rt: HostRuntime) {
 }
 
 /// Runs a case with a slice of bytes as the sink, which doesn't allocate. Prints the line `now` before the run, and the
-/// line `end` after it. tools/refused_requests refuses each request for memory between these lines.
+/// line `end` after it. tools/refused_requests refuses, in turn, each request for memory between these lines.
 fn run_into(
     rt: &HostRuntime,
     case: &Case<'_>,
@@ -368,7 +368,7 @@ fn run_into(
 }
 
 /// Returns `true` if a run with a slice of bytes as the sink succeeds and writes all of its report, or runs out of
-/// memory and writes nothing. Prints what the run returned.
+/// memory and writes nothing. Prints the run's result and how many bytes it wrote.
 fn fills_slice(rt: &HostRuntime, case: &Case<'_>) -> bool {
     let mut room = [0u8; 256];
     let mut sink = Device {
@@ -432,7 +432,7 @@ fn an_endless_input_is_too_long(rt: HostRuntime) {
     check_all(&rt, rt.alloc(), &ENDLESS);
 }
 
-/// Inputs whose report stays the same if their first byte is repeated.
+/// Cases whose report stays the same if the input's first byte is repeated.
 const LETTERS: &[Case<'static>] = &[
     Case {
         mode: Mode::List,
