@@ -103,7 +103,7 @@ pub enum Atom {
 /// The old spelling of [`TEXT_JAVASCRIPT`].
 pub const TEXT_JAVSCRIPT: Atom = Atom::TEXT_JAVASCRIPT;
 
-/// A constant's string, with the positions of its slash, its plus and its semicolon.
+/// A constant's string, with the positions of its slash, and of its plus and its semicolon, if any.
 type Row = (&'static str, usize, Option<usize>, Option<usize>);
 
 /// The constants, in the order of the variants of [`Atom`].

@@ -57,7 +57,7 @@ fn nothing_of(text: &str) -> &str
 }
 
 impl<'a> ReadPiece<'a> {
-    /// Returns a result without a piece: the string was read to its end.
+    /// Returns a result with no piece and nothing left of the string, after `steps` bytes.
     #[inline(always)]
     fn none(text: &'a str, steps: u128) -> ReadPiece<'a>
         ensures piece { result.piece.now ≡ [] }

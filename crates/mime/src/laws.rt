@@ -286,7 +286,7 @@ pub fn run_gives_cut()
 {}
 
 /// Unless memory runs out, a run over a string with a comma outside quoted strings yields the items of the text before
-/// the comma, then its rest as a bad piece if the rest isn't empty, then the items of the text after the comma: over
+/// the comma, then this text's rest as a bad piece if it isn't empty, then the items of the text after the comma: over
 /// `e, c/d` it yields the bad piece `e` and `c/d`.
 pub fn comma_contains_on_runs()
     ensures { CommaContainsOnRuns }

@@ -26,8 +26,8 @@ pub fn write_report<T: Sink>(sink: &mut T, report: &[u8]) -> Result<(), RunError
     Ok(())
 }
 
-/// Returns the exit status of a run: 0 if it succeeded, 1 if it failed. If it failed, prints the error on standard
-/// error.
+/// Returns the exit status of a run with the result `outcome`: 0 if it succeeded, 1 if it failed. If it failed, prints
+/// the error on standard error.
 pub fn ended(rt: &impl Eprint, outcome: Result<(), RunError>) -> ExitCode
     ensures done { OnOk outcome (exit_status result ≡ 0) }
     ensures stopped { OnErr outcome (exit_status result ≡ 1) }

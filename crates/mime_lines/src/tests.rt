@@ -18,7 +18,7 @@ const ENOUGH: usize = 1 << 22;
 struct Scenario {
     /// The maximum number of bytes of one read or write.
     most: usize,
-    /// How many reads, writes and flushes succeed. The next one fails.
+    /// How many reads, writes and flushes succeed. The next of each kind fails.
     reads: usize,
     writes: usize,
     flushes: usize,
