@@ -195,7 +195,7 @@ impl<'a> MimeIter<'a> {
         self.steps
     }
 
-    /// Returns the next nonempty piece, if any, with the positions of its parts if the piece is a media type.
+    /// Returns the next piece to yield, if any, with the positions of its parts if the piece is a media type.
     #[inline(always)]
     fn next_piece(&mut self) -> Option<(&'a str, Option<Positions>)>
         ensures { IsFound self.old result self.new }

@@ -61,7 +61,7 @@ fn push_reading(alloc: Global, report: &mut String, text: &str) -> Result<(), Al
     }
 }
 
-/// Adds a row to `report` for each item that `MimeIter` yields for a string.
+/// Adds a row for each item of a string to `report`.
 fn push_items(alloc: Global, report: &mut String, text: &str) -> Result<(), AllocError>
     ensures { OnOk result (Adds (ReportsText Mode.List text.now) (string_bytes report.old) (string_bytes report.new)) }
 {
