@@ -14,7 +14,7 @@ use std::fmt::Write;
 use std::hash::{FoldHasher, Hash, Hasher};
 use std::str;
 
-/// Sums the results of an operation for each of these values, over all rounds.
+/// Sums the results of `$turn` for each `$it` in `$all`, over all rounds.
 macro_rules! sum {
     ($rounds:ident, $it:pat in $all:expr => $turn:expr) => {{
         let mut sum = 0usize;
@@ -27,8 +27,8 @@ macro_rules! sum {
     }};
 }
 
-/// Repeats an operation on each line of `texts`, or on the line's media type, and returns the sum of the results. Some operations also use
-/// lines of `others`. `operation` is a position in the list `OPERATIONS` of bench/driver.rs.
+/// Repeats an operation for each line of `texts`, or for its media type, and returns the sum of the results. Some operations also use lines
+/// of `others`. `operation` is a position, from 0, in the list `OPERATIONS` of bench/driver.rs.
 #[unsafe(no_mangle)]
 pub extern "C" fn mime_bench(
     alloc: Global,
@@ -90,7 +90,7 @@ fn values_of(alloc: Global, texts: &[&str]) -> Vec<Mime> {
     values
 }
 
-/// Reads and drops media types. The result is the length of the kept text, or 0 if the string is rejected.
+/// Reads and drops media types. Returns the sum of the lengths of their kept texts, over all rounds.
 #[inline(never)]
 fn read(alloc: Global, texts: &[&str], rounds: usize) -> usize {
     sum!(rounds, text in texts => match Mime::from_str(alloc, text) {
@@ -127,7 +127,7 @@ fn look_up_missing(values: &[Mime], rounds: usize) -> usize {
     sum!(rounds, mime in values => length_found(mime, TextKey("level")))
 }
 
-/// Returns the length of the value that a key finds, or 0 if it finds none.
+/// Returns the length of the value that a key finds in a media type, or 0 if there is none.
 #[inline(always)]
 fn length_found<K: ParamKey + Drop>(mime: &Mime, key: K) -> usize {
     match mime.get_param(key) {
@@ -161,13 +161,13 @@ fn parts(values: &[Mime], rounds: usize) -> usize {
     })
 }
 
-/// Compares the essence with two strings.
+/// Compares the essence of each media type with two strings.
 #[inline(never)]
 fn essence(values: &[Mime], rounds: usize) -> usize {
     sum!(rounds, mime in values => which_essence(mime))
 }
 
-/// Returns which of two strings the essence is: 1 or 2, or 0 if it is neither.
+/// Returns 1 if the essence is `text/html`, 2 if it is `application/json`, and otherwise 0.
 #[inline(always)]
 fn which_essence(mime: &Mime) -> usize {
     let essence = mime.essence_str();
@@ -195,8 +195,8 @@ fn cmp(values: &[Mime], others: &[Mime], rounds: usize) -> usize {
     sum!(rounds, (mime, other) in values.iter().zip(others) => mime.cmp(other).is_lt() as usize)
 }
 
-/// Hashes with the default hasher of a map. Returns how many hashes aren't 1. This number must be the same as the Rust crate's. The hashes
-/// themselves differ.
+/// Hashes media types with the default hasher of a map. Returns how many hashes aren't 1, which must be the same number as the Rust
+/// crate's. The hashes themselves differ.
 #[inline(never)]
 fn hash(values: &[Mime], rounds: usize) -> usize {
     sum!(rounds, mime in values => {
@@ -214,7 +214,7 @@ fn clone(values: &[Mime], rounds: usize) -> usize {
     })
 }
 
-/// Prints media types into a reused string.
+/// Prints each media type into the same string, cleared before.
 #[inline(never)]
 fn print(alloc: Global, values: &[Mime], rounds: usize) -> usize {
     let mut printed = String::new(alloc);
@@ -225,7 +225,7 @@ fn print(alloc: Global, values: &[Mime], rounds: usize) -> usize {
     })
 }
 
-/// Iterates over the media types of lists. The result is the sum of the lengths of their kept texts.
+/// Iterates over the media types of lists. Returns the sum of the lengths of their kept texts, over all rounds.
 #[inline(never)]
 fn items(alloc: Global, texts: &[&str], rounds: usize) -> usize {
     sum!(rounds, text in texts => {
@@ -239,7 +239,7 @@ fn items(alloc: Global, texts: &[&str], rounds: usize) -> usize {
     })
 }
 
-/// Reads header values.
+/// Reads header values. Returns the sum of the lengths of their kept texts, over all rounds.
 #[inline(never)]
 fn field(alloc: Global, texts: &[&str], rounds: usize) -> usize {
     sum!(rounds, text in texts => match content_type(alloc, text.as_bytes()) {
@@ -264,7 +264,7 @@ fn meant_boundary(alloc: Global, values: &[Mime], rounds: usize) -> usize {
     sum!(rounds, mime in values => boundary_len(alloc, mime))
 }
 
-/// Returns the length of the boundary of a multipart body, or 0 if there is none.
+/// Returns the length of the boundary that `boundary` finds in a media type, or 0 if there is none.
 #[inline(always)]
 fn boundary_len(alloc: Global, mime: &Mime) -> usize {
     match boundary(alloc, mime) {
@@ -273,7 +273,7 @@ fn boundary_len(alloc: Global, mime: &Mime) -> usize {
     }
 }
 
-/// Adds a parameter with each of these values to the first media type. The result is the length of the kept text.
+/// Adds a parameter with each of these values to the first media type. Returns the sum of the lengths of the kept texts, over all rounds.
 #[inline(never)]
 fn write_parameter(alloc: Global, values: &[&str], mimes: &[Mime], rounds: usize) -> usize {
     let Some(mime) = mimes.first() else {
@@ -282,7 +282,7 @@ fn write_parameter(alloc: Global, values: &[&str], mimes: &[Mime], rounds: usize
     sum!(rounds, value in values => written(with_parameter(alloc, mime, "p", value)))
 }
 
-/// Returns the length of the kept text, or 0 if nothing was written.
+/// Returns the length of a written media type's kept text, or 0 if nothing was written.
 #[inline(always)]
 fn written(made: Result<Option<Mime>, AllocError>) -> usize {
     match made {
@@ -313,7 +313,7 @@ fn cover(values: &[Mime], offers: &[Mime], rounds: usize) -> usize {
     sum!(rounds, (range, offer) in values.iter().zip(offers) => covers(range, offer) as usize)
 }
 
-/// Repeats an operation that is measured on only one string.
+/// Repeats an operation that uses only the first string, or the first media type, once for each string.
 #[inline(never)]
 fn one(
     alloc: Global,
