@@ -105,7 +105,7 @@ fn number_of(fault: &ParseError) -> u32
     }
 }
 
-/// Returns what is found in a text that isn't UTF-8: the position after its longest valid prefix.
+/// Returns what is found in a text that isn't UTF-8. `pos` is the position after its longest valid prefix.
 fn found_at(pos: usize) -> MimeFound
     ensures { result ≡ found_at pos 0 }
 {
@@ -139,7 +139,7 @@ fn text_of(bytes: &[u8]) -> Result<&str, Utf8Error>
     str::from_utf8(bytes)
 }
 
-/// Returns the answer for the error of a text or of a header's value.
+/// Returns the answer for an error in reading a text or a header's value.
 fn number_of_error(error: &FieldError) -> u32
     ensures { result ≡ number_of_error error.now }
 {
@@ -150,7 +150,7 @@ fn number_of_error(error: &FieldError) -> u32
     }
 }
 
-/// Returns what is found for the error of a text or of a header's value.
+/// Returns what is found for an error in reading a text or a header's value.
 fn found_of_error(error: &FieldError) -> MimeFound
     ensures { result ≡ found_of_error error.now }
 {
@@ -161,7 +161,7 @@ fn found_of_error(error: &FieldError) -> MimeFound
     }
 }
 
-/// Returns the media type that a text is read as.
+/// Reads the whole of a text as one media type.
 #[tactic(auto, using(crate::specs::Answers::is_not_text))]
 fn read(alloc: Global, text: &[u8]) -> Result<Mime, FieldError>
     ensures read { IfOk result (λ mime. IsUtf8 text.now × Reads text.now mime.media) }
@@ -214,7 +214,7 @@ fn put_parts(out: &mut [u8], at: usize, mime: &Mime) -> usize
     end
 }
 
-/// Writes the strings of a media type, and returns what is found.
+/// Writes the strings of a media type to the start of `out`, and returns what is found.
 #[inline(always)]
 fn put_texts(out: &mut [u8], mime: &Mime) -> MimeFound
     requires read { IsRead mime.now.media }
@@ -301,9 +301,9 @@ fn put_item(out: &mut [u8], at: usize, mark: u8, text: &str) -> usize
     put(out, next, text)
 }
 
-/// Finds the media types in `text`, as `MimeIter` does. For an `Accept` header, use `mime_accept`. Writes a string for each media type and
-/// each bad piece to `out`, which must have at least `2 * text.len()` bytes, and sets `length` to the number of bytes written. Returns
-/// `MIME_OK`, or another answer of include/mime.h if it wrote no list.
+/// Finds the media types in `text`, as `MimeIter` does. Writes a string for each media type and each bad piece to `out`, which must have at
+/// least `2 * text.len()` bytes, and sets `length` to the number of bytes written. Returns `MIME_OK`, or sets `length` to 0 and returns
+/// another answer of include/mime.h. For an `Accept` header, use `mime_accept`.
 #[unsafe(no_mangle)]
 #[tactic(auto, using(crate::specs::Answers::has_no_room, crate::specs::Answers::is_not_text))]
 pub extern "C" fn mime_list(alloc: Global, text: &[u8], out: &mut [u8], length: &mut usize) -> u32
@@ -422,8 +422,8 @@ fn has_bad(offered: &Accept) -> bool
     !offered.bad().is_empty()
 }
 
-/// Chooses the best offer of a list, such as `text/html, application/json`, for an `Accept` header (RFC 9110, 12.5.1). Sets `best` to its
-/// position in the list, counted from 0. If `is_there` is false, the request has no such header, and accepts everything. Returns `MIME_OK`,
+/// Chooses the best offer of a list, such as `text/html, application/json`, for an `Accept` header (RFC 9110, 12.5.1). Sets `best` to the
+/// offer's position in the list, from 0. If `is_there` is false, the request has no such header, and accepts everything. Returns `MIME_OK`,
 /// `MIME_BAD_OFFER`, `MIME_NOT_ACCEPTABLE` or `MIME_NO_MEMORY`.
 #[unsafe(no_mangle)]
 pub extern "C" fn mime_best(
@@ -454,8 +454,8 @@ pub extern "C" fn mime_best(
     }
 }
 
-/// Writes the positions of the acceptable offers of a list to the start of `order`, the best first, and sets `count` to their number (RFC
-/// 9110, 12.5.1). Compares offers like `mime_best`. Returns `MIME_OK`, or sets `count` to 0 and returns another answer of include/mime.h.
+/// Writes the positions of the acceptable offers of a list to the start of `order`, the best first (RFC 9110, 12.5.1). Sets `count` to
+/// their number. Compares offers as `mime_best` does. Returns `MIME_OK`, or sets `count` to 0 and returns another answer of include/mime.h.
 #[unsafe(no_mangle)]
 pub extern "C" fn mime_order(
     alloc: Global,

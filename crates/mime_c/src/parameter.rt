@@ -73,7 +73,7 @@ fn has_backslash(value: &[u8]) -> bool
     first_stop(value, 0, &Class::of(b'\\', b'\\')) < value.len()
 }
 
-/// Writes the bytes that a value means, and returns their number. A backslash and the byte after it mean that byte.
+/// Writes the bytes that a value means to the start of `out`, and returns their number. A backslash and the byte after it mean that byte.
 fn put_unescaped(out: &mut [u8], value: &[u8]) -> usize
     requires { length value.now < length out.old }
     ensures written { HasWritten out.old out.new result (unescaped value.now) }
@@ -112,7 +112,7 @@ pub extern "C" fn mime_unescape(value: &[u8], out: &mut [u8], size: &mut usize) 
     MIME_OK
 }
 
-/// Returns `true` if a buffer is long enough for a media type with a parameter.
+/// Returns `true` if `out` is long enough for `mime_set_parameter` with these arguments.
 fn has_room(out: &[u8], text: &[u8], name: &[u8], value: &[u8]) -> bool
     ensures { IsTrue result ↔ (room_with text.now name.now value.now ≤ length out.now) }
 {
