@@ -11,7 +11,7 @@ use mime_http::trimmed;
 use mime_io::first_line;
 use std::alloc::{AllocError, Global};
 
-/// Returns a line without a carriage return at its end, and without a mark of `curl -v` at its start: `<` or `>`, and one space after it.
+/// Returns a line without a carriage return at its end, or a mark of `curl -v` at its start: `<` or `>`, and a space after it, if any.
 fn bare(line: &[u8]) -> &[u8]
     ensures { result.now ≡ without_mark (strip_carriage_return line.now) }
 {

@@ -80,7 +80,7 @@ fn push_choice(
     Ok(Some(is_acceptable))
 }
 
-/// Adds `no Accept`, and the rows of `*/*` and of the offers, if no head has an `Accept` (RFC 9110, 12.5.1). Returns the last outcome.
+/// Adds `no Accept`, and the rows of `*/*` and of the offers, if `choice` is `None` (RFC 9110, 12.5.1). Returns their outcome or `choice`.
 fn push_missing(
     text: &mut Vec<u8>,
     offers: &[Mime],
@@ -330,7 +330,7 @@ fn nth(mimes: &[Mime], at: usize) -> Option<&Mime>
     mimes.get(at)
 }
 
-/// Adds `before`, the number (from 1) and the text of the range at a position, and `after`. Adds only `none` if `at` is `None`.
+/// Adds `before`, the number (from 1) and the text of the range at position `at`, and `after`. Adds only `none` if `at` is `None`.
 fn push_place(
     text: &mut Vec<u8>,
     ranges: &[Mime],
