@@ -16,7 +16,7 @@ const Y: bool = true;
 /// The mark of a byte that may not occur in a boundary.
 const N: bool = false;
 
-/// A table of the bytes that may occur in a boundary.
+/// The mark of each byte.
 static BOUNDARY_BYTES: [bool; 256] = [
     N, N, N, N, N, N, N, N, N, N, N, N, N, N, N, N, N, N, N, N, N, N, N, N, N, N, N, N, N, N, N, N,
     Y, N, N, N, N, N, N, Y, Y, Y, N, Y, Y, Y, Y, Y, Y, Y, Y, Y, Y, Y, Y, Y, Y, Y, Y, N, N, Y, N, Y,

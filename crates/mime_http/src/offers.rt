@@ -49,7 +49,7 @@ impl Model for Closest {
 
 impl Closest {
     /// Keeps the range at position `at` if it covers the offer, unless the range kept so far is more specific, or is equally specific and
-    /// has a higher weight. `at` is after the position of that range. A range that names fewer parts isn't examined further.
+    /// has a higher weight. `at` is after the position of the range kept so far. If `range` names fewer parts, its parameters aren't read.
     #[inline(always)]
     fn look_at(&mut self, range: &Mime, offer: Offer<'_>, at: usize)
         requires within { at < self.old.0 }
@@ -126,7 +126,7 @@ pub(crate) fn best_of(ranges: &[Mime], offers: &[Mime]) -> Option<usize>
 /// An offer's rank and its position. The better of two offers has the lower `Ranked`.
 pub(crate) type Ranked = (Reverse<(u16, u8, usize, usize)>, usize);
 
-/// Returns the offers that weigh at least `least` thousandths, the best first.
+/// Returns the ranks and positions of the offers that weigh at least `least` thousandths, the best first.
 #[inline(always)]
 pub(crate) fn ranked(
     alloc: Global,

@@ -82,7 +82,7 @@ static KINDS: [u8; 256] = [
     Q, Q, Q, Q, Q, Q, Q, Q, Q, Q, Q, Q, Q, Q, Q, Q, Q, Q, Q, Q, Q, Q, Q, Q, Q, Q, Q, Q, Q, Q, Q, Q,
 ];
 
-/// The number of bytes in a block. The search for a byte that may not occur in a quoted string stops only between blocks.
+/// The maximum number of bytes in a block. The search for a byte that may not occur in a quoted string stops only between blocks.
 const KIND_BLOCK: usize = 64;
 
 /// Returns the kind of a byte.

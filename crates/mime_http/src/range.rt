@@ -124,7 +124,7 @@ pub(crate) fn param_count(mime: &Mime) -> usize
     count
 }
 
-/// Returns the number of the range's parameters other than `q`, before and after the `q` (RFC 9110, 12.5.1), and the range's weight.
+/// Returns the number of a range's parameters other than `q`, before and after the `q` (RFC 9110, 12.5.1), and the range's weight.
 /// Returns `None` if the offer lacks one of these parameters. This function isn't inlined, since most ranges have no parameters.
 #[inline(never)]
 fn demanded_among(range: &Mime, offer: &Mime) -> Option<(usize, u16)>

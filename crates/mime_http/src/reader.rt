@@ -290,7 +290,7 @@ fn put(room: &mut [u8], len: usize, bytes: &[u8]) -> usize
     end
 }
 
-/// Writes a semicolon, a space, and the parameter whose name begins at `name`, as `put` does.
+/// Writes a semicolon, a space, and the `spans` of the parameter whose name begins at `name`, as `put` does.
 fn put_parameter(room: &mut [u8], len: usize, value: &[u8], name: usize, spans: Spans) -> usize
     requires least { name ≤ spans.first }
     requires apart { spans.first ≤ spans.begin }
@@ -310,9 +310,9 @@ fn put_parameter(room: &mut [u8], len: usize, value: &[u8], name: usize, spans: 
     put(room, len, &value[spans.begin..spans.last])
 }
 
-/// Writes the media type of a value anew into the buffer `room`: its essence, and each parameter as `with_parameter` writes it. Returns the
-/// length of the whole text, or the fault of a value that HTTP doesn't allow. If `room` is shorter than the text, the text in it isn't
-/// complete. This doesn't allocate.
+/// Writes the media type of a value anew into the buffer `room`: its essence, and its parameters as `with_parameter` writes those that it
+/// keeps. Returns the length of the whole text, or the fault of a value that HTTP doesn't allow. If `room` is shorter than the text, the
+/// text in it isn't complete. This doesn't allocate.
 pub(crate) fn write_anew(value: &[u8], room: &mut [u8]) -> Result<usize, ParseError>
     ensures answer { MatchResult result
         (λ len. (parts : Parts) × (answer_of value.now ≡ read parts) × Holds room.new len (text_of_parts parts))

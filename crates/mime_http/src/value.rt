@@ -145,8 +145,8 @@ fn same_fault(value: &[u8], fault: ParseError) -> Option<ParseError>
 }
 
 /// Reads a value by writing it anew into `room`. `accepted` is `true` if `mime` accepts the value without the white space around it, but
-/// memory ran out. Such a value is read only if it is printed as its essence, in at most 40 bytes. This doesn't allocate if at most 40
-/// bytes are printed. Otherwise, it allocates a block for these bytes and one for the media type.
+/// memory ran out. Such a value is read only if it is printed as its essence, in at most 40 bytes. This allocates only if `accepted` is
+/// `false` and more than 40 bytes are printed: a block for them, unless they fit in `room`, and one for the media type.
 #[cycle(rejected)]
 #[inline(never)]
 fn read_into(
@@ -238,8 +238,8 @@ pub(crate) fn read_rejected(
 /// without a `Content-Type` may be treated as `application/octet-stream` (8.3).
 ///
 /// The white space around the value is removed. A value that [`Mime::from_str`] then accepts is read as it is. Any other value is printed
-/// anew: its essence, and each parameter as [`with_parameter`](crate::with_parameter) writes it. So ` text/html ;; charset="utf-8"` is
-/// printed as `text/html; charset=utf-8`. The values of parameters keep their backslashes.
+/// anew: its essence, and its parameters as [`with_parameter`](crate::with_parameter) writes those that it keeps. So
+/// ` text/html ;; charset="utf-8"` is printed as `text/html; charset=utf-8`. The values of parameters keep their backslashes.
 ///
 /// This doesn't allocate if the value is rejected, or if at most 40 bytes are printed. Otherwise, it allocates one block for a value that
 /// is read as it is, or two blocks for a value that is printed anew, and frees one of the two.

@@ -3,7 +3,7 @@
 ghost use Rattle.std.specs.Prelude.{◌≡◌, ◌≤◌, ◌*◌, ◌-◌};
 ghost use Rattle.mime_http.specs.{Digits.worth, Weight.thousandths_of};
 
-/// Returns the value of the digits after a dot, in thousandths: 500 for `5`.
+/// Returns the value of the digits at the start of what follows a dot, in thousandths: 500 for `5` and for `5x`.
 fn decimals_of(bytes: &[u8]) -> u16
     ensures { result ≡ worth 100 bytes.now }
 {
