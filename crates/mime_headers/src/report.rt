@@ -224,7 +224,7 @@ fn push_fault(text: &mut Vec<u8>, label: &[u8], value: &[u8], error: FieldError)
 }
 
 /// Returns the position of the byte at fault, or the value's length if something is missing at its end. Also returns a remark, which is
-/// empty unless that byte begins a comment.
+/// empty unless that byte is `(`, which begins a comment in mail.
 fn fault_place(value: &[u8], error: FieldError) -> (usize, &'static [u8])
     ensures { (result.0, result.1.now) ≡ fault_place value.now error }
 {

@@ -7,7 +7,7 @@ ghost use Rattle.mime_headers.specs.Shown.{control_len, without_controls};
 use std::alloc::{AllocError, Global};
 
 /// Returns the number of bytes of the control character at the start of these bytes, or 0 if there is none. Here, a line feed doesn't count
-/// as a control character, but a character that changes the direction of text does.
+/// as a control character, but U+202A to U+202E and U+2066 to U+2069, which change the direction of text, do.
 fn control_len(bytes: &[u8]) -> usize
     ensures { result ≡ control_len bytes.now }
 {
