@@ -32,8 +32,8 @@ fn string_end(line: &[u8], from: usize) -> usize
     if end < line.len() { end + 1 } else { end }
 }
 
-/// Returns the length of a line's first piece. `quote` is the position of the line's first quote. No comma precedes it. This function isn't
-/// inlined, since few pieces have a quote.
+/// Returns the length of a line's first piece. `quote` is the position of the line's first quote, before which there is no comma. This
+/// function isn't inlined, since few pieces have a quote.
 #[inline(never)]
 #[tactic(auto, using(crate::proofs::Cuts::ends_outside, crate::proofs::Cuts::string_opens, crate::proofs::Cuts::outside_byte))]
 fn quoted_piece_len(line: &[u8], quote: usize) -> usize

@@ -20,7 +20,7 @@ pub struct RankedOffer {
     pub offer: usize,
     /// The offer's weight in thousandths, as [`Accept::weight`](crate::Accept::weight) returns it.
     pub weight: u16,
-    /// The position of the most specific range that covers the offer, which decides the weight, or `None` if no range covers the offer.
+    /// The position, from 0, of the most specific range that covers the offer and so decides its weight, or `None` if no range covers it.
     pub range: Option<usize>,
 }
 

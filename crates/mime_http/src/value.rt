@@ -34,7 +34,7 @@ pub enum FieldError {
     NoMemory,
 }
 
-/// Returns what `NotUtf8` prints, at most 54 bytes. The caller's formatter isn't used, since its width would pad the number.
+/// Returns the text that is printed for `NotUtf8`, at most 54 bytes. The caller's formatter isn't used: its width would pad the number.
 fn not_utf8_text(pos: usize) -> Result<InlineText<64>, fmt::Error>
     ensures { IfOk result (λ text. inline_text text ≡ not_utf8_text pos) }
 {
