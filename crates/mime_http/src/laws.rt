@@ -93,8 +93,8 @@ pub fn covers_itself()
     ensures { CoversItself }
 {}
 
-/// For a given weight, whether a range covers an offer, and how specific the range is, depends only on what both mean: `a/b;p="\x"` covers
-/// `a/b;p=x` as `a/b;p=x` does (RFC 9110, 5.6.4).
+/// What a range and an offer mean, and the range's weight, determine whether the range covers the offer, and how specific it is:
+/// `a/b;p="\x"` covers `a/b;p=x` as `a/b;p=x` does (RFC 9110, 5.6.4).
 #[tactic(auto, using(crate::proofs::Demanded::meaning_counts))]
 pub fn meaning_counts()
     ensures { MeaningCounts }

@@ -43,7 +43,7 @@ fn not_utf8_text(pos: usize) -> Result<InlineText<64>, fmt::Error>
     Ok(text)
 }
 
-/// Prints `mime parse error: ` and the fault, or `the value isn't UTF-8 at position 7`, or `memory ran out`. Ignores a width and a
+/// Prints `mime parse error: ` and the fault, `the value isn't UTF-8 at position ` and `pos`, or `memory ran out`. Ignores a width and a
 /// precision.
 impl fmt::Display for FieldError {
     ghost use Rattle.mime_http.specs.HttpPrinted.{field_error_text};
