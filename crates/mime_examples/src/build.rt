@@ -6,8 +6,8 @@ ghost use Rattle.mime.specs.Values.{Reads};
 use mime::{Mime, ParseError};
 use std::alloc::{AllocError, Global};
 
-/// Returns the media type of a kind of document in JSON: `application/vnd.cart+json` for `cart`. Returns `None` for a name that can't be
-/// part of a token, such as `a/b`, or `a; q=1`, which would add a parameter.
+/// Returns the media type of JSON with this name in the vendor tree (RFC 6838, 3.2): `application/vnd.cart+json` for `cart`. Returns `None`
+/// for a name that can't be part of a token, such as `a/b`, or `a; q=1`, which would add a parameter.
 ///
 /// # Errors
 /// Returns `AllocError` if memory runs out.

@@ -1,4 +1,4 @@
-//! Callers with contracts of their own.
+//! Functions that call `mime`, with contracts of their own.
 
 ghost use Rattle.std.specs.Prelude.{◌≡◌, List, ℕ, Bool, true, Option, is_some, IfOk, IfErr};
 ghost use Rattle.mime.specs.Values.{MediaType, Reads, suffix_of};

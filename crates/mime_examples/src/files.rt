@@ -3,7 +3,7 @@
 ghost use Rattle.std.specs.Prelude.{◌≡◌, ◌≢◌, ℕ, List, None, IfSome, Contains, map};
 ghost use Rattle.mime.specs.Values.{lowered};
 
-/// The media type of a file whose extension isn't in the table (RFC 2046, 4.5.1).
+/// The media type of a file whose extension isn't in [`TYPES`] (RFC 2046, 4.5.1).
 const OTHER: &str = "application/octet-stream";
 
 /// The media types of files by their extensions, which are in lowercase. Each media type has a constant, or is in Debian's package
@@ -115,7 +115,7 @@ static TYPES: [(&str, &str); 95] = [
     ("zst", "application/zstd"),
 ];
 
-/// Returns the media type of the first row with this extension, ignoring ASCII case, or `None` if there is no such row.
+/// Returns the media type in the first row of `table` with this extension, ignoring ASCII case, or `None` if there is no such row.
 pub fn type_of_ending(table: &[(&'static str, &'static str)], ending: &str) -> Option<&'static str>
     ensures found { IfSome result (λ type. (known : List ℕ)
         × Contains {X = List ℕ × List ℕ} (map (λ row. (row.0.now, row.1.now)) table.now) (known, type.now)
@@ -133,7 +133,7 @@ pub fn type_of_ending(table: &[(&'static str, &'static str)], ending: &str) -> O
 }
 
 /// Returns the media type of a file according to the extension after the last dot of its name, ignoring ASCII case. Returns
-/// `application/octet-stream` if the table doesn't have the extension, or there is no dot.
+/// `application/octet-stream` if the extension is unknown, or there is no dot.
 pub fn type_of_file(name: &str) -> &'static str {
     match name.rsplit_once('.') {
         Some((_, ending)) => type_of_ending(&TYPES, ending).unwrap_or(OTHER),

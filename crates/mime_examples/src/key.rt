@@ -18,7 +18,7 @@ impl ParamKey for EitherKey<'_> {
     }
 }
 
-/// Returns the weight of a media type as it is written: the value of its first parameter `q` or `qs`, or `1` if it has none (RFC 9110,
+/// Returns the weight written in a media type: the value of the first parameter `q` or `qs`, or `1` if there is none (RFC 9110,
 /// 12.4.2).
 pub fn quality_of(mime: &Mime) -> &str
     ensures { (found : Option (List ℕ × Bool))

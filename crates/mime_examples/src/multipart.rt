@@ -63,7 +63,7 @@ pub fn cut<'a>(body: &'a [u8], delimiter: &[u8]) -> Option<(&'a [u8], &'a [u8])>
     None
 }
 
-/// Returns the first line, without its line feed, and the rest of the text, or `None` if there is no line feed.
+/// Returns a text's first line, without its line feed, and the rest, or `None` if there is no line feed.
 fn split_line(text: &[u8]) -> Option<(&[u8], &[u8])>
     ensures { MatchOption result (IsLine text.now) (λ halves. IsLine halves.0.now × (text.now ≡ halves.0.now ++ (10 ∷ halves.1.now))) }
 {
@@ -75,7 +75,7 @@ fn split_line(text: &[u8]) -> Option<(&[u8], &[u8])>
     None
 }
 
-/// Returns the part before a delimiter. A line break directly before the delimiter belongs to the delimiter, not to the part.
+/// Returns the bytes before a delimiter, without a line break at their end, which belongs to the delimiter.
 fn without_end(before: &[u8]) -> &[u8]
     ensures { EndsLine before.now → IsPart before.now result.now }
 {
@@ -101,7 +101,7 @@ fn next_part<'a>(left: &'a [u8], delimiter: &[u8]) -> Option<(&'a [u8], &'a [u8]
     Some((without_end(before), after))
 }
 
-/// Returns the parts between lines that begin with the delimiter.
+/// Returns a body's parts, which are between lines that begin with the delimiter.
 fn parts_between<'a>(
     alloc: Global,
     body: &'a [u8],
