@@ -189,7 +189,7 @@ fn texts_of(alloc: Global, shapes: &[Shape], random: &mut Random) -> Result<Vec<
     Ok(texts)
 }
 
-/// Adds a media type's essence, and the results of look-ups, a hash, comparisons, a clone and a walk over the parameters.
+/// Adds to a digest a media type's essence, and the results of look-ups, a hash, comparisons, a clone and a walk over the parameters.
 fn look_up(alloc: Global, mime: &Mime, digest: &mut Digest) -> Result<(), AllocError> {
     digest.media_type(mime);
     digest.found(mime.get_param(CHARSET));
@@ -220,7 +220,7 @@ fn read_value(alloc: Global, value: &[u8], digest: &mut Digest) -> Result<(), Al
     }
 }
 
-/// Adds the number of a header's ranges, the lengths of its bad entries, the best offer's position and the first offer's weight.
+/// Adds to a digest a header's number of ranges, the lengths of its bad entries, the best offer's position and the first offer's weight.
 fn read_header(
     alloc: Global,
     line: &[u8],

@@ -37,7 +37,7 @@ impl Digest {
         self.number(flag as usize);
     }
 
-    /// Adds the essence of a media type, but not its text, since the start (docs/PERF.md) printed untidy values differently.
+    /// Adds the essence of a media type, but not its text, since the start (docs/PERF.md) printed some values differently.
     #[inline]
     pub(crate) fn media_type(&mut self, mime: &Mime) {
         self.text(mime.essence_str());

@@ -165,7 +165,7 @@ fn add_counts(alloc: Global, counts: &Counts, digest: &mut Digest) -> Result<(),
     Ok(())
 }
 
-/// Adds a string to a list.
+/// Adds a string to the end of a list.
 fn push_entry(list: &mut String, text: &str) -> Result<(), AllocError> {
     if !list.is_empty() {
         list.push_str(", ")?;

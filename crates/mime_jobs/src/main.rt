@@ -1,8 +1,8 @@
 //! Runs typical jobs of users of `mime` and `mime_http` over many different strings, and prints a digest of all results.
 //!
 //! `mime_jobs JOB SEED ROUNDS` does one of the jobs `requests`, `negotiation`, `log`, `writing` and `awkward`. The job `all` does each of
-//! them once. Each seed makes different strings of the same kinds and sizes. A round is a pass over the job's strings. Each round changes
-//! each string's mark, a few letters in the string.
+//! them once. Each seed makes different strings of the same kinds and of similar sizes. Each round changes each string's mark, a few
+//! letters in the string, and does the job with the changed strings.
 #![tactic(auto)]
 
 mod awkward;

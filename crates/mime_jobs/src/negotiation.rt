@@ -95,7 +95,7 @@ fn all_offers(alloc: Global) -> Result<Vec<Vec<Mime>>, AllocError> {
     Ok(all)
 }
 
-/// Reads a header. Every tenth header has a second line.
+/// Reads a header with this first line. Every tenth header has a second line.
 fn accept_of(alloc: Global, text: &Text, at: usize) -> Result<Accept, AllocError> {
     let first = text.bytes();
     if at % 10 == 0 {
@@ -106,7 +106,7 @@ fn accept_of(alloc: Global, text: &Text, at: usize) -> Result<Accept, AllocError
     }
 }
 
-/// Adds the ranges and the bad entries of a header.
+/// Adds a header's ranges and bad entries to a digest.
 fn add_read(accept: &Accept, digest: &mut Digest) {
     for range in accept.ranges() {
         digest.media_type(range);
@@ -116,7 +116,7 @@ fn add_read(accept: &Accept, digest: &mut Digest) {
     }
 }
 
-/// Adds the results that a server needs from one header: mostly the best offer.
+/// Adds what a server needs from a header to a digest: mostly, the best offer's position.
 fn choose(
     alloc: Global,
     accept: &Accept,

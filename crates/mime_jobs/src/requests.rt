@@ -10,7 +10,7 @@ use std::alloc::{AllocError, Global};
 /// The number of strings in a round.
 const COUNT: usize = 4096;
 
-/// Values that clients send: half without parameters, three untidy, two rejected.
+/// Values that clients send: half without parameters, three with stray spaces or semicolons, two rejected.
 static PATTERNS: [&str; 40] = [
     "application/#",
     "application/#+json",
@@ -54,7 +54,7 @@ static PATTERNS: [&str; 40] = [
     "application #",
 ];
 
-/// Adds the results that a server needs from one value.
+/// Adds what a server needs from one value to a digest.
 fn look_at(
     alloc: Global,
     value: &[u8],

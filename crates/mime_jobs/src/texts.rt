@@ -14,17 +14,17 @@ const OWN: usize = 3;
 /// The bytes that may replace a pattern's `@`.
 const DIGITS: [u8; 16] = *b"0123456789abcdef";
 
-/// A string with a mark of seven letters. The first three letters stand for the string's number.
+/// A string with a mark of seven letters. The mark's first three letters stand for the string's number.
 #[derive(Drop)]
 pub(crate) struct Text {
     bytes: Vec<u8>,
     /// The position of the mark.
     mark: usize,
-    /// Which of the first four letters and the mark's letters are uppercase, as a bit mask.
+    /// Which of the first four letters and the mark's letters `capitalize` made uppercase, as a bit mask.
     capitals: u32,
 }
 
-/// Adds the mark of a string's number.
+/// Adds the mark of the string with this number.
 fn push_mark(bytes: &mut Vec<u8>, number: usize) -> Result<(), AllocError> {
     let mut left = number;
     for _ in 0..OWN {
@@ -46,7 +46,7 @@ fn count_up(letters: &mut [u8]) {
 }
 
 impl Text {
-    /// Returns a pattern with a mark in place of `#`, and a random digit in place of each `@`.
+    /// Returns a pattern with the mark of `number` in place of `#`, and a random hexadecimal digit in place of each `@`.
     pub(crate) fn of(
         alloc: Global,
         pattern: &str,

@@ -1,4 +1,4 @@
-//! The job of a server that writes headers, and then reads their parameters back.
+//! The job of a server that writes headers, and reads file names and boundaries back.
 
 use crate::digest::Digest;
 use crate::random::Random;
@@ -51,7 +51,7 @@ struct Buffers {
     meant: Vec<u8>,
 }
 
-/// Adds a media type's header to a digest.
+/// Adds a media type's header to a digest, or 1 if there is no media type.
 fn add_printed(
     made: &Option<Mime>,
     buffers: &mut Buffers,
@@ -68,7 +68,7 @@ fn add_printed(
     Ok(())
 }
 
-/// Writes the name of a file, and reads it back.
+/// Writes a file's name as a parameter, and reads it back.
 fn write_file(
     alloc: Global,
     base: &Mime,
@@ -89,7 +89,7 @@ fn write_file(
     Ok(())
 }
 
-/// Writes a boundary, and reads it back.
+/// Writes a boundary as a parameter, and reads it back.
 fn write_boundary(
     alloc: Global,
     base: &Mime,
