@@ -1,4 +1,4 @@
-//! The strings that a table's fields stand for.
+//! The strings that a row's fields stand for.
 
 use std::alloc::Global;
 
@@ -39,7 +39,7 @@ pub(crate) fn strings_of(alloc: Global, fields: &str) -> Vec<String> {
     strings
 }
 
-/// Returns the string of a row at a position, or an empty string if there is none.
+/// Returns the string at a position in a row, or an empty string if there is none.
 pub(crate) fn string_at(strings: &[String], at: usize) -> &str {
     match strings.get(at) {
         Some(text) => text.as_str(),

@@ -101,7 +101,7 @@ fn show_bad(out: &mut String, bad: &[Vec<u8>]) {
     }
 }
 
-/// Shows the weight of each offer for a header.
+/// Shows the weights of a row's offers for its header.
 pub(crate) fn show_weights(alloc: Global, out: &mut String, strings: &[String]) {
     let Ok(accept) = header_of(alloc, string_at(strings, 0)) else {
         return;
@@ -114,13 +114,13 @@ pub(crate) fn show_weights(alloc: Global, out: &mut String, strings: &[String]) 
     }
 }
 
-/// Returns the position of the best offer.
+/// Returns the position of the best offer among a row's offers.
 fn best_of(alloc: Global, strings: &[String]) -> Result<Option<usize>, AllocError> {
     let accept = header_of(alloc, string_at(strings, 0))?;
     Ok(accept.best(&offers_of(alloc, strings)?))
 }
 
-/// Shows the position of the best offer.
+/// Shows the position of the best offer among a row's offers, or `none`.
 pub(crate) fn show_best(alloc: Global, out: &mut String, strings: &[String]) {
     if let Ok(best) = best_of(alloc, strings) {
         show_position(out, best);

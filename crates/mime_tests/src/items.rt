@@ -14,8 +14,8 @@ fn show_item(out: &mut String, item: Result<Mime, Bad<'_>>) {
     };
 }
 
-/// Shows the items that are left, the number of steps, and the first size hint. Then shows whether each later size hint was `(0, None)`
-/// and no item follows the last one.
+/// Shows the items that an iterator has left, the number of steps, and the first size hint. Then shows whether each later size hint was
+/// `(0, None)` and the iterator yields no item after its end.
 pub(crate) fn show_items(out: &mut String, mut iter: MimeIter<'_>) {
     let hint = iter.size_hint();
     let mut is_right = true;

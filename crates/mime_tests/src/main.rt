@@ -42,7 +42,7 @@ fn print_row(rt: &HostRuntime, out: &mut String, line: &str) -> io::Result<()> {
     rt.print(out.as_str())
 }
 
-/// Writes the answers to a row to `out`. Prints the line `now` before the row's calls, and the line `end` after them.
+/// Writes a row's answers to `out`. Prints the line `now` before the row's calls, and the line `end` after them.
 fn show_line(rt: &HostRuntime, out: &mut String, line: &str) {
     let (word, fields) = line.split_once('\t').unwrap_or((line, ""));
     let strings = strings_of(rt.alloc(), fields);

@@ -142,7 +142,7 @@ pub(crate) fn show_is_plain(alloc: Global, out: &mut String, field: &str) {
     }
 }
 
-/// Shows whether the media type of a text has a parameter.
+/// Shows whether the media type of a text has a parameter of this name.
 pub(crate) fn show_has_param(alloc: Global, out: &mut String, text: &str, name: &str) {
     match printed(alloc, text) {
         Ok(mime) => show(out, &has_param(&mime, name)),
@@ -156,7 +156,7 @@ pub(crate) fn show_quality_of(alloc: Global, out: &mut String, field: &str) {
     }
 }
 
-/// Shows the media type and the body.
+/// Shows a document's media type and body.
 pub(crate) fn show_received(alloc: Global, out: &mut String, value: &str, body: &str) {
     match received(alloc, value.as_bytes(), body.as_bytes()) {
         Ok(document) => {
@@ -167,7 +167,7 @@ pub(crate) fn show_received(alloc: Global, out: &mut String, value: &str, body: 
     }
 }
 
-/// Shows the media type of a file, and whether its kept text is the same string.
+/// Shows the string that `type_of_file` returns, and whether this string's kept text is the same.
 pub(crate) fn show_type_of_file(alloc: Global, out: &mut String, name: &str) {
     let type_ = type_of_file(name);
     show_text(out, Some(type_));

@@ -9,13 +9,13 @@
 //! - `long VALUE KEPT`: the size hint and the number of a value's parameters, and whether its string is `KEPT`;
 //! - `print VALUE`: a value with a width of 12, and with Debug;
 //! - `key VALUE KEY OTHER`: the value that a string or a constant finds as a key, and whether the value found equals the other string;
-//! - `compare VALUE VALUE`: how two values compare, and whether the first equals the second's string;
-//! - `pair VALUE VALUE`: whether two values are equal according to each trait, and whether the first equals the second's string;
+//! - `compare VALUE VALUE`: how two values compare, and whether the first equals the second field, read as a string;
+//! - `pair VALUE VALUE`: whether two values are equal according to each trait, and whether the first equals the second field as a string;
 //! - `sets VALUE VALUE`: whether the first value is found in sets that contain the second;
 //! - `against VALUE STRING`: whether a value equals a string;
 //! - `names NAME NAME`: two names and how they compare. Each is a constant, a string after `=`, or a string that ignores case after `~`;
 //! - `bytes`, `copies`: the classes of bytes, and the copies of the constants;
-//! - `short_verdicts`: tests all short strings with a rule that needs no table.
+//! - `short_verdicts`: tests all short strings by a rule, without a row for each.
 //!
 //! A row about `mime_http` or a recipe is a function's name and its arguments. An `Accept` header is one field, whose lines end with line
 //! feeds. Offers are the fields after it. A bar follows each answer of these rows.

@@ -1,4 +1,4 @@
-//! Tests all short strings with a rule that needs no table.
+//! Tests all short strings by a rule, without a row for each.
 
 use mime::{Mime, ParseError};
 use std::alloc::Global;
