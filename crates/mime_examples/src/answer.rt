@@ -51,9 +51,9 @@ pub fn refusal(alloc: Global, value: &[u8]) -> Option<u16>
     }
 }
 
-/// Returns the status that rejects a request with a body because of its `Content-Type`, or `None` if the body is JSON. A body without a
-/// `Content-Type` may be anything (RFC 9110, 8.3), so it is rejected with 415. Reply with 400 to a request with two `Content-Type` lines,
-/// since programs differ in which line they use.
+/// Returns the status that rejects a request with a body because of its `Content-Type`, or `None` if the media type is `application/json`.
+/// A body without a `Content-Type` may be anything (RFC 9110, 8.3), so it is rejected with 415. Reply with 400 to a request with two
+/// `Content-Type` lines, since programs differ in which line they use.
 pub fn refusal_of_body(alloc: Global, content_type: Option<&[u8]>) -> Option<u16>
     ensures without { content_type.entry ≡ None → result ≡ Some 415 }
     ensures taken { result ≡ None → IsSomeAnd content_type.entry (λ value. (media : MediaType) × HttpReads value.now media

@@ -16,7 +16,7 @@ use std::io;
 /// collide.
 pub type Counts = HashMap<Mime, u64, RandomState>;
 
-/// Returns empty counts.
+/// Returns an empty map of counts.
 ///
 /// # Errors
 /// Returns the error of the system's source of random bytes, if that fails.
@@ -25,7 +25,7 @@ pub fn no_counts(rt: &HostRuntime) -> io::Result<Counts> {
     Ok(HashMap::with_hasher(rt.alloc(), keys))
 }
 
-/// Counts a media type. `TEXT/HTML;Charset="UTF-8"` counts as `text/html; charset=utf-8`.
+/// Adds 1 to a media type's count, up to `u64::MAX`. `TEXT/HTML;Charset="UTF-8"` counts as `text/html; charset=utf-8`.
 ///
 /// # Errors
 /// Returns `AllocError` if memory runs out.

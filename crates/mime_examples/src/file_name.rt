@@ -13,7 +13,7 @@ use mime_http::laws::written_is_meant;
 use mime_http::{unescape, with_parameter};
 use std::alloc::{AllocError, Global};
 
-/// Returns the media type with a file's name as its parameter `name`, or `None` exactly if the file's name has an ASCII control character
+/// Returns a media type with a file's name as its parameter `name`, or `None` exactly if the file's name has an ASCII control character
 /// other than the tab. `image/png` with the name `a "b".png` is `image/png; name="a \"b\".png"`.
 ///
 /// # Errors
