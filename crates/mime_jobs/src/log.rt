@@ -110,7 +110,7 @@ fn count_ordered(counts: &mut BTreeMap<Mime, u64>, mime: Mime) -> Result<u64, Al
     Ok(*count)
 }
 
-/// Counts the media type of a line: every eighth line in `ordered`, the others in `hashed`.
+/// Counts the media type of the line at position `at`: every eighth line in `ordered`, the others in `hashed`.
 fn count(
     alloc: Global,
     counts: &mut Counts,

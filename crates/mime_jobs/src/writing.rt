@@ -11,7 +11,7 @@ use std::fmt::Write;
 /// The number of strings of each kind in a round.
 const COUNT: usize = 1024;
 
-/// The media types into which parameters are written.
+/// The media types to which parameters are added.
 static BASES: [&str; 8] = [
     "text/html",
     "text/plain; charset=us-ascii",
