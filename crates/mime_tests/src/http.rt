@@ -49,7 +49,7 @@ fn latin_1(alloc: Global, text: &str) -> Vec<u8> {
     bytes
 }
 
-/// Returns the media types of the fields after the first. Skips rejected fields.
+/// Returns a row's offers: the media types of the fields after the first. Skips rejected fields.
 pub(crate) fn offers_of(alloc: Global, strings: &[String]) -> Result<Vec<Mime>, AllocError> {
     let mut offers = Vec::new(alloc);
     for at in 1..strings.len() {
@@ -134,13 +134,13 @@ fn show_position(out: &mut String, position: Option<usize>) {
     }
 }
 
-/// Returns the positions of the offers that a header accepts, the best first.
+/// Returns the positions, among a row's offers, of those that the header accepts, the best first.
 fn order_of(alloc: Global, strings: &[String]) -> Result<Vec<usize>, AllocError> {
     let accept = header_of(alloc, string_at(strings, 0))?;
     accept.order(alloc, &offers_of(alloc, strings)?)
 }
 
-/// Shows the positions of the offers that a header accepts, the best first.
+/// Shows the positions, among a row's offers, of those that the header accepts, the best first.
 pub(crate) fn show_order(alloc: Global, out: &mut String, strings: &[String]) {
     if let Ok(order) = order_of(alloc, strings) {
         for at in &order {

@@ -82,8 +82,8 @@ pub(crate) fn show_chosen(alloc: Global, out: &mut String, strings: &[String]) {
     }
 }
 
-/// Counts the media types of the fields after the first. Shows the count of the first field's media type, and then each media type with its
-/// count, sorted by media type.
+/// Counts the media types of the fields after the first. Shows the count of the first field's media type, and then each count with its
+/// media type, sorted by media type.
 pub(crate) fn show_counts(rt: &HostRuntime, out: &mut String, strings: &[String]) {
     let Ok(mut counts) = no_counts(rt) else {
         return;
