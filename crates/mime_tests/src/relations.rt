@@ -55,7 +55,7 @@ fn relation<T: Ord + Hash>(one: &T, other: &T) -> char {
     }
 }
 
-/// Shows how two values compare, and whether the first is equal to the second field, read as a string.
+/// Shows how two values compare, and whether the first is equal to the second field as a string.
 pub(crate) fn show_compared(alloc: Global, out: &mut String, field: &str, text: &str) {
     let Some(one) = value_or_fault(alloc, out, field) else {
         return;
@@ -88,7 +88,7 @@ pub(crate) fn show_names(out: &mut String, one: &str, other: &str) {
 }
 
 /// Shows whether two values are equal, both by `==` and by `cmp`, whether they feed a hasher the same bytes, and whether the first is equal
-/// to the second field, read as a string.
+/// to the second field as a string.
 pub(crate) fn show_pair(alloc: Global, out: &mut String, field: &str, text: &str) {
     let Some(one) = value_or_fault(alloc, out, field) else {
         return;

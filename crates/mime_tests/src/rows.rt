@@ -9,7 +9,7 @@
 //! - `long VALUE KEPT`: the size hint and the number of a value's parameters, and whether its string is `KEPT`;
 //! - `print VALUE`: a value with a width of 12, and with Debug;
 //! - `key VALUE KEY OTHER`: the value that a string or a constant finds as a key, and whether the value found equals the other string;
-//! - `compare VALUE VALUE`: how two values compare, and whether the first equals the second field, read as a string;
+//! - `compare VALUE VALUE`: how two values compare, and whether the first equals the second field as a string;
 //! - `pair VALUE VALUE`: whether two values are equal according to each trait, and whether the first equals the second field as a string;
 //! - `sets VALUE VALUE`: whether the first value is found in sets that contain the second;
 //! - `against VALUE STRING`: whether a value equals a string;
