@@ -12,7 +12,7 @@ use std::alloc::{AllocError, Global};
 /// Returns the media type of HTML in a charset: `text/html; charset=utf-8` for `utf-8`. Returns `None` if the charset isn't a token.
 ///
 /// # Errors
-/// Returns `AllocError` if memory runs out, as does the function below.
+/// Returns `AllocError` if memory runs out, as `form_with` does.
 pub fn page_in(alloc: Global, charset: &str) -> Result<Option<Mime>, AllocError>
     ensures made { IfOk result (λ answer. IfSome answer (λ page. (html : MediaType) × Reads (codes "text/html") html
         × (page.media ≡ with_pair html (codes "charset") (lowered charset.now)))) }
