@@ -150,6 +150,7 @@ pub(crate) fn title_of<'a>(head: &[&'a [u8]]) -> &'a [u8]
 }
 
 /// Returns `true` if a line begins with a field's name, white space and a colon.
+#[inline(always)]
 pub(crate) fn is_spaced(name: &[u8], line: &[u8]) -> bool
     ensures { result ≡ is_spaced name.now line.now }
 {
