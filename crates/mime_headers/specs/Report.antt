@@ -186,11 +186,11 @@ abbrev pub verdict_of : Bool → Option Bool → Verdict
 verdict_of are_good choice = if are_good && unwrap_or choice true then Verdict.Acceptable else Verdict.NotAcceptable
 
 -- The text is the report on these heads and offers, without control characters. The verdict follows from each `Content-Type` and the last
--- choice. An input that is cut off may have no head, and then has no report.
+-- choice. There is no report without a head.
 pub record IsReport (offers : List MediaType) (cut : Bool) (heads : List (List (List ℕ))) (text : List ℕ) (verdict : Verdict) : Type 0 where
   pub state : State
   pub last : List ℕ × Option Bool
-  pub some : cut ≡ true → heads ≢ []
+  pub some : heads ≢ []
   pub adds : FoldsTo (AddsHead offers (nat_lt 1 (length heads))) (record { text = []; are_good = true; choice = None }) heads state
   pub chosen : AddsChoice offers (missing state.choice).1 (state.text ++ (missing state.choice).0, state.choice) last
   pub is_text : text ≡ without_controls (last.0 ++ cut_row cut)

@@ -29,7 +29,7 @@ pub(crate) fn report_of(
         IsReport (map (λ offer. offer.media) offers.now) is_cut (heads_of is_cut (bare_lines input.now)) (vec_items report.0) report.1)) }
 {
     let heads = heads_of(alloc, input, is_cut)?;
-    if is_cut && heads.is_empty() {
+    if heads.is_empty() {
         return Ok(None);
     }
     let many = heads.len() > 1;

@@ -1,8 +1,29 @@
 -- The next head is added.
-use Rattle.mime_headers.proofs.Common.{ap, append-nil, append_assoc, arith, bare_lines, codes, count_row, drop_of_length-le, heads_of, length, length-map, lines_now, map, nat_lt, refl, rules, tests, title_row, values_of, vec_items, ◌++◌, ◌<◌, ◌∙◌, ◌≡◌, ◌≤◌}
+use Rattle.mime_headers.proofs.Common.{Bool, List, Some, [], ap, append-nil, append_assoc, arith, bare_lines, codes, count_row, drop_of_length-le, false, heads_from, heads_of, if◌then◌else◌, in_head, is_indented, length, length-map, lines_now, map, nat_lt, nil_from_length, not, refl, rules, tests, title_row, true, values_of, vec_items, ℕ, ◌&&◌, ◌++◌, ◌<◌, ◌==◌, ◌||◌, ◌∙◌, ◌∷◌, ◌≡◌, ◌≢◌, ◌≤◌}
 use Rattle.mime_headers.proofs.Rows.{folds-next}
 use Rattle.mime_headers.proofs.report.report_of.Goals as goal
-use Rattle.mime_headers.proofs.report.report_of.Goals.{else-is_cut-via-then-is_cut+else-is_empty, else-is_cut-via-else-is_cut}
+
+-- heads with a head before them are some
+one_of : {X : Type 0} (is_in : Bool) (head : X) (heads more : List X) → more ≢ [] → (if is_in then more else head ∷ heads) ≢ []
+one_of true head heads more some none = some none
+one_of false head heads more some none = absurd (cc)
+
+-- lines of an input that isn't cut off have a head
+some_head : (head lines : List (List ℕ)) → heads_from false (Some head) lines ≢ []
+some_head head [] none = absurd (cc)
+some_head head (line ∷ lines) none =
+    one_of (not (length line == 0) && (length head == 0 || not (is_indented line))) head _ _ (some_head (head ++ (in_head head line ∷ [])) lines) none
+
+-- so an input that has none is cut off
+none_cut : (cut : Bool) (lines : List (List ℕ)) → heads_of cut lines ≡ [] → (cut ≡ true) × (heads_of true lines ≡ [])
+none_cut true lines none = (refl, none)
+none_cut false lines none = absurd (some_head [] lines none)
+
+pub returns-then-is_empty : goal.returns-then-is_empty
+returns-then-is_empty c =
+    let none : length (vec_items c.in_ok-heads.heads) ≡ 0 = search (rules, tests) in
+    none_cut c.args.is_cut (bare_lines c.args.input.now)
+    (nil_from_length _ (omega (arith, none, length-map (vec_items c.in_ok-heads.heads) lines_now, ap length c.in_ok-heads.ensures)))
 
 pub loop-head-preserved : goal.loop-head-preserved
 loop-head-preserved c end rest =
@@ -24,6 +45,7 @@ loop-head-preserved c end rest =
 pub returns : goal.returns
 returns c =
     let heads = vec_items c.in_ok-heads.heads in
+    let some : 0 < length heads = search (rules, tests) in
     let past : length c.deref-head-items.result.now ≤ c.loop-head.head-index = omega arith in
     let len : c.len-many.result ≡ length (heads_of c.args.is_cut (bare_lines c.args.input.now)) =
     omega (arith, length-map heads lines_now, ap length c.in_ok-heads.ensures, c.len-many.ensures) in
@@ -32,12 +54,7 @@ returns c =
     record {
       state = record { text = vec_items c.loop-head.text; are_good = c.loop-head.are_good; choice = c.loop-head.choice };
       last = (vec_items c.push_missing.new.text, c.in_ok-last.last);
-      some = λ cut none. elim c.else-is_cut.branch [
-        | else-is_cut-via-then-is_cut+else-is_empty w ↦
-            let some : 0 < length heads = search (rules, tests) in
-            absurd (omega (arith, some, length-map heads lines_now, ap length (c.in_ok-heads.ensures ∙ none)))
-        | else-is_cut-via-else-is_cut w ↦ absurd (cc (cut, w.if-is_cut.false))
-      ];
+      some = λ none. absurd (omega (arith, some, length-map heads lines_now, ap length (c.in_ok-heads.ensures ∙ none)));
       adds = rw (← len, ← same) (c.loop-head.invariant _ (rw (drop_of_length-le c.deref-head-items.result.now past) refl));
       chosen = c.in_ok-last.ensures;
       is_text = simp (c.in_ok-text.ensures, c.in_ok-push_shown-2.ensures);
