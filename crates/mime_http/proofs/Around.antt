@@ -1,5 +1,5 @@
 -- White space around a text, and ASCII bytes in a text in UTF-8.
-use Rattle.mime_http.proofs.Common.{AreSpaces, IsToken, AreTokenBytes-from_token, AreTokenBytes, IsAscii, IsAscii-cons, IsAscii-nil, IsCharBoundary-after_ascii, IsCharBoundary-before_ascii, IsUtf8, IsUtf8-append, IsUtf8-drop, IsUtf8-from_ascii, IsUtf8-take, List, [], and_parts, append-nil, arith, drop-append-add, get_or, get_or_from_slice_get, is_space, is_token_byte, length, length-append, nat_tests, refl, slice_get-prefix, take-append_seam, ℕ, ⊤, ◌++◌, ◌+◌, ◌<◌, ◌∷◌, and_from, ap, cond_both, false, if◌then◌else◌, list_all-append, suc, take, take_all, take_more, trim_end, trim_start, trimmed, ◌-◌, ◌≡◌, ◌≤◌, HttpReads, MediaType, append_assoc, list_all, sym, ◌∙◌, IsUtf8-nil}
+use Rattle.mime_http.proofs.Common.{drop, prefix_len, one-add, take_rest, AreSpaces, IsToken, AreTokenBytes-from_token, AreTokenBytes, IsAscii, IsAscii-cons, IsAscii-nil, IsCharBoundary-after_ascii, IsCharBoundary-before_ascii, IsUtf8, IsUtf8-append, IsUtf8-drop, IsUtf8-from_ascii, IsUtf8-take, List, [], and_parts, append-nil, arith, drop-append-add, get_or, get_or_from_slice_get, is_space, is_token_byte, length, length-append, nat_tests, refl, slice_get-prefix, take-append_seam, ℕ, ⊤, ◌++◌, ◌+◌, ◌<◌, ◌∷◌, and_from, ap, cond_both, false, if◌then◌else◌, list_all-append, suc, take, take_all, take_more, trim_end, trim_start, trimmed, ◌-◌, ◌≡◌, ◌≤◌, HttpReads, MediaType, append_assoc, list_all, sym, ◌∙◌, IsUtf8-nil}
 use Rattle.mime_http.proofs.{Runs.spaces-append}
 
 -- ---- ASCII bytes
@@ -73,6 +73,14 @@ split_white (b ∷ bytes) =
     let rest = split_white bytes in
     cond_both (is_space b) _ _ (λ left. (white : List ℕ) × AreSpaces white × (b ∷ bytes ≡ white ++ left))
     (λ is. (b ∷ rest.0, and_from (is_space b) _ is rest.1, ap (λ x. b ∷ x) rest.2)) (λ other. ([], refl, refl))
+
+-- which begins where the run of white space ends
+from_first : (bytes : List ℕ) → drop (prefix_len is_space bytes) bytes ≡ trim_start bytes
+from_first [] = refl
+from_first (b ∷ bytes) = grind (arith, one-add (prefix_len is_space bytes), from_first bytes)
+
+pub first_kept : (bytes : List ℕ) (end : ℕ) → end ≡ prefix_len is_space bytes → take (length bytes - end) (drop end bytes) ≡ trim_start bytes
+first_kept bytes end is = grind (arith, is, take_rest, from_first bytes)
 
 -- nothing is left of white space,
 trimmed_start : (piece : List ℕ) → AreSpaces piece → trim_start piece ≡ []

@@ -1,6 +1,7 @@
 //! Cuts a header's line at its commas outside quoted strings, and trims white space from the pieces.
 
 ghost use Rattle.std.specs.Prelude.{◌≡◌, ◌<◌, ◌≤◌, ◌+◌, length, drop};
+ghost use Rattle.std.specs.List.{prefix_len};
 ghost use Rattle.mime.specs.{Bytes.comma_byte, Bytes.quote_byte, Grammar.is_space};
 ghost use Rattle.mime_http.specs.{HttpList.trim_start, HttpList.trim_end, HttpList.trimmed, LineCut.Outside, LineCut.Quoted, LineCut.IsNextOutside, LineCut.before_mark, LineCut.piece_len};
 
@@ -83,32 +84,44 @@ pub(crate) fn is_space(byte: u8) -> bool
     byte == b' ' || byte == b'\t'
 }
 
-/// Returns a piece without the white space at its start. This function isn't inlined, since most pieces begin with no white space, or with
-/// one space.
+/// Returns the same position as `spaces_end`. This function isn't inlined, since most positions have no white space, or one space.
 #[inline(never)]
-fn trim_spaces(piece: &[u8]) -> &[u8]
-    ensures { result.now ≡ trim_start piece.now }
+fn spaces_end_far(value: &[u8], from: usize) -> usize
+    requires { from ≤ length value.now }
+    ensures end { result ≡ from + prefix_len is_space (drop from value.now) }
+    ensures within { result ≤ length value.now }
 {
-    for (at, &byte) in piece.iter().enumerate() {
-        if !is_space(byte) {
-            return &piece[at..];
-        }
+    let mut at = from;
+    while at < value.len() && is_space(value[at]) {
+        at += 1;
     }
-    &[]
+    at
+}
+
+/// Returns the position of the first byte at or after `from` that isn't white space, or the value's length if there is none.
+#[inline(always)]
+pub(crate) fn spaces_end(value: &[u8], from: usize) -> usize
+    requires { from ≤ length value.now }
+    ensures end { result ≡ from + prefix_len is_space (drop from value.now) }
+    ensures within { result ≤ length value.now }
+{
+    if from == value.len() || value[from] > b' ' {
+        return from;
+    }
+    let next = from + 1;
+    if value[from] == b' ' && (next == value.len() || value[next] > b' ') {
+        return next;
+    }
+    spaces_end_far(value, from)
 }
 
 /// Returns a piece without the white space at its start.
 #[inline(always)]
+#[tactic(auto, using(crate::proofs::Around::first_kept))]
 pub(crate) fn trim_start(piece: &[u8]) -> &[u8]
     ensures { result.now ≡ trim_start piece.now }
 {
-    if piece.is_empty() || piece[0] > b' ' {
-        return piece;
-    }
-    if piece[0] == b' ' && (piece.len() == 1 || piece[1] > b' ') {
-        return &piece[1..];
-    }
-    trim_spaces(piece)
+    &piece[spaces_end(piece, 0)..]
 }
 
 /// Returns a piece without the white space at its end. This function isn't inlined, since most pieces don't end in white space.

@@ -6,9 +6,9 @@ ghost use Rattle.mime.specs.Bytes.{is_token_byte, is_quoted_byte, is_quoted_text
 ghost use Rattle.mime.specs.Grammar.{is_space};
 ghost use Rattle.mime_search.specs.Classes.{IsStart};
 ghost use Rattle.mime_http.specs.declared.reader.TheConstants.{TOKEN_STOPS};
-ghost use Rattle.mime_http.specs.Reader.{Parts, Holds, IsClosedAt, IsEssenceAt, IsFaultFrom, IsParameterAt, IsStringFault, after_semicolon, answer_of, fault_at, in_value, read, rejected, text_of_parts};
+ghost use Rattle.mime_http.specs.Reader.{Parts, Holds, IsClosedAt, IsEssenceAt, IsFaultFrom, IsParameterAt, IsStringFault, after_semicolon, answer_at, answer_of, before_semicolon, fault_at, in_value, read, rejected, text_of_parts};
 
-use crate::list::is_space;
+use crate::list::spaces_end;
 use mime::{ParseError, is_quoted_byte, is_quoted_text_byte, is_token};
 use mime_search::{Class, Range, Start, copy_bytes, first_stop_far, search_start};
 
@@ -32,37 +32,6 @@ static TEXT_STOPS: Class = Class {
 
 /// The number of bytes of a run that are tested one by one, before the rest of the run is searched in blocks.
 const LONG: usize = 16;
-
-/// Returns the same position as `spaces_end`. This function isn't inlined, since most positions have no white space, or one space.
-#[inline(never)]
-fn spaces_end_far(value: &[u8], from: usize) -> usize
-    requires { from ≤ length value.now }
-    ensures end { result ≡ from + prefix_len is_space (drop from value.now) }
-    ensures within { result ≤ length value.now }
-{
-    let mut at = from;
-    while at < value.len() && is_space(value[at]) {
-        at += 1;
-    }
-    at
-}
-
-/// Returns the position of the first byte at or after `from` that isn't white space, or the value's length if there is none.
-#[inline(always)]
-fn spaces_end(value: &[u8], from: usize) -> usize
-    requires { from ≤ length value.now }
-    ensures end { result ≡ from + prefix_len is_space (drop from value.now) }
-    ensures within { result ≤ length value.now }
-{
-    if from == value.len() || value[from] > b' ' {
-        return from;
-    }
-    let next = from + 1;
-    if value[from] == b' ' && (next == value.len() || value[next] > b' ') {
-        return next;
-    }
-    spaces_end_far(value, from)
-}
 
 /// Returns the position of the first byte at or after `from` that may not occur in a token, or the value's length if there is none.
 #[inline(always)]
@@ -276,6 +245,23 @@ fn essence(value: &[u8], start: Start) -> Result<(usize, usize), ParseError>
     Ok((top, end))
 }
 
+/// Returns the position of the last semicolon in a row of semicolons that begins at `from`, or `from` if no semicolon is there. This
+/// function isn't inlined, since few values have empty parameters.
+#[inline(never)]
+fn last_semicolon(value: &[u8], from: usize) -> usize
+    requires { from ≤ length value.now }
+    ensures least { from ≤ result }
+    ensures within { result ≤ length value.now }
+    ensures other { from < result → is_space (slice_index value.now result) ≡ false }
+    ensures same { (parts : Parts) → answer_at value.now (before_semicolon parts) from ≡ answer_at value.now (before_semicolon parts) result }
+{
+    let mut at = from;
+    while is_at(value, at, b';') && is_at(value, at + 1, b';') {
+        at += 1;
+    }
+    at
+}
+
 /// Writes bytes into the buffer `room` at position `len`, if they fit. Returns the position after them, whether or not they fit.
 fn put(room: &mut [u8], len: usize, bytes: &[u8]) -> usize
     requires { len + length bytes.now < 2 ^ 64 }
@@ -339,6 +325,8 @@ pub(crate) fn write_anew(value: &[u8], room: &mut [u8]) -> Result<usize, ParseEr
             };
             len = put_parameter(room, len, value, at, spans);
             at = spaces_end(value, spans.end);
+        } else {
+            at = last_semicolon(value, at);
         }
     }
     Ok(len)

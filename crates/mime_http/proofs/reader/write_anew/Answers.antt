@@ -1,5 +1,5 @@
 -- The essence is written, and then each parameter that is read, up to a fault or the end.
-use Rattle.mime_http.proofs.Common.{Holds, IsEssenceAt, List, Parts, after_semicolon, answer_at, answer_of, ap, ap₂, append_assoc, codes, append-nil, arith, before_semicolon, is_space, length, next, refl, slice_index, slice_range, subst, sym, text_of_parts, with_parameter, [], ℕ, ◌+◌, ◌++◌, ◌<◌, ◌∙◌, ◌∷◌, ◌≡◌, ◌≤◌}
+use Rattle.mime_http.proofs.Common.{Holds, IsEssenceAt, List, Parts, after_semicolon, answer_at, answer_of, ap, ap₂, append_assoc, codes, append-nil, arith, before_semicolon, cases_lt, false, is_space, length, next, refl, slice_index, slice_range, subst, sym, text_of_parts, with_parameter, [], ℕ, ◌+◌, ◌++◌, ◌<◌, ◌∙◌, ◌∷◌, ◌≡◌, ◌≤◌}
 use Rattle.mime_http.proofs.{ReadAt.length-part, ReadAt.nothing_between, ReadAt.one_written, ReadAt.over_byte, ReadAt.over_white_at, ReadAt.run_end, ReadAt.run_is, Runs.keeps_after, Runs.keeps_inside}
 use Rattle.mime_http.proofs.reader.write_anew.Goals as goal
 
@@ -66,19 +66,26 @@ loop-at-preserved-then-is_token_at c =
       room = put.ensures.room ∙ keeps.room;
     }
 
+-- where no white space is, none is at the last of the semicolons there
+none_after : (value : List ℕ) (from to : ℕ) → from ≤ to → (from < length value → is_space (slice_index value from) ≡ false)
+    → (from < to → is_space (slice_index value to) ≡ false) → to < length value → is_space (slice_index value to) ≡ false
+none_after value from to least here there within = grind (arith, cases_lt)
+
 pub loop-at-preserved : goal.loop-at-preserved
 loop-at-preserved c =
     let value = c.args.value.now in
     let keeps = c.loop-at.invariant in
     let next = c.spaces_end-at-in-loop-at in
+    let last = c.last_semicolon-at in
     let inside = run_is is_space value (c.loop-at.at + 1) next.result next.ensures.end in
     record {
       parts = keeps.parts;
       read = to_next keeps.parts value c.loop-at.at next.result keeps.read c.loop-at-test.true c.if-byte-ne59.false next.ensures.end next.ensures.within
-          ∙ nothing_between keeps.parts value next.result inside.stops (c.is_token_at.ensures.no c.if-is_token_at.false);
+          ∙ nothing_between keeps.parts value next.result inside.stops (c.is_token_at.ensures.no c.if-is_token_at.false)
+          ∙ last.ensures.same keeps.parts;
       holds = keeps.holds;
-      within = next.ensures.within;
-      other = inside.stops;
-      few = omega (arith, keeps.few, inside.least);
+      within = last.ensures.within;
+      other = none_after value next.result last.result last.ensures.least inside.stops last.ensures.other;
+      few = omega (arith, keeps.few, inside.least, last.ensures.least);
       room = keeps.room;
     }

@@ -1,7 +1,7 @@
 -- The end of the run from here on stays the same.
 use Rattle.mime_http.proofs.Common.{is_space, length, ◌-◌, ◌≡◌, ◌≤◌}
 use Rattle.mime_http.proofs.ReadAt.{run_end}
-use Rattle.mime_http.proofs.reader.spaces_end_far.Given as goal
+use Rattle.mime_http.proofs.list.spaces_end_far.Given as goal
 
 abbrev pub invariant-loop-at : goal.invariant-loop-at
 invariant-loop-at l = record {
