@@ -217,7 +217,7 @@ fn parameter_at(value: &[u8], start: Start, name: usize) -> Result<Spans, ParseE
         × IsParameterAt value.now text after_semicolon name spans)
         (IsFaultFrom value.now after_semicolon name) }
 {
-    let equals = token_end(value, start, name);
+    let equals = token_end(value, start, name + 1);
     if !is_at(value, equals, b'=') {
         return Err(fault_at(value, equals, ParseError::MissingEqual));
     }

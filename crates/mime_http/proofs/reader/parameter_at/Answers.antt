@@ -1,17 +1,14 @@
 -- A name and an equals sign are read before the value.
-use Rattle.mime_http.proofs.Common.{IsParameterAt, List, MissingEqual, after_semicolon, answer_at, ap, arith, cases_lt, in_name, in_value, is_token_byte, length, ne_eqb, next, refl, rejected, slice_index, slice_range, sym, true, true≢false, [], ℕ, ⊎_elim, ◌+◌, ◌++◌, ◌<◌, ◌==◌, ◌∙◌, ◌∷◌, ◌≡◌, MatchResult-weaker}
-use Rattle.mime_http.{specs.Reader.Parts, specs.declared.reader.Spans.Spans, proofs.ReadAt.IsRun, proofs.ReadAt.neither, proofs.ReadAt.one_part, proofs.ReadAt.over_byte, proofs.ReadAt.over_name, proofs.ReadAt.parts_joined, proofs.ReadAt.run_is, proofs.ReadAt.stuck}
+use Rattle.mime_http.proofs.Common.{IsParameterAt, List, drop, drop_more, one-add, prefix_len, MissingEqual, after_semicolon, answer_at, ap, arith, in_name, in_value, is_token_byte, length, ne_eqb, next, refl, rejected, slice_index, slice_range, sym, true, [], ℕ, ◌+◌, ◌++◌, ◌<◌, ◌==◌, ◌∙◌, ◌∷◌, ◌≡◌, MatchResult-weaker}
+use Rattle.mime_http.{specs.Reader.Parts, specs.declared.reader.Spans.Spans, proofs.ReadAt.IsRun, proofs.ReadAt.neither, proofs.ReadAt.one_part, proofs.ReadAt.over_byte, proofs.ReadAt.over_name, proofs.ReadAt.parts_joined, proofs.ReadAt.run_end, proofs.ReadAt.run_is, proofs.ReadAt.stuck}
 use Rattle.mime_http.proofs.reader.parameter_at.Goals as goal
 
--- a name that begins with a token byte has one
-some_name : (value : List ℕ) (name equals : ℕ) → name < length value → is_token_byte (slice_index value name) ≡ true
-    → IsRun is_token_byte value name equals → name < equals
-some_name value name equals within is run =
-    ⊎_elim (λ some. some)
-    (λ none.
-    let same : equals ≡ name = omega (arith, none, run.least) in
-    absurd (true≢false (sym is ∙ (rw same at run.stops within))))
-    (cases_lt name equals)
+-- a name begins with a token byte, and ends where the run of them after it does
+name_run : (value : List ℕ) (name equals : ℕ) → name < length value → is_token_byte (slice_index value name) ≡ true
+    → equals ≡ run_end is_token_byte value (name + 1) → (name < equals) × IsRun is_token_byte value name equals
+name_run value name equals within is end =
+    let same : equals ≡ run_end is_token_byte value name = grind (arith, drop_more, one-add (prefix_len is_token_byte (drop (name + 1) value))) in
+    (omega (arith, end), run_is is_token_byte value name equals same)
 
 -- a name is read, and the equals sign after it
 to_value : (parts : Parts) (value : List ℕ) (name equals : ℕ) → name < equals → equals < length value
@@ -27,8 +24,7 @@ pub returns-then-not-is_at : goal.returns-then-not-is_at
 returns-then-not-is_at c = λ parts.
     let value = c.args.value.now in
     let equals = c.token_end-equals in
-    let run = run_is is_token_byte value c.args.name equals.result equals.ensures.end in
-    let some = some_name value c.args.name equals.result c.requires.within c.requires.token run in
+    let (some, run) = name_run value c.args.name equals.result c.requires.within c.requires.token equals.ensures.end in
     over_name parts value c.args.name equals.result some equals.ensures.within run
     ∙ stuck value equals.result (in_name parts (slice_range value c.args.name equals.result)) MissingEqual equals.ensures.within refl
     (λ more. neither (is_token_byte (slice_index value equals.result)) (slice_index value equals.result == 61) _ _ (run.stops more)
@@ -62,8 +58,7 @@ returns c =
     let value = c.args.value.now in
     let name = c.args.name in
     let equals = c.token_end-equals in
-    let run = run_is is_token_byte value name equals.result equals.ensures.end in
-    let some = some_name value name equals.result c.requires.within c.requires.token run in
+    let (some, run) = name_run value name equals.result c.requires.within c.requires.token equals.ensures.end in
     let sign = c.is_at.ensures.yes c.if-not-is_at.false in
     MatchResult-weaker c.value_at.result c.value_at.ensures
     (λ spans at.
