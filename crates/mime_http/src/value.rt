@@ -109,38 +109,19 @@ fn read_written(alloc: Global, text: &[u8]) -> Result<Mime, FieldError>
 /// fault for HTTP, too, unless the byte is white space or a semicolon. A part that is missing for `mime` is missing for HTTP, too, unless
 /// the value ends in white space. This function isn't inlined, so that it uses none of the caller's registers.
 #[inline(never)]
-fn same_fault_far(value: &[u8], fault: ParseError) -> Option<ParseError>
-    requires { Explains (trimmed value.now) fault }
-    ensures { IfSome result (λ same. IsHttpFault value.now same) }
-{
-    match fault {
-        ParseError::NoMemory => None,
-        ParseError::InvalidToken { pos, byte } => {
-            if is_space(byte) || byte == b';' {
-                return None;
-            }
-            let pos = value.len() - trim_start(value).len() + pos;
-            Some(ParseError::InvalidToken { pos, byte })
-        }
-        _ => {
-            let text = trim_start(value);
-            if trim_end(text).len() < text.len() {
-                return None;
-            }
-            Some(fault)
-        }
-    }
-}
-
-/// Returns the same as `same_fault_far`. The result is matched and made anew, so that the caller reserves no stack for it before the call.
-#[inline(always)]
 fn same_fault(value: &[u8], fault: ParseError) -> Option<ParseError>
     requires { Explains (trimmed value.now) fault }
     ensures { IfSome result (λ same. IsHttpFault value.now same) }
 {
-    match same_fault_far(value, fault) {
-        Some(fault) => Some(fault),
-        None => None,
+    let text = trim_start(value);
+    match fault {
+        ParseError::InvalidToken { pos, byte } if !is_space(byte) && byte != b';' => {
+            let pos = value.len() - text.len() + pos;
+            Some(ParseError::InvalidToken { pos, byte })
+        }
+        ParseError::InvalidToken { .. } | ParseError::NoMemory => None,
+        _ if trim_end(text).len() < text.len() => None,
+        _ => Some(fault),
     }
 }
 

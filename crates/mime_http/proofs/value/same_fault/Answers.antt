@@ -1,7 +1,7 @@
 -- Before the text stands white space, and perhaps behind it.
 use Rattle.mime_http.proofs.Common.{AreSpaces, Explains, IsHttpFault, List, [], ap, append-nil, arith, length, length-append, nil_from_length, slice_get_within, subst, sym, trim_end, trim_start, trimmed, ℕ, ◌+◌, ◌++◌, ◌-◌, ◌∙◌, ◌≡◌}
 use Rattle.mime_http.proofs.{Around.split_end, PlainIsHttp.same_byte, PlainIsHttp.same_lack, Around.split_white}
-use Rattle.mime_http.proofs.value.same_fault_far.Goals as goal
+use Rattle.mime_http.proofs.value.same_fault.Goals as goal
 
 -- what stands around a value, and how long it is
 around : (value : List ℕ) → (before after : List ℕ) × AreSpaces before × (value ≡ before ++ (trimmed value ++ after))
@@ -17,7 +17,7 @@ around value =
 
 pub overflow_sub-pos : goal.overflow_sub-pos
 overflow_sub-pos c =
-    let (before, after, white, whole, begin, end) = around c.args.value.now in omega (arith, begin, ap length c.trim_start.ensures)
+    let (before, after, white, whole, begin, end) = around c.args.value.now in omega (arith, begin, ap length c.trim_start-text.ensures)
 
 pub overflow_add-pos : goal.overflow_add-pos
 overflow_add-pos c =
@@ -25,19 +25,19 @@ overflow_add-pos c =
     let (before, after, white, whole, begin, end) = around value in
     let dead = subst (Explains (trimmed value)) c.in-InvalidToken.is c.requires in
     let within = slice_get_within (trimmed value) c.in-InvalidToken.pos c.in-InvalidToken.byte dead.there in
-    omega (arith, begin, end, within, ap length c.trim_start.ensures)
+    omega (arith, begin, end, within, ap length c.trim_start-text.ensures)
 
-pub returns-else-byte-eq59 : goal.returns-else-byte-eq59
-returns-else-byte-eq59 c =
+pub returns-in-InvalidToken : goal.returns-in-InvalidToken
+returns-in-InvalidToken c =
     let value = c.args.value.now in
     let (before, after, white, whole, begin, end) = around value in
     let dead = subst (Explains (trimmed value)) c.in-InvalidToken.is c.requires in
-    let space = sym c.is_space.ensures ∙ c.if-is_space.false in
-    let first : length before ≡ length value - length c.trim_start.result.now = omega (arith, begin, ap length c.trim_start.ensures) in
-    rw (← whole, first) at (same_byte before (trimmed value) after _ _ white dead space c.if-byte-eq59.false)
+    let space = sym c.is_space.ensures ∙ c.if-not-is_space.true in
+    let first : length before ≡ length value - length c.trim_start-text.result.now = omega (arith, begin, ap length c.trim_start-text.ensures) in
+    rw (← whole, first) at (same_byte before (trimmed value) after _ _ white dead space c.if-byte-ne59.true)
 
-pub returns-else-trim_end-text : goal.returns-else-trim_end-text
-returns-else-trim_end-text c =
+pub returns-in_default-2 : goal.returns-in_default-2
+returns-in_default-2 c =
     let value = c.args.value.now in
     let (before, after, white, whole, begin, end) = around value in
     let left = c.trim_end.ensures ∙ ap trim_end c.trim_start-text.ensures in
