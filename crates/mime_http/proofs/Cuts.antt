@@ -128,7 +128,7 @@ pub ends_outside : (line : List ℕ) (at : ℕ) → (at < length line → get_or
 ends_outside line at is_comma = grind (arith, nat_tests, drop_more line at 0, drop_of_length-le line {i = at}, is_comma)
 
 -- bytes before the first comma or quote, but for the last of them, go on with a piece,
-pub run_to : (bytes : List ℕ) (n : ℕ) → n < before_mark 44 34 bytes → n + piece_len Outside (drop n bytes) ≡ piece_len Outside bytes
+pub run_to : (bytes : List ℕ) (n : ℕ) → n ≤ before_mark 44 34 bytes - 1 → n + piece_len Outside (drop n bytes) ≡ piece_len Outside bytes
 run_to bytes zero less = omega arith
 run_to [] (suc n) less = absurd (omega (arith, less))
 run_to (b ∷ []) (suc n) less = grind (arith, nat_tests, less)

@@ -44,10 +44,7 @@ fn quoted_piece_len(line: &[u8], quote: usize) -> usize
     ensures piece { result ≡ piece_len Outside line.now }
 {
     // The byte before the quote is tested again, since it may be an equals sign.
-    let mut at = quote;
-    if quote > 0 {
-        at = quote - 1;
-    }
+    let mut at = quote.saturating_sub(1);
     while at < line.len() {
         at = next_outside(line, at);
         if at == line.len() || line[at] == b',' {
