@@ -97,24 +97,6 @@ fn fault_at(value: &[u8], pos: usize, missing: ParseError) -> ParseError
     }
 }
 
-/// Skips the byte of quoted text at `at`. If the number of bytes from `from` through this byte is a multiple of `LONG`, also skips the
-/// quoted text that follows, in blocks. Returns the position after the skipped bytes.
-#[inline(always)]
-fn text_end(value: &[u8], at: usize, from: usize) -> usize
-    requires least { from ≤ at }
-    requires within { at < length value.now }
-    requires text { is_quoted_text_byte (slice_index value.now at) ≡ true }
-    ensures more { at < result }
-    ensures within { result ≤ length value.now }
-    ensures text { list_all is_quoted_text_byte (slice_range value.now at result) ≡ true }
-{
-    let end = at + 1;
-    if (end - from) % LONG == 0 {
-        return first_stop_far(value, end, &TEXT_STOPS);
-    }
-    end
-}
-
 /// Returns the position of the quote that closes the quoted string that `from` is in, or the fault.
 fn string_end(value: &[u8], from: usize) -> Result<usize, ParseError>
     requires { from ≤ length value.now }
@@ -133,7 +115,10 @@ fn string_end(value: &[u8], from: usize) -> Result<usize, ParseError>
             }
             at = paired + 1;
         } else if is_quoted_text_byte(byte) {
-            at = text_end(value, at, from);
+            at += 1;
+            if (at - from) % LONG == 0 {
+                at = first_stop_far(value, at, &TEXT_STOPS);
+            }
         } else {
             return Err(ParseError::InvalidToken { pos: at, byte });
         }

@@ -1,6 +1,6 @@
 -- Text and pairs go on the content, and another byte, or the end, is the string's fault.
-use Rattle.mime_http.proofs.Common.{IsContent, List, MissingQuote, Parts, [], answer_at, ap, arith, awaits_after, awaits_after-append, false, fault_at, in_string, is_quoted_byte, length, nat_tests, next, no_byte, refl, rejected, slice_index, subst, sym, true, ℕ, ◌++◌, ◌+◌, ◌<◌, ◌∙◌, ◌∷◌, ◌≡◌}
-use Rattle.mime_http.proofs.{ReadAt.at_byte, ReadAt.at_end, ReadAt.content_on, ReadAt.fault_after, ReadAt.no_part, ReadAt.no_text, ReadAt.over_byte, ReadAt.pair_content, ReadAt.stuck, ReadAt.text_content, reader.string_end.Goals.then-paired-value-via-then-paired-value, reader.string_end.Goals.then-paired-value-via-else-paired-value+then-not-is_quoted_byte}
+use Rattle.mime_http.proofs.Common.{IsContent, List, MissingQuote, Parts, [], answer_at, ap, arith, awaits_after, awaits_after-append, false, fault_at, in_string, is_quoted_byte, is_quoted_text_byte, length, list_all, slice_range, nat_tests, next, no_byte, refl, rejected, slice_index, subst, sym, true, ℕ, ◌++◌, ◌+◌, ◌<◌, ◌≤◌, ◌∙◌, ◌∷◌, ◌≡◌}
+use Rattle.mime_http.proofs.{ReadAt.at_byte, ReadAt.at_end, ReadAt.content_on, ReadAt.fault_after, ReadAt.no_part, ReadAt.no_text, ReadAt.one_part, ReadAt.over_byte, ReadAt.pair_content, ReadAt.stuck, ReadAt.text_after, ReadAt.text_content, reader.string_end.Goals.then-paired-value-via-then-paired-value, reader.string_end.Goals.then-paired-value-via-else-paired-value+then-not-is_quoted_byte}
 use Rattle.mime_http.proofs.reader.string_end.Goals as goal
 
 -- a byte that a backslash can't pair is the string's fault, and so is the end
@@ -49,16 +49,35 @@ loop-at-preserved-then-byte-eq92 c =
       content = content_on value c.args.from at (at + 1 + 1) keeps.least (omega arith) keeps.content after;
     }
 
+-- quoted text goes on the content
+text_goes_on : (value : List ℕ) (from at to : ℕ) → from ≤ at → at < to → IsContent (slice_range value from at)
+    → list_all is_quoted_text_byte (slice_range value at to) ≡ true → IsContent (slice_range value from to)
+text_goes_on value from at to least more content text = content_on value from at to least (omega (arith, more)) content (text_content _ text)
+
+pub loop-at-preserved-then-at-from-eq0 : goal.loop-at-preserved-then-at-from-eq0
+loop-at-preserved-then-at-from-eq0 c =
+    let value = c.args.value.now in
+    let keeps = c.loop-at.invariant in
+    let stop = c.first_stop_far-at in
+    let text = sym c.is_quoted_text_byte.ensures ∙ c.if-is_quoted_text_byte.true in
+    let more = text_after value c.loop-at.at stop.result c.loop-at-test.true text stop.ensures.end in
+    record {
+      least = omega (arith, keeps.least, stop.ensures.end);
+      within = stop.ensures.within;
+      content = text_goes_on value c.args.from c.loop-at.at stop.result keeps.least (omega (arith, stop.ensures.end)) keeps.content more;
+    }
+
 pub loop-at-preserved : goal.loop-at-preserved
 loop-at-preserved c =
     let value = c.args.value.now in
+    let at = c.loop-at.at in
     let keeps = c.loop-at.invariant in
-    let text = c.text_end-at in
+    let text = sym c.is_quoted_text_byte.ensures ∙ c.if-is_quoted_text_byte.true in
+    let more : list_all is_quoted_text_byte (slice_range value at (at + 1)) ≡ true = grind (arith, one_part value at, text) in
     record {
-      least = omega (arith, keeps.least, text.ensures.more);
-      within = text.ensures.within;
-      content = content_on value c.args.from c.loop-at.at text.result keeps.least (omega (arith, text.ensures.more)) keeps.content
-          (text_content _ text.ensures.text);
+      least = omega (arith, keeps.least);
+      within = omega (arith, c.loop-at-test.true);
+      content = text_goes_on value c.args.from at (at + 1) keeps.least (omega arith) keeps.content more;
     }
 
 pub returns-else-is_quoted_text_byte : goal.returns-else-is_quoted_text_byte
