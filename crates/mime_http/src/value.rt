@@ -90,21 +90,6 @@ fn trimmed(text: &str) -> &str
     unsafe { str::from_utf8_unchecked(left) }
 }
 
-/// Reads the text that `write_anew` wrote for a value. This doesn't allocate if the text has at most 40 bytes.
-fn read_written(alloc: Global, text: &[u8]) -> Result<Mime, FieldError>
-    requires { (value : List ℕ) × (parts : Parts) × IsUtf8 value × (answer_of value ≡ read parts) × (text.now ≡ text_of_parts parts) }
-    ensures read { (value : List ℕ) (parts : Parts) → answer_of value ≡ read parts → text.now ≡ text_of_parts parts
-        → IfOk result (λ mime. mime.media ≡ media_of parts) }
-    ensures memory { IfErr result (λ error. (error ≡ FieldError.NoMemory) × (40 < length text.now)) }
-{
-    // SAFETY: the text that is written anew for a value in UTF-8 is UTF-8.
-    let text = unsafe { str::from_utf8_unchecked(text) };
-    match Mime::from_str(alloc, text) {
-        Ok(mime) => Ok(mime),
-        Err(_) => Err(FieldError::NoMemory),
-    }
-}
-
 /// Returns the fault of a value if it follows from `fault`, which `mime` returns for the trimmed value. A byte at fault for `mime` is at
 /// fault for HTTP, too, unless the byte is white space or a semicolon. A part that is missing for `mime` is missing for HTTP, too, unless
 /// the value ends in white space. This function isn't inlined, so that it uses none of the caller's registers.
@@ -149,9 +134,10 @@ fn read_into(
     if len > room.len() {
         return read_in_block(alloc, value, accepted, len);
     }
-    let mime = match read_written(alloc, &room[..len]) {
-        Ok(mime) => mime,
-        Err(error) => return Err(error),
+    // SAFETY: the text that is written anew for a value in UTF-8 is UTF-8.
+    let text = unsafe { str::from_utf8_unchecked(&room[..len]) };
+    let Ok(mime) = Mime::from_str(alloc, text) else {
+        return Err(FieldError::NoMemory);
     };
     if accepted && mime.essence_str().len() < len {
         return Err(FieldError::NoMemory);
