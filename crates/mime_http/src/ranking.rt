@@ -4,7 +4,7 @@
 ghost use Rattle.std.specs.Prelude.{◌≡◌, ◌++◌, ◌∷◌, ◌==◌, ◌||◌, ◌&&◌, not, map, option_map, unwrap_or, true, position, codes, IfOk, MatchOption};
 ghost use Rattle.std.specs.{Char.is_ascii_digit, List.list_all, Vec.vec_items};
 ghost use Rattle.mime.specs.Bytes.{comma_byte};
-ghost use Rattle.mime_http.specs.{HttpList.IsPiece, HttpList.BeginsPiece, Ranges.first_value, Ranking.are_decimals, Ranking.is_qvalue, Ranking.is_lacking, Ranking.ranked_as, Ranking.IsRanking};
+ghost use Rattle.mime_http.specs.{HttpList.IsPiece, HttpList.BeginsPiece, Ranges.first_value, Ranking.is_qvalue, Ranking.is_lacking, Ranking.ranked_as, Ranking.IsRanking};
 
 use crate::list::piece_end;
 use crate::offers::{Ranked, ranked};
@@ -55,19 +55,13 @@ pub fn rank_offers(
     ranked_offers(alloc, ranges.len(), &ranked(alloc, ranges, offers, 0)?)
 }
 
-/// Returns `true` if a range has an offer's essence, but demands a parameter that the offer lacks.
-fn is_lacking(range: &Mime, offer: &Mime) -> bool
-    ensures { result ≡ is_lacking offer.now.media range.now.media }
-{
-    range.essence_str() == offer.essence_str() && !covers(range, offer)
-}
-
 /// Returns the position of the first range that has an offer's essence, but demands a parameter that the offer lacks, or `None` if there is
 /// no such range. The offer `application/json` lacks a parameter of the range `application/json; charset=utf-8`.
 pub fn lacking(ranges: &[Mime], offer: &Mime) -> Option<usize>
     ensures { result ≡ position (is_lacking offer.now.media) (map (λ range. range.media) ranges.now) }
 {
-    ranges.iter().position(|range| is_lacking(range, offer))
+    let essence = offer.essence_str();
+    ranges.iter().position(|range| range.essence_str() == essence && !covers(range, offer))
 }
 
 /// Returns `true` if all bytes are digits. If `zeros_alone` is `true`, all must be zeros.
@@ -77,24 +71,14 @@ fn are_digits(zeros_alone: bool, bytes: &[u8]) -> bool
     bytes.iter().all(|byte| *byte == b'0' || (!zeros_alone && byte.is_ascii_digit()))
 }
 
-/// Returns `true` if there are no bytes, or a dot and at most three digits. If `zeros_alone` is `true`, all digits must be zeros.
-fn are_decimals(zeros_alone: bool, bytes: &[u8]) -> bool
-    ensures { result ≡ are_decimals zeros_alone bytes.now }
-{
-    match bytes {
-        [] => true,
-        [b'.', decimals @ ..] => decimals.len() < 4 && are_digits(zeros_alone, decimals),
-        _ => false,
-    }
-}
-
 /// Returns `true` if a value is a `qvalue` of RFC 9110 (12.4.2), such as `0.25`.
 fn is_qvalue(bytes: &[u8]) -> bool
     ensures { result ≡ is_qvalue bytes.now }
 {
     match bytes {
-        [b'0', decimals @ ..] => are_decimals(false, decimals),
-        [b'1', decimals @ ..] => are_decimals(true, decimals),
+        [b'0' | b'1'] => true,
+        [b'0', b'.', decimals @ ..] => decimals.len() < 4 && are_digits(false, decimals),
+        [b'1', b'.', decimals @ ..] => decimals.len() < 4 && are_digits(true, decimals),
         _ => false,
     }
 }
