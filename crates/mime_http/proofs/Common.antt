@@ -7,7 +7,7 @@ pub use Rattle.mime.specs.Items.{IsFirstAccepted, Item, item_of, item_seen, item
 pub use Rattle.mime.specs.Values.{IsAccepted, MediaType, OwnedMedia, Reads, essence_of, is_charset, kept_text, lowered, lowered_list, lowered_parameter, lowered_tail, lowered_tree, lowered_value, pair_of, pairs_of_list, pairs_of_tail, value_of}
 pub use Rattle.mime.specs.declared.scan.fault.ParseError.TheVariants.{InvalidToken, MissingEqual, MissingQuote, MissingSlash, MissingSubtype, MissingValue, NoMemory}
 pub use Rattle.mime.specs.{Bytes.backslash_byte, Bytes.is_quoted_text_byte, Bytes.quote_byte, HeaderLaws.AreHeaderBytes, HeaderLaws.IsSafe, HeaderLaws.IsSafePair, Names.NameIs, declared.scan.fault.ParseError.ParseError}
-pub use Rattle.mime_http.specs.Forms.{form_of, is_plain, kind_of, text_in}
+pub use Rattle.mime_http.specs.Forms.{form_of, is_plain, text_in}
 pub use Rattle.mime_http.specs.HeaderLaws.{OneHttpFault, OneHttpReading, OnePrintedText, PlainIsHttp, PrintedIsRead}
 pub use Rattle.mime_http.specs.HttpFaults.{HttpExplains, HttpLacks, IsHttpFault, IsHttpLongestPrefix, IsHttpViable, NeedsMemory}
 pub use Rattle.mime_http.specs.HttpList.{AreBetweenCommas, AreSorted, BeginsPiece, Header, IsHeader, IsInString, IsPiece, IsPrinted, a_bad, a_range, anew, as_it_stands, comma, line_end, lines_or_any, no_line, no_text, opens_string, piece_byte, piece_end, piece_string, string_byte, string_end, string_pair, trim_end, trim_start, trimmed}

@@ -1,5 +1,7 @@
 -- The content of quoted strings: what is written for a value and in which form, what needs no backslash, and what it means.
-use Rattle.mime_http.proofs.Common.{AreHeaderBytes, one-add, AreTokenBytes-from_token, Bool, IsBoundary, IsContent, IsToken, List, WrittenIsMeant, [], and_parts, ap, append-nil, append_assoc, arith, cases_Bool, cond, drop, drop-append-add, drop-length, drop_of_length-le, eqb-true, escaped, false, false_from_ne_true, get_or, if◌then◌else◌, is_bchar, is_charset, is_quoted_byte, is_quoted_text_byte, is_token_byte, length, list_all, list_all-wider, lowered, lowered_value, lowered_value-either, nat_tests, no_byte, not, quoted_pair, refl, suc, sym, take, take-append-add, take-length, text_byte, to_ascii_lowercase, true, unescaped, zero, ℕ, ⊎_elim, ◌&&◌, ◌*◌, ◌++◌, ◌+◌, ◌<◌, ◌==◌, ◌||◌, ◌∙◌, ◌∷◌, ◌≡◌, ◌≢◌, ◌≤◌, Form, flat_map-append, text_of_pairs, Token, bit_and, drop-cons, form_of, is_plain, is_token_value, kind_of, list_all-append, prefix_len, prefix_len-le-length, prefix_len_stops, take_more, text_in, text_of_pair, is_ascii_uppercase}
+use Rattle.mime_http.proofs.Common.{AreHeaderBytes, one-add, AreTokenBytes-from_token, Bool, IsBoundary, IsContent, IsToken, List, WrittenIsMeant, [], and_parts, ap, append-nil, append_assoc, arith, cases_Bool, cond, drop, drop-append-add, drop-length, drop_of_length-le, eqb-true, escaped, false, false_from_ne_true, get_or, if◌then◌else◌, is_bchar, is_charset, is_quoted_byte, is_quoted_text_byte, is_token_byte, length, list_all, list_all-wider, lowered, lowered_value, lowered_value-either, nat_tests, no_byte, not, quoted_pair, refl, suc, sym, take, take-append-add, take-length, text_byte, to_ascii_lowercase, true, unescaped, zero, ℕ, ⊎_elim, ◌&&◌, ◌*◌, ◌++◌, ◌+◌, ◌<◌, ◌==◌, ◌||◌, ◌∙◌, ◌∷◌, ◌≡◌, ◌≢◌, ◌≤◌, Form, flat_map-append, text_of_pairs, Token, bit_and, drop-cons, form_of, is_plain, is_token_value, list_all-append, prefix_len, prefix_len-le-length, prefix_len_stops, take_more, text_in, text_of_pair, is_ascii_uppercase}
+use Rattle.std.{specs.Prelude.encode_utf8, proofs.Math.Utf8.encode}
+use Rattle.mime.specs.Bytes.{quote_byte, backslash_byte}
 use Rattle.mime_http.{specs.declared.quoted.Form.TheVariants.Quoted, proofs.Written.token_from_test}
 
 -- bytes that stand in quotes as they are need no backslash,
@@ -98,76 +100,24 @@ kept_low name value low = grind (arith, lowered_escaped, low)
 pub written_is_meant : WrittenIsMeant
 written_is_meant name value = grind (arith, lowered_escaped, meant)
 
--- ---- the kinds of bytes
+-- ---- what is written, character by character
 
--- the kind of joined bytes
-pub kind_of-append : (xs ys : List ℕ) → kind_of (xs ++ ys) ≡ bit_and (kind_of xs) (kind_of ys)
-kind_of-append xs ys = grind (arith, list_all-append)
+-- a backslash is written before a quote and before a backslash alone
+escaped_char : (c : ℕ) (bytes : List ℕ) → escaped (encode_utf8 c ++ bytes)
+    ≡ (if c == quote_byte || c == backslash_byte then backslash_byte ∷ (encode_utf8 c ++ escaped bytes) else encode_utf8 c ++ escaped bytes)
+unfolding encode
+escaped_char c bytes = grind (arith, nat_tests)
 
--- the kind of the bytes so far and one more
-pub kind_of_more : (xs : List ℕ) (i : ℕ) → i < length xs
-    → bit_and (kind_of (take i xs)) (kind_of (get_or xs i 0 ∷ [])) ≡ kind_of (take (i + 1) xs)
-kind_of_more xs i within = sym (kind_of-append (take i xs) (get_or xs i 0 ∷ [])) ∙ ap kind_of (sym (take_more xs i 0 within))
-
--- ---- the kind of a value, block by block
-
--- the bytes seen so far, those that are left, and the kind of the former
-pub record Seen (value : List ℕ) (kind : ℕ) (left : List ℕ) : Type 0 where
-  pub bytes : List ℕ
-  pub split : bytes ++ left ≡ value
-  pub is : kind ≡ kind_of bytes
-
--- the kind seen so far, after one more block
-pub block_seen : {value : List ℕ} {kind : ℕ} {left : List ℕ} → Seen value kind left → (block rest : List ℕ) → left ≡ block ++ rest
-    → Seen value (bit_and kind (kind_of block)) rest
-block_seen {value} seen block rest is =
-    let whole : (seen.bytes ++ block) ++ rest ≡ value = grind (arith, append_assoc, seen.split) in
-    rw (← whole) (grind (arith, kind_of-append, seen.is))
-
--- a byte whose kind says that it needs no backslash is plain
-pub plain_from_kind : (b : ℕ) → kind_of (b ∷ []) ≢ 1 → is_plain b ≡ true
-unfolding is_token_byte is_quoted_byte
-plain_from_kind b other = grind (arith, nat_tests)
-
--- one more
-pub plain_more : (bytes : List ℕ) (n : ℕ) → n < length bytes → is_plain (get_or bytes n 0) ≡ true
-    → n + prefix_len is_plain (drop n bytes) ≡ (n + 1) + prefix_len is_plain (drop (n + 1) bytes)
-plain_more bytes n within plain = grind (arith, drop-cons)
-
--- ---- what is written, run by run
-
--- a run stands as it is
-pub run_written : (bytes : List ℕ)
-    → take (prefix_len is_plain bytes) bytes ++ escaped (drop (prefix_len is_plain bytes) bytes) ≡ escaped bytes
-run_written [] = refl
-run_written (b ∷ bytes) = grind (arith, one-add (prefix_len is_plain bytes), run_written bytes)
-
--- a backslash is written before a byte that needs it, and both before the next run
-byte_written : (bytes : List ℕ) (end : ℕ) → 0 < length bytes → is_plain (get_or bytes 0 0) ≡ false
-    → end ≡ 1 + prefix_len is_plain (drop 1 bytes) → escaped bytes ≡ 92 ∷ (take end bytes ++ escaped (drop end bytes))
-byte_written [] end some special is = absurd (omega (arith, some))
-byte_written (b ∷ bytes) end some special is = grind (arith, one-add (prefix_len is_plain bytes), run_written bytes)
-
--- what is written after a special byte, up to the next, and what is left
-pub more_written : (text left bytes whole : List ℕ) (run end : ℕ) → bytes ≡ drop run left → 0 < length bytes
-    → is_plain (get_or bytes 0 0) ≡ false → end ≡ 1 + prefix_len is_plain (drop 1 bytes)
-    → text ++ (take run left ++ escaped (drop run left)) ≡ whole
-    → ((text ++ take run left) ++ (92 ∷ [])) ++ (take end bytes ++ escaped (drop end bytes)) ≡ whole
-more_written text left bytes whole run end are some special is_end is = grind (arith, append_assoc, byte_written)
-
--- the next run ends at the end or before a byte that needs a backslash
-pub next_end : (bytes : List ℕ) (end : ℕ) → 0 < length bytes → end ≡ 1 + prefix_len is_plain (drop 1 bytes)
-    → (end ≤ length bytes) × (end < length bytes → is_plain (get_or bytes end 0) ≡ false)
-next_end [] end some is = absurd (omega (arith, some))
-next_end (b ∷ bytes) end some is = grind (arith, prefix_len-le-length, prefix_len_stops is_plain bytes 0)
-
--- a value of the last kind is a token
-pub token_from_kind : (value : List ℕ) → 0 < length value → kind_of value ≢ 0 → kind_of value ≢ 1 → kind_of value ≢ 3
-    → (is_token_value value ≡ true) × (list_all is_quoted_byte value ≡ true)
-token_from_kind [] some no_bits quoted text = absurd (omega (arith, some))
-token_from_kind (b ∷ bytes) some no_bits quoted text = grind (arith, token_text (b ∷ bytes), safe_text (b ∷ bytes))
+-- so what is written goes on with one more
+pub char_written : (text before left more whole : List ℕ) (c : ℕ)
+    → before ≡ (if c == quote_byte || c == backslash_byte then text ++ (backslash_byte ∷ []) else text) → left ≡ encode_utf8 c ++ more
+    → text ++ escaped left ≡ whole → (before ++ encode_utf8 c) ++ escaped more ≡ whole
+char_written text before left more whole c written first is = grind (arith, nat_tests, append_assoc, written, first, is, escaped_char c more)
 
 -- ---- what is written in a form
+
+-- a value in any form is header bytes
+pub ruleset form_written = (safe_text, token_text, token_from_test)
 
 -- content that is kept is written as it is
 pub kept_text : (name bytes : List ℕ) → text_in (if is_token_value bytes then Token else Quoted) name bytes ≡ text_of_pair (name, bytes)

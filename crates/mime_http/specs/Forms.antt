@@ -4,11 +4,6 @@ use Rattle.std.specs.List.{list_all}
 use Rattle.mime.specs.Bytes.{is_token_byte, is_quoted_byte, is_quoted_text_byte, equals_byte, quote_byte, backslash_byte}
 use Rattle.mime_http.specs.{Written.escaped, Written.is_token_value, declared.quoted.Form.Form, declared.quoted.Form.TheVariants.Token, declared.quoted.Form.TheVariants.Quoted, declared.quoted.Form.TheVariants.Escaped}
 
--- the kind that all of these bytes have, in bits: no quotes are needed, no backslash is needed, and a quoted string can hold them
-abbrev pub kind_of : List ℕ → ℕ
-kind_of bytes = (if list_all is_token_byte bytes then 4 else 0)
-    + ((if list_all is_quoted_text_byte bytes then 2 else 0) + (if list_all is_quoted_byte bytes then 1 else 0))
-
 -- whether a byte of a quoted string needs no backslash
 abbrev pub is_plain : ℕ → Bool
 is_plain b = not (b == quote_byte || b == backslash_byte)

@@ -1,14 +1,15 @@
 //! Writes parameters of media types.
 
-ghost use Rattle.std.specs.Prelude.{◌≡◌, ◌++◌, ◌∷◌, [], ◌↔◌, IsTrue, IfOk, IsOk, IfSome, OnOk, is_some, if◌then◌else◌, codes, string_bytes, length};
-ghost use Rattle.mime.specs.{Grammar.IsToken, HeaderLaws.AreHeaderBytes, Values.lowered, Values.lowered_value};
+ghost use Rattle.std.specs.Prelude.{◌≡◌, ◌++◌, ◌∷◌, [], ◌↔◌, IsTrue, IfOk, IsOk, IfSome, None, OnOk, Some, is_some, if◌then◌else◌, codes, string_bytes, length};
+ghost use Rattle.std.specs.List.{list_all};
+ghost use Rattle.mime.specs.{Bytes.is_quoted_byte, Grammar.IsToken, HeaderLaws.AreHeaderBytes, Values.lowered, Values.lowered_value};
 ghost use Rattle.mime_http.specs.{Boundary.IsBoundary, Forms.form_of, Forms.text_in, Written.escaped, Written.is_token_value, Written.text_of_pairs, Written.others, Written.with_pair, declared.quoted.Form.TheVariants.Token, declared.quoted.Form.TheVariants.Quoted};
 
 use crate::multipart::is_boundary;
-use crate::quoted::{Form, form_of, push_escaped};
+use crate::quoted::{Form, push_escaped};
 use crate::range::{after_essence, param_count};
 use mime::laws::{kept_is_safe, one_reading};
-use mime::{KnownText, Mime, is_token, name_eq_str};
+use mime::{KnownText, Mime, is_quoted_byte, is_quoted_text_byte, is_token, name_eq_str};
 use std::alloc::{AllocError, Global};
 
 /// Returns `true` if a string is a token.
@@ -39,6 +40,24 @@ fn is_kept_as_written(name: &str, value: &str) -> bool
     ensures { IsTrue result → (lowered name.now ≡ name.now) × (lowered_value name.now (escaped value.now) ≡ escaped value.now) }
 {
     is_lowercase(name) && (name != "charset" || is_lowercase(value))
+}
+
+/// Returns the form in which a value is written, or `None` if the value has a byte that no quoted string can contain: an ASCII
+/// control character other than the tab.
+#[tactic(auto, using(crate::proofs::Contents::form_written))]
+fn form_of(value: &str) -> Option<Form>
+    ensures { result ≡ (if list_all is_quoted_byte value.now then Some (form_of value.now) else None) }
+{
+    let bytes = value.as_bytes();
+    if is_token_text(value) {
+        Some(Form::Token)
+    } else if bytes.iter().all(|byte| is_quoted_text_byte(*byte)) {
+        Some(Form::Quoted)
+    } else if bytes.iter().all(|byte| is_quoted_byte(*byte)) {
+        Some(Form::Escaped)
+    } else {
+        None
+    }
 }
 
 /// Returns the form of a value that already has the backslashes that it needs.
