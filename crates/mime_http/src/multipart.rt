@@ -31,21 +31,13 @@ static BOUNDARY_BYTES: [bool; 256] = [
 /// The maximum length of a boundary, in bytes.
 const LONGEST: usize = 70;
 
-/// Returns `true` if a byte may occur in a boundary.
-#[inline(always)]
-fn is_boundary_byte(byte: u8) -> bool
-    ensures { result ≡ is_bchar byte }
-{
-    BOUNDARY_BYTES[byte as usize]
-}
-
 /// Returns `true` if all of these bytes may occur in a boundary.
 fn are_boundary_bytes(bytes: &[u8]) -> bool
     ensures { result ≡ list_all is_bchar bytes.now }
 {
     let mut all = true;
     for &byte in bytes {
-        all &= is_boundary_byte(byte);
+        all &= BOUNDARY_BYTES[byte as usize];
     }
     all
 }

@@ -7,7 +7,7 @@ ghost use Rattle.mime.specs.Bytes.{comma_byte};
 ghost use Rattle.mime_http.specs.{HttpList.IsPiece, HttpList.BeginsPiece, Ranges.first_value, Ranking.is_qvalue, Ranking.is_lacking, Ranking.ranked_as, Ranking.IsRanking};
 
 use crate::list::piece_end;
-use crate::offers::{Ranked, ranked};
+use crate::offers::ranked;
 use crate::range::{covers, first_value};
 use mime::Mime;
 use std::alloc::{AllocError, Global};
@@ -24,22 +24,6 @@ pub struct RankedOffer {
     pub range: Option<usize>,
 }
 
-/// Returns offers with their weights and ranges, from their ranks and positions. `count` is the number of ranges.
-fn ranked_offers(
-    alloc: Global,
-    count: usize,
-    ranked: &[Ranked],
-) -> Result<Vec<RankedOffer>, AllocError>
-    ensures { IfOk result (λ offers. vec_items offers ≡ map (λ one. ranked_as count one.0.0 one.1) ranked.now) }
-{
-    let offers = ranked.iter().map(|&(Reverse(rank), offer)| RankedOffer {
-        offer,
-        weight: rank.0,
-        range: (rank.3 > 0).then(|| count.saturating_sub(rank.3)),
-    });
-    offers.collect(alloc)
-}
-
 /// Returns all offers, the best first, each with its weight and the range that decides the weight. Offers are compared as in
 /// [`Accept::best`](crate::Accept::best), so the first is the best, unless it weighs 0. Each offer is compared with the ranges only once.
 ///
@@ -52,7 +36,13 @@ pub fn rank_offers(
 ) -> Result<Vec<RankedOffer>, AllocError>
     ensures { IfOk result (λ ranking. IsRanking (map (λ range. range.media) ranges.now) (map (λ offer. offer.media) offers.now) (vec_items ranking)) }
 {
-    ranked_offers(alloc, ranges.len(), &ranked(alloc, ranges, offers, 0)?)
+    let ranked = ranked(alloc, ranges, offers, 0)?;
+    let offers = ranked.iter().map(|&(Reverse(rank), offer)| RankedOffer {
+        offer,
+        weight: rank.0,
+        range: (rank.3 > 0).then(|| ranges.len().saturating_sub(rank.3)),
+    });
+    offers.collect(alloc)
 }
 
 /// Returns the position of the first range that has an offer's essence, but demands a parameter that the offer lacks, or `None` if there is
