@@ -2,6 +2,7 @@
 use Rattle.mime_http.proofs.Common.{AreHeaderBytes, one-add, AreTokenBytes-from_token, Bool, IsBoundary, IsContent, IsToken, List, WrittenIsMeant, [], and_parts, ap, append-nil, append_assoc, arith, cases_Bool, cond, drop, drop-append-add, drop-length, drop_of_length-le, eqb-true, escaped, false, false_from_ne_true, get_or, if◌then◌else◌, is_bchar, is_charset, is_quoted_byte, is_quoted_text_byte, is_token_byte, length, list_all, list_all-wider, lowered, lowered_value, lowered_value-either, nat_tests, no_byte, not, quoted_pair, refl, suc, sym, take, take-append-add, take-length, text_byte, to_ascii_lowercase, true, unescaped, zero, ℕ, ⊎_elim, ◌&&◌, ◌*◌, ◌++◌, ◌+◌, ◌<◌, ◌==◌, ◌||◌, ◌∙◌, ◌∷◌, ◌≡◌, ◌≢◌, ◌≤◌, Form, flat_map-append, text_of_pairs, Token, bit_and, drop-cons, form_of, is_plain, is_token_value, list_all-append, prefix_len, prefix_len-le-length, prefix_len_stops, take_more, text_in, text_of_pair, is_ascii_uppercase}
 use Rattle.std.{specs.Prelude.encode_utf8, proofs.Math.Utf8.encode}
 use Rattle.mime.specs.Bytes.{quote_byte, backslash_byte}
+use Rattle.mime_http.proofs.{Common.slice_range, Common.drop_more, ReadAt.one_part, ReadAt.parts_joined}
 use Rattle.mime_http.{specs.declared.quoted.Form.TheVariants.Quoted, specs.declared.quoted.Form.TheVariants.Escaped, proofs.Written.token_from_test}
 
 -- bytes that stand in quotes as they are need no backslash,
@@ -102,28 +103,22 @@ written_is_meant name value = grind (arith, lowered_escaped, meant)
 
 -- ---- what is written, character by character
 
--- a backslash is written before a quote and before a backslash alone
-escaped_char : (c : ℕ) (bytes : List ℕ) → escaped (encode_utf8 c ++ bytes)
-    ≡ (if c == quote_byte || c == backslash_byte then backslash_byte ∷ (encode_utf8 c ++ escaped bytes) else encode_utf8 c ++ escaped bytes)
-unfolding encode
-escaped_char c bytes = grind (arith, nat_tests)
+-- a byte that needs no backslash goes on with the run before it
+pub run_more : (value : List ℕ) (from at : ℕ) → from ≤ at → at < length value → is_plain (get_or value at 0) ≡ true
+    → escaped (drop from value) ≡ slice_range value from at ++ escaped (drop at value)
+    → escaped (drop from value) ≡ slice_range value from (at + 1) ++ escaped (drop (at + 1) value)
+run_more value from at before within plain is =
+    rw (parts_joined value from at (at + 1) before (omega arith), one_part value at within)
+    (grind (arith, nat_tests, append_assoc, drop_more value at 0 within, plain, is))
 
--- so what is written goes on with one more
-pub char_written : (text before left more whole : List ℕ) (c : ℕ)
-    → before ≡ (if c == quote_byte || c == backslash_byte then text ++ (backslash_byte ∷ []) else text) → left ≡ encode_utf8 c ++ more
-    → text ++ escaped left ≡ whole → (before ++ encode_utf8 c) ++ escaped more ≡ whole
-char_written text before left more whole c written first is = grind (arith, nat_tests, append_assoc, written, first, is, escaped_char c more)
+-- before another a backslash is written
+pub special_written : (value text whole : List ℕ) (from at : ℕ) → at < length value → is_plain (get_or value at 0) ≡ false
+    → escaped (drop from value) ≡ slice_range value from at ++ escaped (drop at value) → text ++ escaped (drop from value) ≡ whole
+    → (((text ++ slice_range value from at) ++ (backslash_byte ∷ [])) ++ (get_or value at 0 ∷ [])) ++ escaped (drop (at + 1) value) ≡ whole
+special_written value text whole from at within special run is =
+    grind (arith, nat_tests, append_assoc, drop_more value at 0 within, special, run, is)
 
 -- ---- what is written in a form
-
--- a value is quoted text if a quoted string can hold it and it needs no backslash
-pub text_from_plain : (value : List ℕ) → list_all is_quoted_text_byte value ≡ (list_all is_quoted_byte value && list_all is_plain value)
-text_from_plain [] = refl
-text_from_plain (b ∷ value) = grind (arith, nat_tests, text_from_plain value)
-
--- with a byte that needs one it isn't, and no token
-pub escaped_form : (value : List ℕ) → list_all is_plain value ≡ false → form_of value ≡ Escaped
-escaped_form value special = grind (arith, special, text_from_plain value, λ (is : is_token_value value ≡ true). token_text value (token_from_test value is))
 
 -- content that is kept is written as it is
 pub kept_text : (name bytes : List ℕ) → text_in (if is_token_value bytes then Token else Quoted) name bytes ≡ text_of_pair (name, bytes)

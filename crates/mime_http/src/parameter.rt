@@ -9,18 +9,19 @@ use crate::multipart::is_boundary;
 use crate::quoted::{Form, push_escaped};
 use crate::range::{after_essence, param_count};
 use mime::laws::{kept_is_safe, one_reading};
-use mime::{KnownText, Mime, is_token, name_eq_str};
+use mime::{KnownText, Mime, is_quoted_byte, is_quoted_text_byte, is_token, name_eq_str};
 use std::alloc::{AllocError, Global};
 
 /// Returns `true` if a string is a token.
 fn is_token_text(text: &str) -> bool
     ensures { result ≡ is_token_value text.now }
 {
-    let mut all = !text.is_empty();
     for &byte in text.as_bytes() {
-        all &= is_token(byte);
+        if !is_token(byte) {
+            return false;
+        }
     }
-    all
+    !text.is_empty()
 }
 
 /// Returns `true` if a string has no uppercase ASCII letter.
@@ -54,19 +55,19 @@ fn form_of_content(content: &str) -> Form
 
 /// Returns the form in which a value is written, or `None` if the value has a byte that no quoted string can contain: an ASCII
 /// control character other than the tab.
+#[tactic(auto, using(crate::proofs::Contents::token_written))]
 fn form_of(value: &str) -> Option<Form>
     ensures { result ≡ (if list_all is_quoted_byte value.now then Some (form_of value.now) else None) }
 {
-    let mut is_quotable = true;
-    let mut is_plain = true;
-    for &byte in value.as_bytes() {
-        is_quotable &= !byte.is_ascii_control() | (byte == b'\t');
-        is_plain &= (byte != b'"') & (byte != b'\\');
-    }
-    match (is_quotable, is_plain) {
-        (false, _) => None,
-        (true, false) => Some(Form::Escaped),
-        (true, true) => Some(form_of_content(value)),
+    let bytes = value.as_bytes();
+    if is_token_text(value) {
+        Some(Form::Token)
+    } else if bytes.iter().all(|byte| is_quoted_text_byte(*byte)) {
+        Some(Form::Quoted)
+    } else if bytes.iter().all(|byte| is_quoted_byte(*byte)) {
+        Some(Form::Escaped)
+    } else {
+        None
     }
 }
 

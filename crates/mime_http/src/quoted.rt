@@ -61,11 +61,17 @@ pub(crate) enum Form {
 pub(crate) fn push_escaped(text: &mut String, value: &str) -> Result<(), AllocError>
     ensures { OnOk result (string_bytes text.new ≡ string_bytes text.old ++ escaped value.now) }
 {
-    for ch in value.chars() {
-        if matches!(ch, '"' | '\\') {
+    let mut from = 0;
+    for at in 0..value.len() {
+        let byte = value.as_bytes()[at];
+        if (byte == b'"') | (byte == b'\\') {
+            if from < at {
+                text.push_str(&value[from..at])?;
+            }
             text.push('\\')?;
+            text.push(char::from(byte))?;
+            from = at + 1;
         }
-        text.push(ch)?;
     }
-    Ok(())
+    text.push_str(&value[from..])
 }

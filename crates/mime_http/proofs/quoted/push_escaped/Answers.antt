@@ -1,19 +1,60 @@
--- A character is added after the backslash that it needs.
-use Rattle.mime_http.proofs.Common.{[], arith, backslash_byte, if◌then◌else◌, quote_byte, rules, string_bytes, ◌++◌, ◌==◌, ◌||◌, ◌∷◌, ◌≡◌}
-use Rattle.std.specs.{Prelude.encode_utf8, Str.Iter.chars_rest}
-use Rattle.mime_http.{proofs.Contents.char_written, proofs.quoted.push_escaped.Goals.then-matches+in_ok-push, proofs.quoted.push_escaped.Goals.else-matches}
+-- A backslash is added before each byte that needs it, after the run before that byte.
+use Rattle.std.proofs.lemmas.Str.{IsCharBoundary-after_ascii, IsCharBoundary-from_drop}
+use Rattle.mime_http.proofs.Common.{[], append-nil, arith, backslash_byte, false, get_or, is_plain, length, nat_tests, refl, rules, slice_range, string_bytes, sym, true, ◌++◌, ◌+◌, ◌<◌, ◌∷◌, ◌≡◌}
+use Rattle.mime_http.proofs.{Contents.run_more, Contents.special_written, ReadAt.no_part}
+use Rattle.mime_http.proofs.quoted.push_escaped.Goals.{then-byte+in_ok-push+in_ok-push-2, then-from-at+in_ok-push_str, else-from-at, else-byte}
 use Rattle.mime_http.proofs.quoted.push_escaped.Goals as goal
 
-pub loop-ch-preserved : goal.loop-ch-preserved
-loop-ch-preserved c =
-    let ch = c.in-Some.ch in
-    let special : c.match-matches.matches ≡ (ch == quote_byte || ch == backslash_byte) = search rules in
-    let first : chars_rest c.loop-ch.ch-iterator ≡ encode_utf8 ch ++ chars_rest c.next.new.self = search rules in
-    let before : string_bytes c.if-matches.text
-    ≡ (if ch == quote_byte || ch == backslash_byte then string_bytes c.loop-ch.text ++ (backslash_byte ∷ []) else string_bytes c.loop-ch.text) =
-    elim c.if-matches.branch [
-      | then-matches+in_ok-push w ↦ grind (arith, special, w.if-matches.true, w.push.ensures.bytes, w.push.ensures.ascii, w.text-is, w.in_ok-push.was)
-      | else-matches w ↦ grind (arith, special, w.if-matches.false, w.text-is)
-    ] in
-    let pushed : string_bytes c.push-in-loop-ch.new.self ≡ string_bytes c.if-matches.text ++ encode_utf8 ch = search rules in
-    rw pushed (char_written _ _ _ _ _ ch before first c.loop-ch.invariant)
+pub loop-at-init : goal.loop-at-init
+loop-at-init c = record {
+  added = refl;
+  run = refl;
+  within = omega arith;
+  boundary = IsCharBoundary-from_drop c.args.value.now 0 (omega arith) c.utf8.value;
+}
+
+pub loop-at-preserved : goal.loop-at-preserved
+loop-at-preserved c =
+    let value = c.args.value.now in
+    let at = c.loop-at.at in
+    let within : at < length value = search rules in
+    let seen = c.loop-at.invariant in
+    elim c.if-byte.branch [
+      | then-byte+in_ok-push+in_ok-push-2 w ↦
+          let special : is_plain (get_or value at 0) ≡ false = grind (arith, nat_tests, w.if-byte.true) in
+          let ascii : get_or value at 0 < 128 = grind (arith, nat_tests, w.if-byte.true) in
+          let run : string_bytes w.if-from-at.text ≡ string_bytes c.loop-at.text ++ slice_range value c.loop-at.from at =
+          elim w.if-from-at.branch [
+            | then-from-at+in_ok-push_str w' ↦ search rules
+            | else-from-at w' ↦
+                let same : c.loop-at.from ≡ at = omega (arith, seen.within, w'.if-from-at.false) in
+                rw (w'.text-is, same, no_part value at) (sym (append-nil _))
+          ] in
+          let pushed : string_bytes c.if-byte.text ≡ (string_bytes w.if-from-at.text ++ (backslash_byte ∷ [])) ++ (get_or value at 0 ∷ []) =
+          grind (
+            arith,
+            w.text-is,
+            w.push.ensures.bytes,
+            w.push.ensures.ascii,
+            w.in_ok-push.was,
+            w.push-then-byte.ensures.bytes,
+            w.push-then-byte.ensures.ascii,
+            w.in_ok-push-2.was,
+            w.from.ensures,
+            ascii,
+          ) in
+          rw (pushed, run, w.from-is) (record {
+            added = special_written value _ _ c.loop-at.from at within special seen.run seen.added;
+            run = rw (no_part value (at + 1)) refl;
+            within = omega arith;
+            boundary = IsCharBoundary-after_ascii value at c.utf8.value within ascii;
+          })
+      | else-byte w ↦
+          let plain : is_plain (get_or value at 0) ≡ true = grind (arith, nat_tests, w.if-byte.false) in
+          rw (w.text-is, w.from-is) (record {
+            added = seen.added;
+            run = run_more value c.loop-at.from at seen.within within plain seen.run;
+            within = omega (arith, seen.within);
+            boundary = seen.boundary;
+          })
+    ]

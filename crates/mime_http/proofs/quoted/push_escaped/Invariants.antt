@@ -1,7 +1,12 @@
--- What was added so far, and then what is written for the other characters, are the whole.
-use Rattle.mime_http.proofs.Common.{escaped, string_bytes, ◌++◌, ◌≡◌}
-use Rattle.std.specs.Str.Iter.{chars_rest}
+-- What was added so far, and then what is written for the other bytes, are the whole; the run so far is written as it is.
+use Rattle.mime_http.proofs.Common.{drop, escaped, slice_range, string_bytes, ◌++◌, ◌≡◌, ◌≤◌}
+use Rattle.std.specs.Prelude.{IsCharBoundary}
 use Rattle.mime_http.proofs.quoted.push_escaped.Given as goal
 
-abbrev pub invariant-loop-ch : goal.invariant-loop-ch
-invariant-loop-ch l = string_bytes l.text ++ escaped (chars_rest l.ch-iterator) ≡ string_bytes l.fn.text ++ escaped l.value
+abbrev pub invariant-loop-at : goal.invariant-loop-at
+invariant-loop-at l = record {
+  added : string_bytes l.text ++ escaped (drop l.from l.value) ≡ string_bytes l.fn.text ++ escaped l.value;
+  run : escaped (drop l.from l.value) ≡ slice_range l.value l.from l.at ++ escaped (drop l.at l.value);
+  within : l.from ≤ l.at;
+  boundary : IsCharBoundary l.value l.from;
+}
