@@ -1,7 +1,8 @@
 -- Strings that are written in a row into the caller's buffer.
-use Rattle.std.proofs.Common.{◌≡◌, ℕ, ◌+◌, ◌*◌, ◌<◌, ◌≤◌, List, [], ◌∷◌, ◌++◌, length, take, drop, refl, sym, ap, ◌∙◌, subst, arith, append_assoc, append-nil, length-append, length-take, length-drop, take-append-drop}
+use Rattle.std.proofs.Common.{◌≡◌, ℕ, ◌+◌, ◌*◌, ◌<◌, ◌≤◌, List, [], ◌∷◌, ◌++◌, length, take, drop, refl, sym, ap, ◌∙◌, subst, arith, append_assoc, append-nil, length-append, length-take, length-drop, set}
 use Rattle.std.specs.Str.{IsUtf8}
 use Rattle.std.proofs.lemmas.List.{take_at, drop_at, drop-drop}
+use Rattle.std.proofs.lemmas.Grind.{common_steps}
 use Rattle.std.proofs.lemmas.List.Concat.{flat_map-append}
 use Rattle.mime.specs.Items.{Item, items_of}
 use Rattle.mime.specs.Values.{MediaType}
@@ -38,13 +39,11 @@ pub record Leaves (old now : List ℕ) (at : ℕ) (left all : List ℕ) : Type 0
 
 -- at first, behind what is before a position, all are left,
 pub leaves-first : (old all : List ℕ) (at : ℕ) → at ≤ length old → Leaves old old at all (take at old ++ all)
-leaves-first old all at within =
-    let end : at ≡ length (take at old) = omega (arith, length-take at old) in
-    record {
-      prefix = take at old;
-      wrote = record { there = sym (take-append-drop at old) ∙ ap (λ n. take at old ++ drop n old) end; end = end };
-      onward = refl;
-    }
+leaves-first old all at within = record {
+  prefix = take at old;
+  wrote = record { there = grind (arith, common_steps, within); end = omega (arith, within, length-take at old) };
+  onward = refl;
+}
 
 -- which fit if there is room for all from there on,
 pub leaves-room : (old all : List ℕ) (at : ℕ) → at + length all ≤ length old → length (take at old ++ all) ≤ length old
@@ -77,16 +76,26 @@ pub writes-all : {old now left all : List ℕ} {at end : ℕ} → Leaves old now
 writes-all {old} {now} {left} {all} {at} {end} leaves none = record {
   adds = λ older prefix wrote.
       let last = leaves-last (subst (λ it. Leaves old now end it (take at old ++ all)) none leaves) in
-      let count = length all in
-      let size = length-append prefix all in
       let before : take at old ≡ prefix = ap (take at) wrote.there ∙ take_at prefix _ at (sym wrote.end) in
       let behind : drop (length prefix) old ≡ drop (length prefix) older =
       ap (drop (length prefix)) wrote.there ∙ drop_at prefix _ (length prefix) refl in
       let after : drop (length (prefix ++ all)) old ≡ drop (length (prefix ++ all)) older =
-      ap (λ n. drop n old) size ∙ sym (drop-drop count (length prefix) old) ∙ ap (drop count) behind ∙ drop-drop count (length prefix) older
-      ∙ ap (λ n. drop n older) (sym size) in
+      rw (length-append prefix all)
+      (sym (drop-drop (length all) (length prefix) old) ∙ ap (drop (length all)) behind ∙ drop-drop (length all) (length prefix) older) in
       record { there = cc (before, after, last.there); end = last.end ∙ ap (λ it. length (it ++ all)) before };
 }
+
+-- a text is a string if the 0 was written before it
+pub ended_before : (now text new : List ℕ) (at end : ℕ) → at + length text < length now → Writes (set now (at + length text) 0) at text new end
+    → Writes now at (string_of text) new (end + 1)
+unfolding leaves-first
+ended_before now text new at end room writes =
+    let last = writes.adds _ _ (leaves-first (set now (at + length text) 0) [] at (grind (arith, common_steps, room))).wrote in
+    writes-all (record {
+      prefix = take at now ++ string_of text;
+      wrote = record { there = grind (arith, common_steps, last.there, room); end = grind (arith, common_steps, last.end, room) };
+      onward = append-nil _;
+    }) refl
 
 -- the position after bytes that were written is as many bytes further on
 pub writes-end : {old new bytes : List ℕ} {at end : ℕ} → at ≤ length old → Writes old at bytes new end → end ≡ at + length bytes
