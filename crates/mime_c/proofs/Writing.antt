@@ -86,14 +86,14 @@ writes-all {old} {now} {left} {all} {at} {end} leaves none = record {
 }
 
 -- a text is a string if the 0 was written before it
-pub ended_before : (now text new : List ℕ) (at end : ℕ) → at + length text < length now → Writes (set now (at + length text) 0) at text new end
+pub ended_before : (now text new : List ℕ) (i at end : ℕ) → i ≡ at + length text → i < length now → Writes (set now i 0) at text new end
     → Writes now at (string_of text) new (end + 1)
 unfolding leaves-first
-ended_before now text new at end room writes =
-    let last = writes.adds _ _ (leaves-first (set now (at + length text) 0) [] at (grind (arith, common_steps, room))).wrote in
+ended_before now text new i at end is room writes =
+    let last = writes.adds _ _ (leaves-first (set now i 0) [] at (grind (arith, common_steps, is, room))).wrote in
     writes-all (record {
       prefix = take at now ++ string_of text;
-      wrote = record { there = grind (arith, common_steps, last.there, room); end = grind (arith, common_steps, last.end, room) };
+      wrote = record { there = grind (arith, common_steps, last.there, is, room); end = grind (arith, common_steps, last.end, is, room) };
       onward = append-nil _;
     }) refl
 

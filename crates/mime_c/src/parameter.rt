@@ -19,15 +19,13 @@ use std::alloc::Global;
 const BOUNDARY_ROOM: usize = 71;
 
 /// Writes a text and a 0 at the start of `out`, and returns the length of the text.
-#[tactic(auto, using(crate::proofs::Writing::both_written))]
 fn put_string(out: &mut [u8], text: &[u8]) -> usize
     requires { length text.now < length out.old }
     ensures bytes { out.new ≡ written (string_of text.now) out.old }
     ensures size { result ≡ length text.now }
 {
-    let end = copy(out, 0, text);
-    copy(out, end, b"\0");
-    end
+    out[text.len()] = 0;
+    copy(out, 0, text)
 }
 
 /// Writes the boundary of a body whose `Content-Type` is `value` (RFC 2046, 5.1.1) to `out`, which must have at least 71 bytes. Sets `size`
