@@ -409,11 +409,9 @@ fn accepted(alloc: Global, is_there: bool, line: &[u8]) -> Result<Accept, AllocE
     ensures header { IfOk result (λ accept. (header : Header) × IsHeader (lines_of is_there line.now) header × (accept.ranges ≡ header.ranges)) }
     ensures nothing { HaveNoEntry (lines_of is_there line.now) → IsOk result }
 {
-    if is_there {
-        Accept::from_lines_without_bad(alloc, &[line])
-    } else {
-        Accept::from_lines_without_bad(alloc, &[])
-    }
+    let lines = [line];
+    // This is one line, or none.
+    Accept::from_lines_without_bad(alloc, &lines[..usize::from(is_there)])
 }
 
 /// Returns `true` if an entry of a list of offers isn't a media type.
