@@ -1,5 +1,5 @@
 -- The highest of ranks: which one a fold keeps, as the closest range's, and where it stands first, as the best offer's.
-use Rattle.mime_http.proofs.Common.{All, All-contains, AllPass-from_list_all, list_any, list_any_at, cases_Bool, suc, Bool, ClosestIsClosest, Contains, Contains-append_right, Equal, IsTotalOrder, List, MediaType, None, Option, Ordering, Rank, Some, [], and_from, ap, arith, by_option, cases_lt, closeness, closest, enumerate_from, false, filter_map, find, fold, get_or, get_or-map, get_or_default, get_or_past, if◌then◌else◌, inl, inr, is_gt, is_le, is_lt, length, length-map, list_all, list_all-from_AllPass, map, nat_cmp_total, nat_lt, nat_tests, on_total, option_cmp, ord_max, position, position_or_len, position_or_len_is, rank_cmp, refl, same_Some, subst, sym, then_total, true, true≢false, ℕ, ⊎_elim, ◌&&◌, ◌+◌, ◌<◌, ◌∙◌, ◌∷◌, ◌≡◌, ◌≤◌, ◌⊎◌}
+use Rattle.mime_http.proofs.Common.{All, All-contains, AllPass-from_list_all, list_any, list_any_at, cases_Bool, suc, Bool, ClosestIsClosest, Contains, Contains-append_right, Equal, IsTotalOrder, List, MediaType, None, Option, Ordering, Rank, Some, [], and_from, ap, arith, by_option, cases_lt, closeness, closest, enumerate_from, false, filter_map, find, fold, get_or, get_or-map, get_or_default, get_or_past, inl, inr, is_gt, is_le, is_lt, length, length-map, list_all, list_all-from_AllPass, map, nat_cmp_total, nat_lt, nat_tests, on_total, option_cmp, ord_max, position, position_or_len, position_or_len_is, rank_cmp, refl, same_Some, subst, sym, then_total, true, true≢false, ℕ, ⊎_elim, ◌&&◌, ◌+◌, ◌<◌, ◌∙◌, ◌∷◌, ◌≡◌, ◌≤◌, ◌⊎◌}
 use Rattle.std.{proofs.lemmas.Cmp.upto, proofs.lemmas.List.Elements.All-cons, proofs.lemmas.List.Elements.All-nil, proofs.lemmas.List.Folds.list_all_at, proofs.lemmas.Bool.and_right, proofs.lemmas.Bool.and_left, proofs.lemmas.Bool.cases_cond, specs.Cmp.Lexicographic.options_total}
 use borrow.Author.Count.{below_more}
 
@@ -143,34 +143,37 @@ beats one other = is_gt (rank_cmp one other)
 above_both : (x y z : Rank) → beats x y ≡ true → beats z y ≡ false → beats x z ≡ true
 above_both x y z above low = grind (arith, nat_tests)
 
--- of the ranks before a position that weigh something, none is above the highest, which has a first place if it weighs something
+-- of the ranks before a position that weigh something, none is above the highest, which has a first place if there is one
 pub record IsHighest (ranks : List Rank) (at : ℕ) (most : Rank) (best : Option ℕ) : Type 0 where
   pub above : (j : ℕ) → j < at → 0 < (rank_at ranks j).0 → beats (rank_at ranks j) most ≡ false
   pub first : 0 < most.0 → (place : ℕ) × (best ≡ Some place) × (rank_at ranks place ≡ most)
       × ((j : ℕ) → j < place → 0 < (rank_at ranks j).0 → beats most (rank_at ranks j) ≡ true)
+  pub none : most.0 ≡ 0 → best ≡ None
 
 module _ {ranks : List Rank} {at : ℕ} {most : Rank} {best : Option ℕ} (x : Rank) (was : IsHighest ranks at most best)
     (next : x ≡ rank_at ranks at) where
   -- a rank above the highest is the highest, and last,
-  pub highest_raised : beats x most ≡ true → IsHighest ranks (at + 1) x (Some at)
-  highest_raised higher =
+  pub highest_raised : 0 < x.0 → beats x most ≡ true → IsHighest ranks (at + 1) x (Some at)
+  highest_raised heavy higher =
       let beaten = λ (j : ℕ) (less : j < at) (some : 0 < (rank_at ranks j).0). above_both x most _ higher (was.above j less some) in
       record {
         above = below_more (λ j. 0 < (rank_at ranks j).0 → beats (rank_at ranks j) x ≡ false) at
             (λ j less some. grind (arith, nat_tests, beaten j less some)) (λ _. rw (sym next) (grind (arith, nat_tests)));
         first = λ _. (at, refl, sym next, beaten);
+        none = λ light. absurd (omega (arith, heavy, light));
       }
 
   -- and beside another the highest stays
-  pub highest_stays : beats x most ≡ false → IsHighest ranks (at + 1) most best
+  pub highest_stays : (0 < x.0 → beats x most ≡ false) → IsHighest ranks (at + 1) most best
   highest_stays low = record {
-    above = below_more (λ j. 0 < (rank_at ranks j).0 → beats (rank_at ranks j) most ≡ false) at was.above (λ _. rw (sym next) low);
+    above = below_more (λ j. 0 < (rank_at ranks j).0 → beats (rank_at ranks j) most ≡ false) at was.above (rw (sym next) low);
     first = was.first;
+    none = was.none;
   }
 
--- so the best offer is where the highest of all ranks is first, if that weighs something
+-- so the best offer is where the highest of all ranks is first
 pub best_is_found : {all : List Rank} {at : ℕ} {most : Rank} {best : Option ℕ} → IsHighest all at most best → length all ≤ at
-    → position (is_best all) all ≡ (if nat_lt 0 most.0 then best else None)
+    → position (is_best all) all ≡ best
 best_is_found {all} {at} {most} {best} is past =
     let light = λ (j : ℕ) (none : (rank_at all j).0 ≤ 0). and_left (nat_lt 0 (rank_at all j).0) (is_top all (rank_at all j))
     (grind (arith, nat_tests)) in
@@ -186,4 +189,4 @@ best_is_found {all} {at} {most} {best} is past =
     (λ none.
     let found = position_or_len_is (is_best all) all (length all) lowest (omega arith)
     (λ j less. light j (grind (arith, nat_tests, is.above j (omega (arith, past, less)), none))) (λ less. absurd (omega (arith, less))) in
-    grind (arith, nat_tests, found, none)) (cases_lt 0 most.0)
+    grind (arith, nat_tests, found, is.none (omega (arith, none)))) (cases_lt 0 most.0)

@@ -149,10 +149,12 @@ best_by_order : (ranks : List Rank) (order : List ℕ) → AllPairs (ComesBefore
 best_by_order ranks [] first all = best_is_found {at = length ranks} {most = lowest} {best = None} (record {
   above = λ at _ weighs. absurd (omega (arith, (all at weighs).1));
   first = λ some. absurd (omega (arith, some));
+  none = λ _. refl;
 }) (omega arith)
 best_by_order ranks (best ∷ others) first all = best_is_found {at = length ranks} {most = rank_at ranks best} (record {
   above = λ at _ weighs. grind (arith, nat_tests, stands at weighs);
-  first = λ _. (best, refl, refl, λ at less weighs. grind (arith, nat_tests, less, stands at weighs));
+  first = λ some. (best, grind (arith, nat_tests, some), refl, λ at less weighs. grind (arith, nat_tests, less, stands at weighs));
+  none = λ light. grind (arith, nat_tests, light);
 }) (omega arith)
   where
     stands : (at : ℕ) → 0 < (rank_at ranks at).0 → (best ≡ at) ⊎ ComesBefore (rank_at ranks) best at

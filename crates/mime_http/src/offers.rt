@@ -115,12 +115,12 @@ pub(crate) fn best_of(ranges: &[Mime], offers: &[Mime]) -> Option<usize>
     let mut best = None;
     for (at, offer) in offers.iter().enumerate() {
         let merit = merit(ranges, offer);
-        if merit > most {
+        if merit.0 > 0 && merit > most {
             most = merit;
             best = Some(at);
         }
     }
-    if most.0 > 0 { best } else { None }
+    best
 }
 
 /// An offer's rank and its position. The better of two offers has the lower `Ranked`.
