@@ -143,7 +143,7 @@ beats one other = is_gt (rank_cmp one other)
 above_both : (x y z : Rank) → beats x y ≡ true → beats z y ≡ false → beats x z ≡ true
 above_both x y z above low = grind (arith, nat_tests)
 
--- of the ranks before a position that weigh something, none is above the highest, which has a first place if there is one
+-- of the ranks before a position that weigh something, none is above the highest, which has a first place, or weighs nothing
 pub record IsHighest (ranks : List Rank) (at : ℕ) (most : Rank) (best : Option ℕ) : Type 0 where
   pub above : (j : ℕ) → j < at → 0 < (rank_at ranks j).0 → beats (rank_at ranks j) most ≡ false
   pub first : 0 < most.0 → (place : ℕ) × (best ≡ Some place) × (rank_at ranks place ≡ most)

@@ -5,7 +5,7 @@ ghost use Rattle.std.specs.{Str.IsUtf8, Vec.vec_items};
 ghost use Rattle.mime.specs.Faults.{Explains};
 ghost use Rattle.mime_http.specs.{HttpList.trimmed, HttpList.AreSorted, HttpList.Header, HttpList.IsHeader, Ranges.given_weight, Ranges.best_offer, Ranges.AreInOrder, LineCut.cut, LineCut.Takes};
 
-use crate::list::{piece_end, trim_end, trim_start};
+use crate::list::{piece_end, trimmed};
 use crate::offers::{best_of, merit, order_of};
 use crate::value::{FieldError, read_rejected, text_of_piece};
 use mime::{Mime, ParseError};
@@ -33,15 +33,15 @@ impl Model for Accept {
 }
 
 impl Accept {
-    /// Adds a range. The first call allocates space for `FIRST_RANGES` ranges.
+    /// Adds a range. The first call allocates space for `FIRST_RANGES` ranges, and a full list doubles its capacity.
     #[inline(always)]
     fn take(&mut self, range: Mime) -> Result<(), AllocError>
         ensures { OnOk result (self.new ≡ record self.old { ranges = self.old.ranges ++ (range.media ∷ []) }) }
     {
-        if self.ranges.capacity() == 0 {
+        if self.ranges.len() == self.ranges.capacity() {
             self.ranges.reserve(FIRST_RANGES)?;
         }
-        self.ranges.push(range)?;
+        self.ranges.push_reserved(range);
         Ok(())
     }
 
@@ -79,7 +79,7 @@ impl Accept {
             Ok(range) => self.take(range),
             Err(error) => match error {
                 FieldError::NoMemory => Err(AllocError),
-                _ => self.take_bad(alloc, keeps_bad, trim_end(trim_start(piece))),
+                _ => self.take_bad(alloc, keeps_bad, trimmed(piece)),
             },
         }
     }
@@ -90,7 +90,7 @@ impl Accept {
         ensures taken { OnOk result (Takes keeps_bad (piece.now ∷ []) self.old self.new) }
         ensures blank { trimmed piece.now ≡ [] → IsOk result }
     {
-        let entry = trim_end(trim_start(piece));
+        let entry = trimmed(piece);
         if entry.is_empty() {
             return Ok(());
         }

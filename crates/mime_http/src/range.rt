@@ -84,7 +84,7 @@ fn is_same(range: &Mime, essence: &str) -> bool
 
 /// Returns how many parts of an offer's essence a range names: 0 for `*/*`, 1 for `text/*`, and 2 for `text/html`. Returns `None` if the
 /// range doesn't match the essence. `type_` is the offer's type.
-#[inline(always)]
+#[inline]
 pub(crate) fn named_parts(range: &Mime, essence: &str, type_: &str) -> Option<u8>
     ensures { result ≡ (if bytes_eq range.now.media.essence (codes "*/*") then Some 0 else
         if bytes_eq range.now.media.essence (type_.now ++ codes "/*") then Some 1 else

@@ -1,5 +1,4 @@
 -- A piece that the library rejects is a media type, or bad.
-use Rattle.mime_http.proofs.Common.{ap, trim_end, ◌∙◌}
 use Rattle.mime_http.proofs.{Around.utf8_around, Takes.takes_bad, Takes.takes_range, HttpLaws.error_is_memory}
 use Rattle.mime_http.proofs.accept.Accept.take_rejected.Goals as goal
 
@@ -11,5 +10,5 @@ returns-in-Ok c =
 pub returns-in_default : goal.returns-in_default
 returns-in_default c =
     let explained = rw c.from_utf8_unchecked-text.ensures at c.in-Err.ensures.explained in
-    takes_bad _ _ _ _ _ (c.trim_end.ensures ∙ ap trim_end c.trim_start.ensures) c.requires.some
+    takes_bad _ _ _ _ _ c.trimmed.ensures c.requires.some
     (λ both. c.in_default.not-NoMemory (error_is_memory c.args.piece.now c.in-Err.error both.0 both.1 explained)) c.take_bad.ensures
