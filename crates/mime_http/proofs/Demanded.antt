@@ -47,7 +47,7 @@ has_item offer name value =
 
 -- the value of the first parameter that is accepted is the first of that name
 pub first_is : (name : List ℕ) (found : Option Name) (pairs : List (List ℕ × List ℕ))
-    → IsFirstAccepted (λ text flag. text ≡ name) (items_of pairs) (option_map name_seen found)
+    → IsFirstAccepted (λ text flag. (text ≡ name) × (flag ≡ true)) (items_of pairs) (option_map name_seen found)
     → option_map name_text found ≡ first_value name pairs
 first_is name found [] is = grind (arith, is)
 first_is name found (pair ∷ pairs) is = grind (arith, bytes_eq-Decides pair.0 name, is.0, is.1, first_is name found pairs)

@@ -7,25 +7,7 @@ ghost use Rattle.mime_http.specs.{Weight.thousandths_of, Ranges.first_value, Ran
 
 use crate::meaning::mean_the_same;
 use crate::weights::{tenths, thousandths};
-use mime::{Mime, Name, ParamKey};
-
-/// A key that accepts only this name, byte for byte. Parameters' names are in lowercase.
-#[derive(Clone, Copy)]
-struct Exactly<'k>(&'k str);
-
-impl ParamKey for Exactly<'_> {
-    ghost Accepts = { λ key name ignores_case. name ≡ key.0.now };
-
-    #[inline(always)]
-    fn accepts(&self, name: Name<'_>) -> bool {
-        name.text == self.0
-    }
-
-    #[inline]
-    fn text(&self) -> Option<&str> {
-        Some(self.0)
-    }
-}
+use mime::{Mime, Name};
 
 /// Returns the value of the first parameter of this name, or `None` if there is none. `name` must be in lowercase.
 #[inline(always)]
@@ -33,7 +15,10 @@ impl ParamKey for Exactly<'_> {
 pub(crate) fn first_value<'a>(mime: &'a Mime, name: &str) -> Option<Name<'a>>
     ensures { option_map name_text result ≡ first_value name.now mime.now.media.pairs }
 {
-    mime.get_param(Exactly(name))
+    mime.get_param(Name {
+        text: name,
+        ignores_case: true,
+    })
 }
 
 /// Returns the weight of a `q` with this value, in thousandths, or 1000 if there is no value.
