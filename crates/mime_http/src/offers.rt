@@ -11,16 +11,6 @@ use std::alloc::{AllocError, Global};
 use std::cmp::Reverse;
 use std::marker::Model;
 
-/// An offer with its essence and its type, which are compared with the essence of each range.
-#[derive(Clone, Copy)]
-struct Offer<'a> {
-    mime: &'a Mime,
-    essence: &'a str,
-    type_: &'a str,
-    ghost whole: { essence.now ≡ mime.now.media.essence },
-    ghost before_slash: { type_.now ≡ type_of mime.now.media },
-}
-
 /// The most specific range so far that covers an offer: how many parts it names, how many parameters it demands, its weight, and the number
 /// `left` of ranges from it to the last. All four are 0 if no range so far covers the offer. `all` is the number of ranges.
 #[derive(Drop)]
@@ -50,20 +40,23 @@ impl Model for Closest {
 impl Closest {
     /// Keeps the range at position `at` if it covers the offer, unless the range kept so far is more specific, or is equally specific and
     /// has a higher weight. `at` is after the position of the range kept so far. If `range` names fewer parts, its parameters aren't read.
+    /// `essence` and `type_` are the offer's.
     #[inline(always)]
-    fn look_at(&mut self, range: &Mime, offer: Offer<'_>, at: usize)
+    fn look_at(&mut self, range: &Mime, offer: &Mime, essence: &str, type_: &str, at: usize)
+        requires essence { essence.now ≡ offer.now.media.essence }
+        requires type_ { type_.now ≡ type_of offer.now.media }
         requires within { at < self.old.0 }
         requires later { IfSome self.old.1 (λ kept. kept.3 < at) }
         ensures later { IfSome self.new.1 (λ kept. kept.3 < at + 1) }
-        ensures kept { self.new ≡ (self.old.0, ord_max (option_cmp rank_cmp) self.old.1 (closeness offer.entry.mime.now.media (at, range.now.media))) }
+        ensures kept { self.new ≡ (self.old.0, ord_max (option_cmp rank_cmp) self.old.1 (closeness offer.now.media (at, range.now.media))) }
     {
-        let Some(named) = named_parts(range, offer.essence, offer.type_) else {
+        let Some(named) = named_parts(range, essence, type_) else {
             return;
         };
         if named < self.named {
             return;
         }
-        let Some((demanded, weight)) = demanded(range, offer.mime) else {
+        let Some((demanded, weight)) = demanded(range, offer) else {
             return;
         };
         if (named, demanded, weight) < (self.named, self.demanded, self.weight) {
@@ -83,11 +76,8 @@ impl Closest {
 pub(crate) fn merit(ranges: &[Mime], offer: &Mime) -> (u16, u8, usize, usize)
     ensures { result ≡ merit (map (λ range. range.media) ranges.now) offer.now.media }
 {
-    let parts = Offer {
-        mime: offer,
-        essence: offer.essence_str(),
-        type_: offer.type_().text,
-    };
+    let essence = offer.essence_str();
+    let type_ = offer.type_().text;
     let mut closest = Closest {
         named: 0,
         demanded: 0,
@@ -96,7 +86,7 @@ pub(crate) fn merit(ranges: &[Mime], offer: &Mime) -> (u16, u8, usize, usize)
         all: ranges.len(),
     };
     for (at, range) in ranges.iter().enumerate() {
-        closest.look_at(range, parts, at);
+        closest.look_at(range, offer, essence, type_, at);
     }
     (
         closest.weight,

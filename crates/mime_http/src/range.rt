@@ -21,24 +21,13 @@ pub(crate) fn first_value<'a>(mime: &'a Mime, name: &str) -> Option<Name<'a>>
     })
 }
 
-/// Returns the weight of a `q` with this value, in thousandths, or 1000 if there is no value.
-#[inline]
-fn weight_in(value: Option<&str>) -> u16
-    ensures { result ≡ unwrap_or (option_map (λ text. thousandths_of text.now) value.entry) 1000 }
-{
-    match value {
-        Some(text) => thousandths(text),
-        None => 1000,
-    }
-}
-
 /// Returns the weight of a range in thousandths, or 1000 if the range has no `q` (RFC 9110, 12.4.2). The first `q` counts, quoted or not.
 /// The weight is the number with which the value of `q` begins, at most 1, or 0 if it begins with no number: `.2` is 200, `2` is 1000, and
 /// `high` and `\1` are 0.
 pub fn weight_of(range: &Mime) -> u16
     ensures { result ≡ weight_of range.now.media }
 {
-    weight_in(first_value(range, "q").map(|weight| weight.text))
+    first_value(range, "q").map_or(1000, |weight| thousandths(weight.text))
 }
 
 /// Returns `true` if a range is `*/*`, whatever its parameters. This function isn't inlined, so that the text of a range of another length
@@ -129,7 +118,7 @@ fn demanded_among(range: &Mime, offer: &Mime) -> Option<(usize, u16)>
             return None;
         }
     }
-    Some((count, weight_in(weight)))
+    Some((count, weight.map_or(1000, thousandths)))
 }
 
 /// Returns the part of a media type's kept text that follows the essence: the parameters, with the semicolon before them.
