@@ -137,13 +137,6 @@ pub(crate) fn ranked(
     Ok(ranked)
 }
 
-/// Returns the positions of ranked offers.
-fn positions(alloc: Global, offers: &[Ranked]) -> Result<Vec<usize>, AllocError>
-    ensures { IfOk result (λ order. vec_items order ≡ map (λ offer. offer.1) offers.now) }
-{
-    offers.iter().map(|offer| offer.1).collect(alloc)
-}
-
 /// Returns the positions of the offers that weigh more than 0, the best first.
 pub(crate) fn order_of(
     alloc: Global,
@@ -156,5 +149,6 @@ pub(crate) fn order_of(
     if offers.is_empty() {
         return Ok(Vec::new(alloc));
     }
-    positions(alloc, &ranked(alloc, ranges, offers, 1)?)
+    let ranked = ranked(alloc, ranges, offers, 1)?;
+    ranked.iter().map(|offer| offer.1).collect(alloc)
 }

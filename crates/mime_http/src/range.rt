@@ -1,9 +1,9 @@
 //! Tests whether a range covers an offer, and how specific the range is.
 
-ghost use Rattle.std.specs.Prelude.{◌≡◌, ◌++◌, Some, None, length, drop, option_map, unwrap_or, is_some, if◌then◌else◌, codes, bytes_eq};
+ghost use Rattle.std.specs.Prelude.{◌≡◌, ◌++◌, Some, None, length, drop, option_map, is_some, if◌then◌else◌, codes, bytes_eq};
 ghost use Rattle.std.specs.List.{list_all};
 ghost use Rattle.mime.specs.{Items.name_text, Values.Reads};
-ghost use Rattle.mime_http.specs.{Weight.thousandths_of, Ranges.first_value, Ranges.weight_of, Ranges.named_parts, Ranges.demanded, Ranges.has, Ranges.closeness};
+ghost use Rattle.mime_http.specs.{Ranges.first_value, Ranges.weight_of, Ranges.named_parts, Ranges.demanded, Ranges.has, Ranges.closeness};
 
 use crate::meaning::mean_the_same;
 use crate::weights::{tenths, thousandths};
@@ -94,8 +94,7 @@ fn has(offer: &Mime, name: &str, value: &str) -> bool
 pub(crate) fn param_count(mime: &Mime) -> usize
     ensures { result ≡ length mime.now.media.pairs }
 {
-    let (count, _) = mime.params().size_hint();
-    count
+    mime.params().size_hint().0
 }
 
 /// Returns the number of a range's parameters other than `q`, before and after the `q` (RFC 9110, 12.5.1), and the range's weight.
