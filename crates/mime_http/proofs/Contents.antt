@@ -1,7 +1,8 @@
 -- The content of quoted strings: what is written for a value and in which form, what needs no backslash, and what it means.
-use Rattle.mime_http.proofs.Common.{AreHeaderBytes, one-add, AreTokenBytes-from_token, Bool, IsBoundary, IsContent, IsToken, List, WrittenIsMeant, [], and_parts, ap, append-nil, append_assoc, arith, cases_Bool, cond, drop, drop-append-add, drop-length, drop_of_length-le, eqb-true, escaped, false, false_from_ne_true, get_or, if◌then◌else◌, is_bchar, is_charset, is_quoted_byte, is_quoted_text_byte, is_token_byte, length, list_all, list_all-wider, lowered, lowered_value, lowered_value-either, nat_tests, no_byte, not, quoted_pair, refl, suc, sym, take, take-append-add, take-length, text_byte, to_ascii_lowercase, true, unescaped, zero, ℕ, ⊎_elim, ◌&&◌, ◌*◌, ◌++◌, ◌+◌, ◌<◌, ◌==◌, ◌||◌, ◌∙◌, ◌∷◌, ◌≡◌, ◌≢◌, ◌≤◌, Form, flat_map-append, text_of_pairs, Token, bit_and, drop-cons, form_of, is_plain, is_token_value, list_all-append, prefix_len, prefix_len-le-length, prefix_len_stops, take_more, text_in, text_of_pair, is_ascii_uppercase}
+use Rattle.mime_http.proofs.Common.{AreHeaderBytes, one-add, AreTokenBytes-from_token, Bool, IsBoundary, IsContent, IsToken, List, WrittenIsMeant, [], and_parts, ap, append-nil, append_assoc, arith, cases_Bool, cond, drop, drop-append-add, drop-length, drop_of_length-le, eqb-true, escaped, false, false_from_ne_true, get_or, if◌then◌else◌, is_bchar, is_charset, is_quoted_byte, is_quoted_text_byte, is_token_byte, length, list_all, list_all-wider, lowered, lowered_value, lowered_value-either, nat_tests, no_byte, not, quoted_pair, refl, suc, sym, take, take-append-add, take-length, text_byte, to_ascii_lowercase, true, unescaped, zero, ℕ, ⊎_elim, ◌&&◌, ◌*◌, ◌++◌, ◌+◌, ◌-◌, ◌<◌, ◌==◌, ◌||◌, ◌∙◌, ◌∷◌, ◌≡◌, ◌≢◌, ◌≤◌, Form, flat_map-append, text_of_pairs, Token, bit_and, drop-cons, form_of, is_plain, is_token_value, list_all-append, prefix_len, prefix_len-le-length, prefix_len_stops, take_more, text_in, text_of_pair, is_ascii_uppercase}
 use Rattle.mime.specs.Bytes.{backslash_byte}
-use Rattle.mime_http.proofs.{Common.slice_range, Common.drop_more, ReadAt.one_part, ReadAt.parts_joined}
+use Rattle.mime_http.proofs.{Common.drop-drop, Common.drop_more, Common.is_stop, Common.slice_range, ReadAt.run_is}
+use Rattle.mime_search.{specs.Classes.end_of_run, specs.declared.class.Class.Class}
 use Rattle.mime_http.{specs.declared.quoted.Form.TheVariants.Quoted, proofs.Written.token_from_test}
 
 -- bytes that stand in quotes as they are need no backslash,
@@ -102,13 +103,27 @@ written_is_meant name value = grind (arith, lowered_escaped, meant)
 
 -- ---- what is written, character by character
 
--- a byte that needs no backslash goes on with the run before it
-pub run_more : (value : List ℕ) (from at : ℕ) → from ≤ at → at < length value → is_plain (get_or value at 0) ≡ true
-    → escaped (drop from value) ≡ slice_range value from at ++ escaped (drop at value)
-    → escaped (drop from value) ≡ slice_range value from (at + 1) ++ escaped (drop (at + 1) value)
-run_more value from at before within plain is =
-    rw (parts_joined value from at (at + 1) before (omega arith), one_part value at within)
-    (grind (arith, nat_tests, append_assoc, drop_more value at 0 within, plain, is))
+-- how many bytes a search passes
+abbrev plain_len : Class → List ℕ → ℕ
+plain_len class bytes = prefix_len (λ b. not (is_stop class b)) bytes
+
+-- bytes that need no backslash are written as they are
+run_written : (class : Class) → ((b : ℕ) → is_stop class b ≡ (b == 34 || b == 92)) → (bytes : List ℕ)
+    → escaped bytes ≡ take (plain_len class bytes) bytes ++ escaped (drop (plain_len class bytes) bytes)
+run_written class stops [] = refl
+run_written class stops (b ∷ bytes) = grind (arith, nat_tests, one-add (plain_len class bytes), stops b, run_written class stops bytes)
+
+-- up to the first that needs one
+pub run_found : (class : Class) → ((b : ℕ) → is_stop class b ≡ (b == 34 || b == 92)) → (value : List ℕ) (from at : ℕ)
+    → at ≡ end_of_run class value from → (escaped (drop from value) ≡ slice_range value from at ++ escaped (drop at value))
+    × (at < length value → is_plain (get_or value at 0) ≡ false)
+run_found class stops value from at is =
+    let run = run_is (λ b. not (is_stop class b)) value from at is in
+    let long : at - from ≡ plain_len class (drop from value) = omega (arith, is) in
+    let rest : drop at value ≡ drop (at - from) (drop from value) = grind (arith, run.least, drop-drop (at - from) from value) in (
+      rw (rest, long) (run_written class stops (drop from value)),
+      λ within. grind (arith, nat_tests, stops (get_or value at 0), run.stops within),
+    )
 
 -- before another a backslash is written
 pub special_written : (value text whole : List ℕ) (from at : ℕ) → at < length value → is_plain (get_or value at 0) ≡ false

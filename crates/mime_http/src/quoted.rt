@@ -5,6 +5,7 @@ ghost use Rattle.std.specs.{List.list_all, List.prefix_len, Vec.vec_items, Vec.v
 ghost use Rattle.mime.specs.Bytes.{is_quoted_byte, backslash_byte};
 ghost use Rattle.mime_http.specs.{Forms.is_plain, Forms.form_of, Unescaped.unescaped, Written.escaped};
 
+use mime_search::{Class, first_stop};
 use std::alloc::AllocError;
 
 /// Appends to a buffer what a parameter's value means: a backslash and the byte after it mean that byte (RFC 9110, 5.6.4). The value `a\"b`
@@ -61,17 +62,18 @@ pub(crate) enum Form {
 pub(crate) fn push_escaped(text: &mut String, value: &str) -> Result<(), AllocError>
     ensures { OnOk result (string_bytes text.new ≡ string_bytes text.old ++ escaped value.now) }
 {
+    let special = Class::of(b'"', b'\\');
+    let bytes = value.as_bytes();
     let mut from = 0;
-    for at in 0..value.len() {
-        let byte = value.as_bytes()[at];
-        if (byte == b'"') | (byte == b'\\') {
-            if from < at {
-                text.push_str(&value[from..at])?;
-            }
-            text.push('\\')?;
-            text.push(char::from(byte))?;
-            from = at + 1;
+    let mut at = first_stop(bytes, 0, &special);
+    while at < bytes.len() {
+        if from < at {
+            text.push_str(&value[from..at])?;
         }
+        text.push('\\')?;
+        text.push(char::from(bytes[at]))?;
+        from = at + 1;
+        at = first_stop(bytes, from, &special);
     }
     text.push_str(&value[from..])
 }
