@@ -136,17 +136,20 @@ fn text_with(
     Ok((text, count))
 }
 
-/// Returns the media type with this parameter in place of all parameters of its name.
+/// Returns the media type with this parameter in place of all parameters of its name. `is_kept` may be `true` if the parameter is kept as it
+/// is written.
 fn mime_with(
     alloc: Global,
     mime: &Mime,
     name: &str,
     value: &str,
     form: Form,
+    is_kept: bool,
 ) -> Result<Mime, AllocError>
     requires named { IsToken name.now }
     requires safe { AreHeaderBytes value.now }
     requires fits { form ≡ form_of value.now }
+    requires kept { IsTrue is_kept → (lowered name.now ≡ name.now) × (lowered_value name.now (escaped value.now) ≡ escaped value.now) }
     ensures { IfOk result (λ made. made.media ≡ with_pair mime.now.media (lowered name.now) (lowered_value name.now (escaped value.now))) }
 {
     // For the proof: the bytes of the kept text may occur in a header.
@@ -154,7 +157,7 @@ fn mime_with(
     kept_is_safe();
     one_reading();
     let (text, others) = text_with(alloc, mime, name, value, form)?;
-    if is_kept_as_written(name, value) {
+    if is_kept {
         // For the proof: the text has more bytes than there are other parameters, so the count can't overflow.
         let _more = text.len();
         let count = others + 1;
@@ -203,7 +206,10 @@ pub fn with_parameter(
         return Ok(None);
     }
     match form_of(value) {
-        Some(form) => Ok(Some(mime_with(alloc, mime, name, value, form)?)),
+        Some(form) => {
+            let is_kept = is_kept_as_written(name, value);
+            Ok(Some(mime_with(alloc, mime, name, value, form, is_kept)?))
+        }
         None => Ok(None),
     }
 }
@@ -222,7 +228,8 @@ pub fn with_charset(alloc: Global, mime: &Mime, charset: &str) -> Result<Option<
     if !is_token_text(charset) {
         return Ok(None);
     }
-    Ok(Some(mime_with(alloc, mime, "charset", charset, Form::Token)?))
+    let is_kept = is_lowercase(charset);
+    Ok(Some(mime_with(alloc, mime, "charset", charset, Form::Token, is_kept)?))
 }
 
 /// Returns the media type with this boundary in place of its own, as [`with_parameter`] writes it. Returns `None` exactly if the string
@@ -241,5 +248,5 @@ pub fn with_boundary(alloc: Global, mime: &Mime, boundary: &str) -> Result<Optio
         return Ok(None);
     }
     let form = form_of_content(boundary);
-    Ok(Some(mime_with(alloc, mime, "boundary", boundary, form)?))
+    Ok(Some(mime_with(alloc, mime, "boundary", boundary, form, true)?))
 }

@@ -26,7 +26,7 @@ invariant_of-known c =
     let made = with_pair media (lowered name) content in
     let read = is_read c.args.name.now c.args.value.now c.in_ok-text.ensures.text c.as_str-kept.ensures.reads c.kept_is_safe.ensures
     c.requires.named c.requires.safe in
-    let as_written = c.is_kept_as_written.ensures c.if-is_kept_as_written.true in
+    let as_written = c.requires.kept c.if-is_kept.true in
     record {
       pairs = made.pairs;
       counted = rw (lowered-lowered name) (length-append (others name media.pairs) ((lowered name, content) ∷ [])
@@ -43,8 +43,8 @@ returns-in-Ok c =
     c.requires.named c.requires.safe in
     c.one_reading.ensures _ _ _ c.in-Ok.ensures.read (rw c.deref.ensures read)
 
-pub returns-then-is_kept_as_written : goal.returns-then-is_kept_as_written
-returns-then-is_kept_as_written c =
+pub returns-then-is_kept : goal.returns-then-is_kept
+returns-then-is_kept c =
     let read = is_read c.args.name.now c.args.value.now c.in_ok-text.ensures.text c.as_str-kept.ensures.reads c.kept_is_safe.ensures
     c.requires.named c.requires.safe in
     IfOk-weaker _ _ _ (λ made reads. c.one_reading.ensures _ _ _ reads read) c.into_mime.ensures.read

@@ -1,6 +1,6 @@
 -- What is written anew of a value is read as its media type, and what a value lacks is its fault.
 use Rattle.std.proofs.Common.{IsFalse, IsTrue, rules, ◌<◌, ◌≡◌, ◌≤◌}
-use Rattle.mime_http.proofs.Common.{Explains, List, Parts, Reads, media_of, one_reading, read, text_of_parts, ℕ, IsAccepted, IsUtf8, rules, ◌<◌, ◌≡◌, ◌≤◌, HttpExplains, MediaType, answer_of, ap, arith, inr, length, subst, sym, trimmed, ◌∙◌}
+use Rattle.mime_http.proofs.Common.{Explains, List, Parts, Reads, media_of, one_reading, read, text_of_parts, ℕ, IsAccepted, IsUtf8, rules, ◌<◌, ◌≡◌, ◌≤◌, MediaType, answer_of, ap, arith, inr, length, subst, sym, trimmed, ◌∙◌}
 use Rattle.mime_http.proofs.HttpLaws.{other_needs, printed_other, stands_needs, written_is_utf8, written_reads}
 use Rattle.mime_http.proofs.ReadFaults.{answered_fault}
 use Rattle.mime_http.proofs.value.+rejected.Goals.{read_into-else-accepted-via-then-accepted+else-essence_str-len, read_into-else-accepted-via-else-accepted}
