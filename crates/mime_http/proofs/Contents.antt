@@ -103,27 +103,30 @@ written_is_meant name value = grind (arith, lowered_escaped, meant)
 
 -- ---- what is written, character by character
 
--- how many bytes a search passes
-abbrev plain_len : Class → List ℕ → ℕ
-plain_len class bytes = prefix_len (λ b. not (is_stop class b)) bytes
+-- a search for a byte that needs one passes those that need none
+plain_len : (class : Class) → ((b : ℕ) → is_stop class b ≡ (b == 34 || b == 92)) → (bytes : List ℕ)
+    → prefix_len (λ b. not (is_stop class b)) bytes ≡ prefix_len is_plain bytes
+plain_len class stops [] = refl
+plain_len class stops (b ∷ bytes) = grind (arith, stops b, plain_len class stops bytes)
+
+pub plain_found : (class : Class) → ((b : ℕ) → is_stop class b ≡ (b == 34 || b == 92)) → (value : List ℕ) (from at : ℕ)
+    → at ≡ end_of_run class value from → at ≡ from + prefix_len is_plain (drop from value)
+plain_found class stops value from at is = omega (arith, is, plain_len class stops (drop from value))
 
 -- bytes that need no backslash are written as they are
-run_written : (class : Class) → ((b : ℕ) → is_stop class b ≡ (b == 34 || b == 92)) → (bytes : List ℕ)
-    → escaped bytes ≡ take (plain_len class bytes) bytes ++ escaped (drop (plain_len class bytes) bytes)
-run_written class stops [] = refl
-run_written class stops (b ∷ bytes) = grind (arith, nat_tests, one-add (plain_len class bytes), stops b, run_written class stops bytes)
+run_written : (bytes : List ℕ) → escaped bytes ≡ take (prefix_len is_plain bytes) bytes ++ escaped (drop (prefix_len is_plain bytes) bytes)
+run_written [] = refl
+run_written (b ∷ bytes) = grind (arith, nat_tests, one-add (prefix_len is_plain bytes), run_written bytes)
 
 -- up to the first that needs one
-pub run_found : (class : Class) → ((b : ℕ) → is_stop class b ≡ (b == 34 || b == 92)) → (value : List ℕ) (from at : ℕ)
-    → at ≡ end_of_run class value from → (escaped (drop from value) ≡ slice_range value from at ++ escaped (drop at value))
+pub run_found : (value : List ℕ) (from at : ℕ) → at ≡ from + prefix_len is_plain (drop from value)
+    → (escaped (drop from value) ≡ slice_range value from at ++ escaped (drop at value))
     × (at < length value → is_plain (get_or value at 0) ≡ false)
-run_found class stops value from at is =
-    let run = run_is (λ b. not (is_stop class b)) value from at is in
-    let long : at - from ≡ plain_len class (drop from value) = omega (arith, is) in
-    let rest : drop at value ≡ drop (at - from) (drop from value) = grind (arith, run.least, drop-drop (at - from) from value) in (
-      rw (rest, long) (run_written class stops (drop from value)),
-      λ within. grind (arith, nat_tests, stops (get_or value at 0), run.stops within),
-    )
+run_found value from at is =
+    let run = run_is is_plain value from at is in
+    let long : at - from ≡ prefix_len is_plain (drop from value) = omega (arith, is) in
+    let rest : drop at value ≡ drop (at - from) (drop from value) = grind (arith, run.least, drop-drop (at - from) from value) in
+    (rw (rest, long) (run_written (drop from value)), run.stops)
 
 -- before another a backslash is written
 pub special_written : (value text whole : List ℕ) (from at : ℕ) → at < length value → is_plain (get_or value at 0) ≡ false

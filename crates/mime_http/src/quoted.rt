@@ -1,9 +1,8 @@
 //! The content of a quoted string: what it means, and how a value is written.
 
-ghost use Rattle.std.specs.Prelude.{◌≡◌, ◌∷◌, [], ◌++◌, ◌≤◌, ◌+◌, None, Some, OnOk, IsOk, is_ok, if◌then◌else◌, length, take, drop, string_bytes};
-ghost use Rattle.std.specs.{List.list_all, List.prefix_len, Vec.vec_items, Vec.vec_len, Vec.vec_capacity};
-ghost use Rattle.mime.specs.Bytes.{is_quoted_byte, backslash_byte};
-ghost use Rattle.mime_http.specs.{Forms.is_plain, Forms.form_of, Unescaped.unescaped, Written.escaped};
+ghost use Rattle.std.specs.Prelude.{◌≡◌, ◌++◌, ◌≤◌, ◌+◌, OnOk, IsOk, is_ok, if◌then◌else◌, length, take, drop, string_bytes};
+ghost use Rattle.std.specs.{List.prefix_len, Vec.vec_items, Vec.vec_len, Vec.vec_capacity};
+ghost use Rattle.mime_http.specs.{Forms.is_plain, Unescaped.unescaped, Written.escaped};
 
 use mime_search::{Class, first_stop};
 use std::alloc::AllocError;
@@ -58,14 +57,28 @@ pub(crate) enum Form {
     Escaped,
 }
 
+/// Returns the position of the first quote or backslash at or after `from`, or the value's length if there is none.
+#[inline(always)]
+#[tactic(auto, using(crate::proofs::Contents::plain_found))]
+fn special_from(value: &[u8], from: usize) -> usize
+    requires { from ≤ length value.now }
+    ensures special { result ≡ from + prefix_len is_plain (drop from value.now) }
+    ensures within { result ≤ length value.now }
+{
+    // This test is faster than the search if another quote or backslash follows.
+    if from < value.len() && (value[from] == b'"' || value[from] == b'\\') {
+        return from;
+    }
+    first_stop(value, from, &Class::of(b'"', b'\\'))
+}
+
 /// Adds the content of a quoted string that means a value: `\"x` for `"x` (RFC 9110, 5.6.4).
 pub(crate) fn push_escaped(text: &mut String, value: &str) -> Result<(), AllocError>
     ensures { OnOk result (string_bytes text.new ≡ string_bytes text.old ++ escaped value.now) }
 {
-    let special = Class::of(b'"', b'\\');
     let bytes = value.as_bytes();
     let mut from = 0;
-    let mut at = first_stop(bytes, 0, &special);
+    let mut at = special_from(bytes, 0);
     while at < bytes.len() {
         if from < at {
             text.push_str(&value[from..at])?;
@@ -73,7 +86,7 @@ pub(crate) fn push_escaped(text: &mut String, value: &str) -> Result<(), AllocEr
         text.push('\\')?;
         text.push(char::from(bytes[at]))?;
         from = at + 1;
-        at = first_stop(bytes, from, &special);
+        at = special_from(bytes, from);
     }
     text.push_str(&value[from..])
 }

@@ -9,8 +9,8 @@ pub loop-at-init : goal.loop-at-init
 loop-at-init c =
     let value = c.args.value.now in
     let same = c.as_bytes-bytes.ensures.value in
-    let at = c.first_stop-at in
-    let found = rw same at (run_found c.of-special.result c.of-special.ensures c.as_bytes-bytes.result.now 0 at.result at.ensures.end) in
+    let at = c.special_from-at in
+    let found = rw same at (run_found c.as_bytes-bytes.result.now 0 at.result at.ensures.special) in
     record {
       added = refl;
       run = found.0;
@@ -48,13 +48,13 @@ loop-at-preserved c =
       ascii,
       same,
     ) in
-    let next = c.first_stop-at-in-loop-at in
-    let found = rw same at (run_found c.of-special.result c.of-special.ensures c.as_bytes-bytes.result.now (at + 1) next.result next.ensures.end) in
+    let next = c.special_from-at-in-loop-at in
+    let found = rw same at (run_found c.as_bytes-bytes.result.now (at + 1) next.result next.ensures.special) in
     record {
       added = rw (pushed, run) (special_written value _ _ c.loop-at.from at within (seen.stop within) seen.run seen.added);
       run = found.0;
       stop = found.1;
-      least = omega (arith, next.ensures.end);
+      least = omega (arith, next.ensures.special);
       within = omega (arith, next.ensures.within, ap length same);
       boundary = IsCharBoundary-after_ascii value at c.utf8.value within ascii;
     }
