@@ -4,7 +4,7 @@
 ghost use Rattle.std.specs.Prelude.{◌≡◌, ◌++◌, ◌∷◌, ◌==◌, ◌||◌, ◌&&◌, not, map, option_map, unwrap_or, true, position, codes, IfOk, MatchOption};
 ghost use Rattle.std.specs.{Char.is_ascii_digit, List.list_all, Vec.vec_items};
 ghost use Rattle.mime.specs.Bytes.{comma_byte};
-ghost use Rattle.mime_http.specs.{HttpList.IsPiece, HttpList.BeginsPiece, Ranges.first_value, Ranking.is_qvalue, Ranking.is_lacking, Ranking.ranked_as, Ranking.IsRanking};
+ghost use Rattle.mime_http.specs.{HttpList.IsPiece, HttpList.BeginsPiece, Ranges.first_value, Ranking.is_qvalue, Ranking.is_lacking, Ranking.IsRanking};
 
 use crate::list::piece_end;
 use crate::offers::ranked;

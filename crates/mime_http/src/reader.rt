@@ -1,7 +1,7 @@
 //! Reads a header's value in one pass, according to HTTP's own grammar (RFC 9110, 8.3.1 and 5.6.6), and writes it anew.
 
 ghost use Rattle.std.specs.Prelude.{◌≡◌, ◌<◌, ◌≤◌, ◌+◌, ◌-◌, ◌^◌, ◌++◌, ◌≢◌, true, false, ℕ, List, [], ◌∷◌, codes, drop, length, slice_index, slice_range, MatchResult};
-ghost use Rattle.std.specs.List.{list_all, prefix_len};
+ghost use Rattle.std.specs.List.{prefix_len};
 ghost use Rattle.mime.specs.Bytes.{is_token_byte, is_quoted_byte, is_quoted_text_byte, equals_byte, quote_byte};
 ghost use Rattle.mime.specs.Grammar.{is_space};
 ghost use Rattle.mime_search.specs.Classes.{IsStart};

@@ -1,6 +1,6 @@
 //! Reads the media type of a header's value from bytes.
 
-ghost use Rattle.std.specs.Prelude.{◌≡◌, ◌≢◌, ◌<◌, ◌≤◌, IsFalse, IsTrue, ℕ, List, codes, length, Some, IfOk, IfErr, IfSome, IsOk, MatchResult};
+ghost use Rattle.std.specs.Prelude.{◌≡◌, ◌≢◌, ◌<◌, ◌≤◌, IsFalse, IsTrue, codes, length, Some, IfOk, IfErr, IfSome, IsOk, MatchResult};
 ghost use Rattle.std.specs.Fmt.InlineText.{inline_text};
 ghost use Rattle.std.specs.Str.{IsUtf8, IsValidUpTo, valid_up_to};
 ghost use Rattle.mime.specs.Values.{IsAccepted, MediaType};
@@ -9,7 +9,6 @@ ghost use Rattle.mime_http.specs.HttpMediaType.{HttpReads, IsHttpMediaType};
 ghost use Rattle.mime_http.specs.HttpList.{trimmed, IsPrinted};
 ghost use Rattle.mime_http.specs.HttpFaults.{HttpExplains, IsHttpFault};
 ghost use Rattle.mime_http.specs.HttpPrinted.{not_utf8_text};
-ghost use Rattle.mime_http.specs.Reader.{Parts, answer_of, media_of, read, text_of_parts};
 
 use crate::list::{is_space, trim_end, trim_start};
 use crate::reader::write_anew;
