@@ -136,8 +136,8 @@ fn text_with(
     Ok((text, count))
 }
 
-/// Returns the media type with this parameter in place of all parameters of its name. `is_kept` may be `true` if the parameter is kept as it
-/// is written.
+/// Returns the media type with this parameter in place of all parameters of its name. `is_kept` is `true` only if the parameter is kept as
+/// it is written.
 fn mime_with(
     alloc: Global,
     mime: &Mime,
