@@ -3,13 +3,14 @@ use Rattle.std.proofs.Common.{◌≡◌, ℕ, List, [], ◌∷◌, ◌++◌, len
 use Rattle.std.proofs.Math.Seq.{get_or-append_seam}
 use Rattle.std.proofs.lemmas.Option.{same_Some}
 use Rattle.mime.specs.Bytes.{is_token_byte}
+use Rattle.mime.specs.Values.{MediaType, Reads}
 use Rattle.mime.specs.Faults.{IsViable, IsLongestPrefix, completion_of, last_byte_of, EndsIn, Lacks, IsUnclosed, IsDeadAt, IsFault, Explains}
 use Rattle.mime.specs.declared.scan.fault.ParseError.{ParseError}
 use Rattle.mime.specs.declared.scan.fault.ParseError.TheVariants.{MissingSlash, MissingSubtype, MissingEqual, MissingValue, MissingQuote, InvalidToken, NoMemory}
 use Rattle.mime.proofs.GrammarLemmas.Faults.{one_fault, completed_is_rejected, fault-from_lacks}
-use Rattle.mime.proofs.GrammarLemmas.Readings.{stopped-from_walk}
+use Rattle.mime.proofs.GrammarLemmas.Readings.{one_reading, stopped-from_walk}
 use Rattle.mime_facts.proofs.StandardFacts.{slash_fault-from_walk, no_slash, no_subtype, no_equals, no_value, no_quote, space_in_type}
-use Rattle.mime_facts.proofs.ValueFacts.{plain_value, reads_capitals, text_of_41, text_of_40, reads_41}
+use Rattle.mime_facts.proofs.ValueFacts.{plain_value, reads_capitals, text_of_41, text_of_40, value_of_40, reads_41, reads_40, reads_dropped}
 use Rattle.mime.proofs.GrammarLemmas.Viability.{accepted_is_viable, not_viable-at_dead, prefix_unique, viable-from_lacks}
 
 -- what lacks something is viable, and what has a byte at fault isn't
@@ -98,11 +99,18 @@ faults : IsFault (codes "invalid") MissingSlash × ¬ (IsFault (codes "a b") Mis
 faults =
     (no_slash, (λ is. not_viable-at_dead (codes "a b") 1 32 space_in_type (viable-from_lacks (codes "a b") MissingSlash is)), λ is. is.0)
 
--- memory may run out only for an accepted text, and not for one of 40 bytes
-memory : Explains text_of_41 NoMemory × ¬ (Explains text_of_40 NoMemory) × ¬ (Explains (text_of_41 ++ codes "/") NoMemory)
+-- If 40 bytes of a text are kept, memory doesn't run out for it.
+forty_have_memory : (text : List ℕ) → Reads text value_of_40 → ¬ (Explains text NoMemory)
+forty_have_memory text forty (value, reads, long) =
+    absurd (omega (arith, long, ap (λ (it : MediaType). length it.kept) (one_reading text value_of_40 value forty reads)))
+
+-- Memory may run out only for an accepted text, and not for one of which 40 bytes are kept, as of one with a semicolon after them.
+memory : Explains text_of_41 NoMemory × ¬ (Explains text_of_40 NoMemory) × ¬ (Explains (text_of_40 ++ codes ";") NoMemory)
+    × ¬ (Explains (text_of_41 ++ codes "/") NoMemory)
 unfolding is_token_byte
 memory = (
-  ((_, reads_41), omega arith),
-  (λ is. absurd (omega (arith, is.1))),
-  λ is. stopped-from_walk (text_of_41 ++ codes "/") refl is.0,
+  (_, reads_41, omega arith),
+  forty_have_memory text_of_40 reads_40,
+  forty_have_memory (text_of_40 ++ codes ";") reads_dropped,
+  λ is. stopped-from_walk (text_of_41 ++ codes "/") refl (is.0, is.1),
 )

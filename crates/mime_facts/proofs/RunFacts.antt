@@ -1,5 +1,5 @@
 -- Calls of `next` for which each definition of a run is true, and others for which it is false: over `e`, `e,A/B`, `*/*` and long ones.
-use Rattle.std.proofs.Common.{◌≡◌, ℕ, true, false, List, [], ◌∷◌, length, Some, None, Result, Ok, Err, refl, sym, ap, subst, arith, codes, Bor}
+use Rattle.std.proofs.Common.{◌≡◌, ℕ, true, false, List, [], ◌∷◌, ◌++◌, length, Some, None, Result, Ok, Err, refl, sym, ap, subst, arith, codes, Bor}
 use Rattle.std.proofs.lemmas.Bool.{true≢false}
 use Rattle.std.proofs.lemmas.Option.{none-some}
 use Rattle.mime.specs.Bytes.{is_token_byte}
@@ -13,7 +13,7 @@ use Rattle.mime.specs.declared.iter.Bad.TheVariants.{Piece, NoMemory}
 use Rattle.mime_facts.proofs.CutFacts.{split_at_comma, e_is_viable, item_of_e, cut_of_list, rest_of_text, no_item_left_out}
 use Rattle.mime.proofs.CutLemmas.Cuts.{cut_unique, takes_unique, takes-viable, empty-cut}
 use Rattle.mime_facts.proofs.StandardFacts.{media, reads}
-use Rattle.mime_facts.proofs.ValueFacts.{differ, plain_value, text_of_41, text_of_40, reads_41, reads_40}
+use Rattle.mime_facts.proofs.ValueFacts.{differ, plain_value, text_of_41, text_of_40, value_of_40, reads_41, reads_40, reads_dropped}
 
 -- an iterator over a text, at its start and at its end
 abbrev begun : List ℕ → Iteration
@@ -34,10 +34,11 @@ reads_star : Reads (codes "*/*") star_value
 unfolding is_token_byte
 reads_star = reads (codes "*") (codes "*") no_list (refl, refl, tt)
 
--- the first piece of an accepted text's cut is the text
-only_piece : (text : List ℕ) (value : MediaType) → Reads text value → (piece : List ℕ) (other : MediaType) (items : List CutItem) (rest : List ℕ)
-    → Cut text (good piece other ∷ items) rest → piece ≡ text
-only_piece text value reads piece other items rest cut = let is = (cut_unique _ _ _ (whole text value reads) _ _ cut).0 in cc is
+-- The first item of an accepted text's cut is the text, with its value.
+only_item : (text : List ℕ) (value : MediaType) → Reads text value → (piece : List ℕ) (other : MediaType) (items : List CutItem) (rest : List ℕ)
+    → Cut text (good piece other ∷ items) rest → (piece ≡ text) × (other ≡ value)
+only_item text value reads piece other items rest cut =
+    let is = (cut_unique _ _ _ (whole text value reads) _ _ cut).0 in (cc is, cc is)
 
 -- ---- what is left
 
@@ -72,9 +73,14 @@ needs_memory = record {
 bad_needs_none : ¬ (FirstNeedsMemory (codes "e,A/B"))
 bad_needs_none needs = absurd (cc (cut_unique _ _ _ cut_of_list _ _ needs.cut).0)
 
--- one of 40 bytes needs none
-short_needs_none : ¬ (FirstNeedsMemory text_of_40)
-short_needs_none needs = absurd (omega (arith, needs.long, ap length (only_piece text_of_40 _ reads_40 _ _ _ _ needs.cut)))
+-- If 40 bytes of a media type are kept, it needs no memory.
+forty_need_none : (text : List ℕ) → Reads text value_of_40 → ¬ (FirstNeedsMemory text)
+forty_need_none text forty needs =
+    absurd (omega (arith, needs.long, ap (λ (it : MediaType). length it.kept) (only_item text value_of_40 forty _ _ _ _ needs.cut).1))
+
+-- A media type of 40 bytes needs no memory, with a semicolon after it, too.
+short_needs_none : ¬ (FirstNeedsMemory text_of_40) × ¬ (FirstNeedsMemory (text_of_40 ++ codes ";"))
+short_needs_none = (forty_need_none text_of_40 reads_40, forty_need_none (text_of_40 ++ codes ";") reads_dropped)
 
 -- ---- a call
 
@@ -83,7 +89,7 @@ star_is_fixed : (old new : Iteration) → old.left ≡ codes "*/*" → new.left 
     → GivesItem old (Some (Ok mime)) new → mime.fixed ≡ true
 star_is_fixed old new at end mime (piece, first, star, same) =
     let cut = first [] [] (subst (λ l. Cut l [] []) (sym end) empty-cut) in
-    star (only_piece (codes "*/*") star_value reads_star _ _ _ _ (subst (λ t. Cut t (good piece mime.media ∷ []) []) at cut))
+    star (only_item (codes "*/*") star_value reads_star _ _ _ _ (subst (λ t. Cut t (good piece mime.media ∷ []) []) at cut)).0
 
 -- that memory ran out is said if it did
 no_memory_is_told : ¬ (GivesItem (begun (codes "A/B")) (Some (Err NoMemory)) (ended_run (codes "A/B") 3))
@@ -160,14 +166,14 @@ gives_all given items (a_value mime piece more others are) is = absurd cc
 gives_all given items (a_piece piece more others are) is = absurd cc
 gives_all given items (no_memory piece value others long) is = absurd cc
 
--- a run always yields a media type of 40 bytes
+-- A run always yields a media type of which 40 bytes are kept.
 gives_short : (given : List (Result OwnedMedia Bad)) (items : List CutItem) → AreGiven given items → given ≡ Err NoMemory ∷ []
-    → (value : MediaType) → items ≡ good text_of_40 value ∷ [] → ⊥
-gives_short given items none_left is value short = absurd cc
-gives_short given items (a_value mime piece more others are) is value short = absurd cc
-gives_short given items (a_piece piece more others are) is value short = absurd cc
-gives_short given items (no_memory piece other others long) is value short =
-    let same : piece ≡ text_of_40 = cc short in absurd (omega (arith, long, ap length same))
+    → (text : List ℕ) → items ≡ good text value_of_40 ∷ [] → ⊥
+gives_short given items none_left is text short = absurd cc
+gives_short given items (a_value mime piece more others are) is text short = absurd cc
+gives_short given items (a_piece piece more others are) is text short = absurd cc
+gives_short given items (no_memory piece other others long) is text short =
+    let same : other ≡ value_of_40 = cc short in absurd (omega (arith, long, ap (λ (it : MediaType). length it.kept) same))
 
 -- a media type is given for a good piece with its value, and for nothing else
 gives_value : (given : List (Result OwnedMedia Bad)) (items : List CutItem) → AreGiven given items

@@ -1,6 +1,6 @@
 -- Texts and values for which each definition of a value, its parts, its items and its names is true, and others for which it is
 -- false, by computation.
-use Rattle.std.proofs.Common.{◌≡◌, ◌≢◌, ℕ, Bool, true, false, List, [], ◌∷◌, map, Some, None, refl, sym, ap, ◌∙◌, codes}
+use Rattle.std.proofs.Common.{◌≡◌, ◌≢◌, ℕ, Bool, true, false, List, [], ◌∷◌, ◌++◌, map, Some, None, refl, sym, ap, ◌∙◌, codes}
 use Rattle.std.proofs.lemmas.Bool.{true≢false}
 use Rattle.std.proofs.lemmas.Option.{none-some, same_Some}
 use Rattle.std.proofs.lemmas.Slice.Eq.{bytes_eq-Decides}
@@ -109,9 +109,17 @@ pub reads_41 : Reads text_of_41 (media text_of_41 11 None [] text_of_41)
 unfolding is_token_byte
 reads_41 = reads (codes "application") (codes "x-forty-one-bytes-in-all-here") no_list (refl, refl, tt)
 
-pub reads_40 : Reads text_of_40 (media text_of_40 11 None [] text_of_40)
+abbrev pub value_of_40 : MediaType
+value_of_40 = media text_of_40 11 None [] text_of_40
+
+pub reads_40 : Reads text_of_40 value_of_40
 unfolding is_token_byte
 reads_40 = reads (codes "application") (codes "x-forty-bytes-of-text-in-all") no_list (refl, refl, tt)
+
+-- A text of 41 bytes of which 40 are kept is read.
+pub reads_dropped : Reads (text_of_40 ++ codes ";") value_of_40
+unfolding is_token_byte
+reads_dropped = reads (codes "application") (codes "x-forty-bytes-of-text-in-all") (listed (blank [])) (refl, refl, refl)
 
 -- an accepted text isn't rejected, and a text with a space in its type is
 accepted_and_rejected : IsAccepted (codes "A/B") × ¬ (IsRejected (codes "A/B")) × IsRejected (codes "a b") × ¬ (IsAccepted (codes "a b"))
