@@ -43,6 +43,7 @@ def values():
     yield Row("order of two equal ones", "cmp", TEXT, TEXT)
     yield Row("order of each and the next", "cmp", TEXT, NEXT, most=50, differs=True)
     yield Row("hash in a map", "hash", TEXT)
+    yield Row("hash by SipHash", "hash_default", TEXT)
     yield Row("clone and drop", "clone", TEXT)
     yield Row("print", "print", TEXT)
     yield Row("boundary", "boundary", TEXT)
@@ -79,7 +80,7 @@ def strings():
     yield Row("rejected: text( and 59 bytes", "read", f"text({'z' * 59}", most=125)
     yield Row("rejected: a/b;p=\"x\" and 24 bytes", "read", f"a/b;p=\"x\"{'z' * 24}")
     yield Row("rejected: a/b;p=\"x, which isn't closed", "read", "a/b;p=\"x")
-    yield Row("rejected: a browser's Accept header", "read", BROWSER, most=165)
+    yield Row("rejected: a browser's Accept header", "read", BROWSER, most=215)
 
 
 def sixteen(text):
@@ -140,6 +141,8 @@ def texts():
     yield long("read: a type of rare token bytes", "read", lambda n: "!#$%&'*+^_`|~" * (n // 13) + "/b", most=8)
     yield long("list: a subtype", "items", lambda n: "a/" + "x" * n, most=8.5)
     yield long("list: a type of +", "items", lambda n: "+" * n + "/b", most=8.5)
+    yield long("list: a subtype of +", "items", lambda n: "a/" + "+" * n, most=9)
+    yield long("list: a subtype of +a", "items", lambda n: "a/" + "+a" * (n // 2), most=9.5)
     yield long("hash: pairs \\\"a", "hash", single_pairs, most=6)
     yield long("order: pairs \\\"a", "cmp", single_pairs, single_pairs(65_536) + "y", most=12)
     yield long("order: parameters, a tab before each", "cmp", with_tabs, with_tabs(65_536) + ";p=x")

@@ -42,13 +42,8 @@ const THERE: &[(&str, Operation)] = &[
     ("eq", |it, rounds| sum_of_two(&it.values, &it.against, rounds, |mime, other| (mime == other) as usize)),
     ("eq_str", |it, rounds| sum_of_two(&it.values, &it.others, rounds, |mime, text| (mime == text) as usize)),
     ("cmp", |it, rounds| sum_of_two(&it.values, &it.against, rounds, |mime, other| mime.cmp(other).is_lt() as usize)),
-    ("hash", |it, rounds| {
-        sum(&it.values, rounds, |mime| {
-            let mut hasher = DefaultHasher::new();
-            mime.hash(&mut hasher);
-            (hasher.finish() != 1) as usize
-        })
-    }),
+    ("hash", hash_all),
+    ("hash_default", hash_all),
     ("clone", |it, rounds| sum(&it.values, rounds, |mime| black_box(&mime.clone()).as_ref().len())),
     ("print", |it, rounds| {
         let mut printed = String::new();
@@ -125,6 +120,14 @@ fn read(text: &str) -> Option<Mime> {
 #[inline(always)]
 fn length_found<'a>(mime: &'a Mime, name: impl PartialEq<Name<'a>>) -> usize {
     mime.get_param(name).map_or(0, |value| value.as_str().len())
+}
+
+fn hash_all(it: &Read, rounds: usize) -> usize {
+    sum(&it.values, rounds, |mime| {
+        let mut hasher = DefaultHasher::new();
+        mime.hash(&mut hasher);
+        (hasher.finish() != 1) as usize
+    })
 }
 
 /// Which of two strings the essence is: 1 or 2, or 0 if it is neither.

@@ -71,7 +71,7 @@ pub trait ParamKey: Drop {
     ghost Accepts: { Self → List ℕ → Bool → Type 0 };
 
     /// Returns `true` if the key accepts a parameter's name: `TextKey("P")` accepts `p`. `get_param` passes the name in
-    /// lowercase, with the flag `true`.
+    /// lowercase, with the flag `true`. If the key has a text, it may also pass other bytes, as many as the text has.
     fn accepts(&self, name: Name<'_>) -> bool
         ensures { IsTrue result ↔ Accepts self.now name.entry.text.now name.entry.ignores_case };
 

@@ -129,7 +129,7 @@ fn subtype(reader: &mut ByteReader<'_>, from: u128) -> (Option<usize>, Option<u8
     let mut plus = 0;
     let mut stop = token(reader, false);
     while stop == Some(b'+') {
-        plus = reader.position(from);
+        plus = reader.position(from) + reader.skip_pluses(plus != 0);
         stop = token(reader, false);
     }
     (if plus == 0 { None } else { Some(plus) }, stop)

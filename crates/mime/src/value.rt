@@ -11,7 +11,6 @@ ghost use Rattle.mime.specs.Inner.ComparedText.{positions_before_list};
 ghost use Rattle.mime.specs.Inner.Known.{IsKnown};
 ghost use Rattle.mime.specs.Inner.KeptBytes.{bytes_of, is_fixed};
 
-mod hashing;
 mod kept;
 mod known;
 pub(crate) mod pairs;
@@ -73,8 +72,7 @@ impl Text {
 /// `text/plain;` as `text/plain`.
 #[derive(Drop)]
 pub struct Mime {
-    // The order of the fields matters for speed: an error of `mime_http` has its byte where the text has its tag, so
-    // the compiler moves each word at once.
+    // Keep this order: an error's byte then shares a word with the text's tag, so whole words are moved.
     places: Places,
     text: Text,
     /// The end of the essence: the position of the semicolon after it, or the text's length if there is no parameter.
@@ -132,11 +130,17 @@ impl Mime {
                 return Err(FromStrError::new(ParseError::InvalidToken { pos, byte }));
             }
         };
+        // Each branch for a short text returns, so that the text isn't moved where the branches join.
+        if kept_len(s, positions) <= SHORT {
+            if positions.pair_count == 0 {
+                return Ok(Mime::of_short(s, positions, ShortText::essence(s, positions)));
+            }
+            return Ok(Mime::of_short(s, positions, ShortText::with_pairs(s, positions)));
+        }
         Mime::of_accepted(alloc, s, positions)
     }
 
-    /// Returns the media type of an accepted string whose parts have these positions. The only error is `NoMemory`. Each
-    /// branch for a short text returns, so that the text isn't moved where the branches join.
+    /// Returns the media type of an accepted string whose parts have these positions. The only error is `NoMemory`.
     #[inline(always)]
     pub(crate) fn of_accepted(
         alloc: Global,

@@ -11,7 +11,7 @@ use mime_http::{
 };
 use std::alloc::{AllocError, Global};
 use std::fmt::Write;
-use std::hash::{FoldHasher, Hash, Hasher};
+use std::hash::{DefaultHasher, FoldHasher, Hash, Hasher};
 use std::str;
 
 /// Sums the results of `$turn` for each `$it` in `$all`, over all rounds.
@@ -66,6 +66,7 @@ pub extern "C" fn mime_bench(
         20 => negotiate(alloc, &texts, &against, rounds),
         21 => weight(&values, rounds),
         22 => cover(&values, &against, rounds),
+        31 => hash_default(&values, rounds),
         _ => one(alloc, operation, &texts, &values, &against, rounds),
     }
 }
@@ -195,12 +196,22 @@ fn cmp(values: &[Mime], others: &[Mime], rounds: usize) -> usize {
     sum!(rounds, (mime, other) in values.iter().zip(others) => mime.cmp(other).is_lt() as usize)
 }
 
-/// Hashes media types with the default hasher of a map. Returns how many hashes aren't 1, which must be the same number as the Rust
+/// Hashes media types with the hasher of `HashMap::new`. Returns how many hashes aren't 1, which must be the same number as the Rust
 /// crate's. The hashes themselves differ.
 #[inline(never)]
 fn hash(values: &[Mime], rounds: usize) -> usize {
     sum!(rounds, mime in values => {
         let mut hasher = FoldHasher::default();
+        mime.hash(&mut hasher);
+        (hasher.finish() != 1) as usize
+    })
+}
+
+/// Does the same with SipHash, the hasher of a map that is seeded at random.
+#[inline(never)]
+fn hash_default(values: &[Mime], rounds: usize) -> usize {
+    sum!(rounds, mime in values => {
+        let mut hasher = DefaultHasher::new();
         mime.hash(&mut hasher);
         (hasher.finish() != 1) as usize
     })

@@ -68,8 +68,8 @@ pub fn stops_in_window(text: &[u8], first: u64, class: &Class) -> u64
     joined(start, end, BLOCK + BLOCK, size)
 }
 
-/// Searches the start of a string: a block, the whole string if it is shorter than a block, or nothing if it is shorter
-/// than half a block. Returns the number of bytes searched, and which of them stop the search, as a bit mask.
+/// Searches at most the first block of a string, or nothing if the string is shorter than half a block. Returns the
+/// number of bytes searched, and which of them stop the search, as a bit mask.
 #[inline(always)]
 pub fn stops_at_start(text: &[u8], class: &Class) -> (usize, u64)
     ensures few { result.0 ≤ BLOCK }
@@ -93,7 +93,8 @@ pub struct Start {
     pub stops: u64,
 }
 
-/// Returns which of a string's first `WINDOW` bytes stop a search. A string shorter than half a block isn't searched.
+/// Searches at most the first `WINDOW` bytes of a string, and returns which of them stop the search. No clause promises
+/// more. A string shorter than half a block isn't searched.
 #[inline(always)]
 pub fn search_start(text: &[u8], class: &Class) -> Start
     ensures { IsStart class.now text.now result }
@@ -110,8 +111,8 @@ pub fn search_start(text: &[u8], class: &Class) -> Start
 }
 
 impl Start {
-    /// Returns the position of the first byte at or after `from` that stops the search, or `known` if there is no such
-    /// byte before `known`. If `from` is at least `known`, returns `from`.
+    /// Returns a position that is at least `from`, and at most that of the first byte from there on that stops the
+    /// search. If this byte is known, the result is its position.
     #[inline(always)]
     pub fn stop_from(self, from: usize) -> usize
         requires { self.known ≤ WINDOW }

@@ -1,20 +1,18 @@
 -- What a pass over a reader's bytes has given so far, one byte or one run more, and at its end.
 use Rattle.std.proofs.lemmas.Grind.{common_steps}
-use Rattle.std.proofs.Common.{◌≡◌, ℕ, zero, suc, get_or, ◌+◌, ◌-◌, ◌<◌, Bool, true, false, cond, eqb, List, [], ◌∷◌, ◌++◌, length, Option, Some, None, refl, sym, ap, ◌∙◌, subst, arith, append_assoc, append-nil, length-append, take, drop, ◌≤◌, rules}
-use Rattle.std.specs.Prelude.{IsTrue, IsFalse, not, ◌&&◌, MatchOption}
+use Rattle.std.proofs.Common.{◌≡◌, ℕ, zero, suc, get_or, ◌+◌, ◌-◌, ◌<◌, Bool, true, false, cond, eqb, List, [], ◌∷◌, ◌++◌, length, Option, Some, None, refl, sym, ap, ◌∙◌, subst, arith, append-nil, length-append, take, drop, ◌≤◌, rules}
+use Rattle.std.specs.Prelude.{IsTrue, IsFalse, ◌&&◌, MatchOption}
 use Rattle.std.specs.List.{list_all, prefix_len}
 use Rattle.std.specs.Option.{option_eq}
-use Rattle.std.proofs.lemmas.Bool.{and_from, and_parts, true≢false, not-true, false_from_ne_true}
+use Rattle.std.proofs.lemmas.Bool.{and_from}
 use Rattle.std.proofs.lemmas.List.Folds.{list_all-append}
 use Rattle.std.proofs.lemmas.List.Sums.{prefix_len-le-length}
 use Rattle.std.proofs.Math.Seq.{drop-cons}
 use Rattle.std.proofs.lemmas.List.{take-append-drop, drop-drop, length-take-le}
-use Rattle.mime.specs.Bytes.{is_token_byte, is_quoted_byte, is_quoted_text_byte, plus_byte, backslash_byte}
+use Rattle.mime.specs.Bytes.{is_quoted_byte, is_quoted_text_byte, backslash_byte}
 use Rattle.mime.specs.Inner.Quoted.{awaits_next, takes, takes_all, awaits_after, IsOpenContent, continues}
-use Rattle.mime.specs.Values.{last_plus}
-use Rattle.mime.specs.Inner.Remaining.{Remaining}
-use Rattle.mime.specs.Inner.ByteClasses.{is_token_except_plus, token_bytes}
-use Rattle.mime.specs.Inner.Scanning.{Given, GivesFirst, Reaches, Passing, Passes, PassesContent, PassesSubtype}
+use Rattle.mime.specs.Inner.Remaining.{Remaining, reader_at}
+use Rattle.mime.specs.Inner.Scanning.{Given, GivesFirst, Reaches, Passing, Passes, PassesContent}
 use Rattle.mime.proofs.BytesLemmas.{list_all-wider}
 use Rattle.mime.proofs.GrammarLemmas.Content.{takes-backslash, takes_all-text, awaits_after-text, awaits_after-append, takes_all-append, not_taken}
 
@@ -50,10 +48,6 @@ given_less g = omega (arith, g.counted, given_sum g)
 pub stopped_by : (byte : ℕ) (stop : Option ℕ) → option_eq eqb stop (Some byte) ≡ true → stop ≡ Some byte
 stopped_by byte stop test = search rules
 
--- a reader at a position in a text
-abbrev pub reader_at : List ℕ → ℕ → ℕ → Remaining
-reader_at text at before = record { left = drop at text; count = before + at }
-
 -- all bytes before the first that fails a test pass it
 passes_before : (p : ℕ → Bool) (xs : List ℕ) (n : ℕ) → n ≤ prefix_len p xs → list_all p (take n xs) ≡ true
 passes_before p xs zero within = refl
@@ -82,19 +76,24 @@ passing_skip class text at to before within least most =
       };
     }
 
+-- The byte at a reader's position is given.
+pub gives_at : (text : List ℕ) (at before : ℕ) → at < length text
+    → GivesFirst (reader_at text at before) (reader_at text (at + 1) before) (Some (get_or text at 0))
+gives_at text at before room =
+    let next : at + 1 ≡ suc at = omega arith in (
+      record {
+        bytes = drop-cons text at 0 room ∙ ap (λ m. get_or text at 0 ∷ drop m text) (sym next);
+        counted = omega arith;
+      },
+      tt,
+    )
+
 -- the byte after the bytes that were skipped is given
 pub reaches_skip : (class : ℕ → Bool) (text : List ℕ) (at to before : ℕ) → to < length text → at ≤ to
     → to ≤ at + prefix_len class (drop at text)
     → Reaches class (reader_at text at before) (reader_at text (to + 1) before) (Some (get_or text to 0))
 reaches_skip class text at to before room least most =
-    let next : to + 1 ≡ suc to = omega arith in
-    reaches_next (passing_skip class text at to before (omega (arith, room, least)) least most) (
-      record {
-        bytes = drop-cons text to 0 room ∙ ap (λ m. get_or text to 0 ∷ drop m text) (sym next);
-        counted = omega arith;
-      },
-      tt,
-    )
+    reaches_next (passing_skip class text at to before (omega (arith, room, least)) least most) (gives_at text to before room)
 
 -- nothing was skipped
 pub passing_none : (class : ℕ → Bool) (now : Remaining) → Passing class now now
@@ -219,61 +218,3 @@ content_text {new = new} stop p passes other = record {
         → MatchOption stop (new.left ≡ []) (λ b. IsFalse (continues (p.run ++ passes.run) b))
     ends None stopped other = stopped
     ends (Some b) stopped other = ap (λ (a : Bool). takes a b) closes ∙ not_taken b stopped other
-
--- a plus at the end is the last one
-last_plus-plus : (at : ℕ) (xs : List ℕ) (b position : ℕ) → b ≡ plus_byte → at + length xs ≡ position
-    → last_plus at (xs ++ b ∷ []) ≡ Some position
-last_plus-plus at [] b position p e = rw p (ap Some (omega arith))
-last_plus-plus at (x ∷ xs) b position p e = rw (last_plus-plus (at + 1) xs b position p (omega arith))
-
--- ---- a subtype, plus by plus
-
--- bytes without a plus are token bytes, and keep the last plus
-pub token_byte : (b : ℕ) → is_token_except_plus b ≡ true → is_token_byte b ≡ true
-token_byte b is = (and_parts (is_token_byte b) _ is).0
-
--- bytes without a plus are of both kinds of runs
-pub token_bytes-wider : (with_plus : Bool) (b : ℕ) → is_token_except_plus b ≡ true → token_bytes with_plus b ≡ true
-token_bytes-wider with_plus b is = search rules
-
-no_plus : (at : ℕ) (xs : List ℕ) → IsTrue (list_all is_token_except_plus xs) → last_plus at xs ≡ None
-no_plus at [] all = refl
-no_plus at (x ∷ xs) all =
-    let parts = and_parts (is_token_except_plus x) (list_all is_token_except_plus xs) all in
-    let other : eqb x plus_byte ≡ false = not-true _ (and_parts (is_token_byte x) _ parts.0).1 in
-    rw (no_plus (at + 1) xs parts.1, other) refl
-
-last_plus-run : (at : ℕ) (xs ys : List ℕ) → IsTrue (list_all is_token_except_plus ys) → last_plus at (xs ++ ys) ≡ last_plus at xs
-last_plus-run at [] ys all = no_plus at ys all
-last_plus-run at (x ∷ xs) ys all = rw (last_plus-run (at + 1) xs ys all) refl
-
--- token bytes were given so far, and then others up to a plus
-pub is_token_plus : is_token_byte plus_byte ≡ true
-unfolding is_token_byte
-is_token_plus = refl
-
-abbrev pub passing_plus : {old mid new : Remaining} {stop : Option ℕ} → Passing is_token_byte old mid
-    → Passes is_token_except_plus mid new stop → option_eq eqb stop (Some plus_byte) ≡ true → Passing is_token_byte old new
-passing_plus {old} {mid} {new} {stop} p passes test =
-    let given = subst (λ s. Given mid new passes.run s) (stopped_by plus_byte stop test) passes.given in
-    passing_with token_byte p (record { run = passes.run; of_class = passes.of_class; given = given }) is_token_plus
-
--- the plus is the last one
-pub last_plus-stop : (at : ℕ) (xs ys : List ℕ) (position : ℕ) → at + (length xs + length ys) ≡ position
-    → last_plus at (xs ++ (ys ++ (plus_byte ∷ []))) ≡ Some position
-last_plus-stop at xs ys position is =
-    ap (last_plus at) (sym (append_assoc xs ys (plus_byte ∷ [])))
-    ∙ last_plus-plus at (xs ++ ys) plus_byte position refl (omega (arith, is, length-append xs ys))
-
--- token bytes were given so far, and then others up to the end, or to a byte that is no plus
-pub subtype_at : {old mid new : Remaining} (stop plus : Option ℕ) (at : ℕ) → (p : Passing is_token_byte old mid) → last_plus at p.run ≡ plus
-    → Passes is_token_except_plus mid new stop → option_eq eqb stop (Some plus_byte) ≡ false → PassesSubtype at old new (plus, stop)
-subtype_at {new = new} stop plus at p is passes other = record {
-  passes = passes_to stop token_byte p (reached passes) (ends stop passes.stopped other);
-  plus = sym (last_plus-run at p.run passes.run passes.of_class ∙ is);
-}
-  where
-    ends : (stop : Option ℕ) → MatchOption stop (new.left ≡ []) (λ b. IsFalse (is_token_except_plus b))
-        → option_eq eqb stop (Some plus_byte) ≡ false → MatchOption stop (new.left ≡ []) (λ b. IsFalse (is_token_byte b))
-    ends None stopped other = stopped
-    ends (Some b) stopped other = false_from_ne_true _ (λ token. true≢false (sym (and_from _ _ token (ap not other)) ∙ stopped))

@@ -1,10 +1,7 @@
--- What a value feeds a hasher: the last word of a part, and that what is fed is prefix-free.
+-- What values feed a hasher is prefix-free: the byte 255 ends each part, and no part has it.
 use Rattle.std.proofs.lemmas.Grind.{common_steps}
-use Rattle.std.proofs.Common.{◌≡◌, ℕ, zero, suc, ◌+◌, ◌-◌, ◌*◌, ◌/◌, ◌%◌, ◌^◌, ◌<◌, get_or, List, [], ◌∷◌, ◌++◌, length, take, drop, replicate, refl, sym, ap, ◌∙◌, arith, true, subst, append-nil, append_assoc, ⊎_elim, rules}
-use Rattle.std.specs.Int.{byte_at, bytes_low_first, to_le_bytes, w64}
-use Rattle.std.proofs.Math.Nat.{pow-suc, mul_comm, div-div-eq-div-mul}
-use Rattle.std.proofs.lemmas.List.{append_assoc, append_cancel_left, take-append-drop}
-use Rattle.mime.specs.Inner.HashInput.{end_word, number_of, words_len, words_input, part_input, pair_input, media_input}
+use Rattle.std.proofs.Common.{◌≡◌, ℕ, List, [], ◌∷◌, ◌++◌, refl, sym, ap, ◌∙◌, arith, true, subst, append-nil, append_assoc, ⊎_elim}
+use Rattle.mime.specs.Inner.HashInput.{pair_input, media_input}
 use Rattle.std.specs.Prelude.{IsUtf8}
 use Rattle.std.specs.List.{list_all, flat_map, concat, AllByRecursion}
 use Rattle.std.proofs.lemmas.Bool.{and_parts, and_from}
@@ -23,45 +20,6 @@ use Rattle.std.proofs.lemmas.Bool.{cases_lt}
 use Rattle.std.proofs.lemmas.Str.{encode_ascii}
 use Rattle.mime.proofs.ValueLemmas.Utf8.{high_bytes}
 use lib.Utf8.{scalars, scalar, encodes, encode}
-
--- ---- the last word of a part, as a number
-
--- a byte of a number is the byte before of its 256th part
-byte_shift : (i n : ℕ) → byte_at (suc i) n ≡ byte_at i (n / 256)
-byte_shift zero n = refl
-byte_shift (suc i) n =
-    ap (λ m. n / m % 256) (pow-suc 256 (suc i) ∙ mul_comm (256 ^ suc i) 256) ∙ ap (λ m. m % 256) (sym (div-div-eq-div-mul n 256 (256 ^ suc i)))
-
-bytes_shift : (i count n : ℕ) → bytes_low_first (suc i) count n ≡ bytes_low_first i count (n / 256)
-bytes_shift i zero n = refl
-bytes_shift i (suc count) n = λ j. byte_shift i n j ∷ bytes_shift (suc i) count n j
-
--- the bytes of 0
-bytes_of_zero : (count : ℕ) → bytes_low_first 0 count 0 ≡ replicate count 0
-bytes_of_zero zero = refl
-bytes_of_zero (suc count) = ap (λ bytes. 0 ∷ bytes) (bytes_shift 0 count 0 ∙ bytes_of_zero count)
-
--- the bytes of that number
-bytes_of_number : (bytes : List ℕ) (count : ℕ) → ((i : ℕ) → get_or bytes i 0 < 256)
-    → bytes_low_first 0 (suc (length bytes + count)) (number_of bytes) ≡ bytes ++ (255 ∷ replicate count 0)
-bytes_of_number [] count fits =
-    let same : 0 + count ≡ count = omega arith in
-    ap (λ bytes. 255 ∷ bytes) (ap (λ n. bytes_low_first 1 n 255) same ∙ bytes_shift 0 count 255 ∙ bytes_of_zero count)
-bytes_of_number (b ∷ bytes) count fits =
-    let number = number_of bytes in
-    let low : (b + 256 * number) % 256 ≡ b = omega (arith, fits 0) in
-    let high : (b + 256 * number) / 256 ≡ number = omega (arith, fits 0) in
-    let many : suc (length bytes) + count ≡ suc (length bytes + count) = omega arith in
-    let rest : bytes_low_first 1 (suc (length bytes) + count) (b + 256 * number) ≡ bytes ++ (255 ∷ replicate count 0) =
-    ap (λ n. bytes_low_first 1 n (b + 256 * number)) many ∙ bytes_shift 0 (suc (length bytes + count)) (b + 256 * number)
-    ∙ ap (bytes_low_first 0 (suc (length bytes + count))) high ∙ bytes_of_number bytes count (λ i. fits (suc i)) in
-    λ j. low j ∷ rest j
-
--- the bytes of the number of a part's last bytes are its last word
-pub end_word-bytes : (rest : List ℕ) → length rest < 8 → ((i : ℕ) → get_or rest i 0 < 256) → to_le_bytes w64 (number_of rest) ≡ end_word rest
-end_word-bytes rest short fits =
-    let size : 8 ≡ suc (length rest + (7 - length rest)) = omega (arith, short) in
-    ap (λ n. bytes_low_first 0 n (number_of rest)) size ∙ bytes_of_number rest (7 - length rest) fits
 
 -- ---- the byte 255
 
@@ -153,37 +111,16 @@ fed-read value (text, utf8, reads) =
 
 -- ---- the bytes that are fed
 
--- the zeros after a part
-abbrev zeros_after : List ℕ → List ℕ
-zeros_after part = replicate (7 - length (drop (words_len part) part)) 0
-
--- the bytes of a part, with its end
-abbrev part_bytes : List ℕ → List ℕ
-part_bytes part = part ++ (255 ∷ zeros_after part)
-
+-- The bytes of a pair, each part with its end.
 abbrev pair_bytes : List ℕ × List ℕ → List ℕ
-pair_bytes pair = part_bytes pair.0 ++ part_bytes pair.1
+pair_bytes pair = pair.0 ++ (255 ∷ (pair.1 ++ (255 ∷ [])))
 
--- whole words feed their bytes, by one call if there are any
-fed_words : (words : List ℕ) (last : List ℕ) → concat (words_input words ++ (last ∷ [])) ≡ words ++ last
-fed_words words last = search rules
-
--- a part feeds these
-fed_part_bytes : (part : List ℕ) → concat (part_input part) ≡ part_bytes part
-fed_part_bytes part =
-    fed_words (take (words_len part) part) (end_word (drop (words_len part) part))
-    ∙ sym (append_assoc (take (words_len part) part) (drop (words_len part) part) (255 ∷ zeros_after part))
-    ∙ ap (λ whole. whole ++ (255 ∷ zeros_after part)) (take-append-drop (words_len part) part)
-
-fed_pair_bytes : (pair : List ℕ × List ℕ) → concat (pair_input pair) ≡ pair_bytes pair
-fed_pair_bytes pair =
-    concat-append (part_input pair.0) (part_input pair.1) ∙ (λ i. fed_part_bytes pair.0 i ++ fed_part_bytes pair.1 i)
-
+-- Pairs feed their bytes.
 fed_pairs_bytes : (pairs : List (List ℕ × List ℕ)) → concat (flat_map pair_input pairs) ≡ flat_map pair_bytes pairs
 fed_pairs_bytes [] = refl
 fed_pairs_bytes (pair ∷ pairs) =
     ap concat (flat_map-cons pair_input pair pairs) ∙ concat-append (pair_input pair) (flat_map pair_input pairs)
-    ∙ (λ i. fed_pair_bytes pair i ++ fed_pairs_bytes pairs i) ∙ sym (flat_map-cons pair_bytes pair pairs)
+    ∙ ap (λ bytes. pair_bytes pair ++ bytes) (fed_pairs_bytes pairs) ∙ sym (flat_map-cons pair_bytes pair pairs)
 
 -- a value feeds the bytes of its pairs, its essence, and the byte 255
 media_bytes : (media : MediaType) (after : List ℕ)
@@ -194,15 +131,8 @@ media_bytes media after =
 -- the bytes of pairs, and what follows them
 more_bytes : (pair : List ℕ × List ℕ) (pairs : List (List ℕ × List ℕ)) (after : List ℕ)
     → flat_map pair_bytes (pair ∷ pairs) ++ after
-    ≡ pair.0 ++ (255 ∷ (zeros_after pair.0 ++ (pair.1 ++ (255 ∷ (zeros_after pair.1 ++ (flat_map pair_bytes pairs ++ after))))))
+    ≡ pair.0 ++ (255 ∷ (pair.1 ++ (255 ∷ (flat_map pair_bytes pairs ++ after))))
 more_bytes pair pairs after = grind (arith, common_steps)
-
--- two runs that begin with a part and its end: the parts are the same, and so is what follows
-first_part : (x y m n : List ℕ) → AreTextBytes x → AreTextBytes y → x ++ (255 ∷ (zeros_after x ++ m)) ≡ y ++ (255 ∷ (zeros_after y ++ n))
-    → (x ≡ y) × (m ≡ n)
-first_part x y m n one other same =
-    let cut = first_end x y _ _ one other same in
-    (cut.0, append_cancel_left (zeros_after y) m n (ap (λ part. zeros_after part ++ m) (sym cut.0) ∙ cut.1))
 
 -- pairs and essences whose bytes begin with the same are the same
 pairs_same : (xs ys : List (List ℕ × List ℕ)) (one other m n : List ℕ) → AllByRecursion IsFedPair xs → AllByRecursion IsFedPair ys
@@ -218,9 +148,9 @@ pairs_same (x ∷ xs) [] one other m n first second text also slash slashed same
     let cut = first_end x.0 other _ n (are_other-token 255 refl x.0 first.0.0) also (sym (more_bytes x xs _) ∙ same) in
     absurd (slashed (subst AreTokenBytes cut.0 first.0.0))
 pairs_same (x ∷ xs) (y ∷ ys) one other m n first second text also slash slashed same =
-    let named = first_part x.0 y.0 _ _ (are_other-token 255 refl x.0 first.0.0) (are_other-token 255 refl y.0 second.0.0)
+    let named = first_end x.0 y.0 _ _ (are_other-token 255 refl x.0 first.0.0) (are_other-token 255 refl y.0 second.0.0)
     (sym (more_bytes x xs _) ∙ same ∙ more_bytes y ys _) in
-    let valued = first_part x.1 y.1 _ _ first.0.1 second.0.1 named.1 in
+    let valued = first_end x.1 y.1 _ _ first.0.1 second.0.1 named.1 in
     let rest = pairs_same xs ys one other m n first.1 second.1 text also slash slashed valued.1 in
     (rest.0, λ i. (named.0 i, valued.0 i) ∷ rest.1 i)
 

@@ -5,7 +5,7 @@ use Rattle.std.proofs.lemmas.List.{take_at, drop_at, take_all, take-append-drop}
 use Rattle.mime.specs.Bytes.{slash_byte, semicolon_byte}
 use Rattle.mime.specs.Grammar.{Parameters, blank, final, more, Tail, no_list, listed, SyntaxTree, text_of, text_of_tail, text_of_list, AreParameters, IsTail, IsWellFormed}
 use Rattle.mime.specs.Values.{MediaType, Reads, value_of, essence_of, kept_text, lowered, lowered_tree, last_plus, pairs_of_list, pairs_of_tail}
-use Rattle.mime.specs.Inner.Pairs.{pairs_within, lowered_within}
+use Rattle.mime.specs.Inner.Pairs.{HasPairs, pairs_within, lowered_within}
 use Rattle.mime.specs.Inner.Scanning.{HasPositions, positions_of, semicolon_of, before_list}
 use Rattle.mime.specs.Inner.KeptText.{media_of, IsKept, with_pairs_lowered, kept_text_of, kept_positions}
 use Rattle.mime.specs.declared.scan.Positions.{Positions}
@@ -220,6 +220,21 @@ pub slice_get-semicolon : (text : List ℕ) (positions : Positions) (s : ℕ) �
 slice_get-semicolon text positions s has is =
     at_tree (λ t q. q.semicolon ≡ Some s → slice_get t s ≡ Some semicolon_byte) text positions has
     (semicolon-there has.tree.top has.tree.sub has.tree.tail s) is
+
+-- The list of a tree has the tree's pairs.
+list-there : (top sub : List ℕ) (tail : Tail) (s : ℕ) → IsTail tail → semicolon_of (length top + 1 + length sub) tail ≡ Some s
+    → HasPairs (length (pairs_of_tail tail)) (drop (s + 1) (text_of (tree_with top sub tail)))
+list-there top sub no_list s well is = absurd cc
+list-there top sub (listed list) s well is =
+    let position : length top + 1 + length sub ≡ s = cc in
+    (list, well, sym (ap (λ n. drop (n + 1) (text_of (tree_with top sub (listed list)))) (sym position) ∙ drop-to_semicolon top sub (text_of_list list)), refl)
+
+-- The list of an accepted text has the pairs that are counted.
+pub pairs-from_positions : (text : List ℕ) (positions : Positions) (s : ℕ) → HasPositions text positions → positions.semicolon ≡ Some s
+    → HasPairs positions.pair_count (drop (s + 1) text)
+pairs-from_positions text positions s has is =
+    at_tree (λ t q. q.semicolon ≡ Some s → HasPairs q.pair_count (drop (s + 1) t)) text positions has
+    (list-there has.tree.top has.tree.sub has.tree.tail s has.well_formed.2) is
 
 -- the kept text of a text with a pair is that text with some parts lowercased
 pub kept-in_part : (count s : ℕ) (text : List ℕ)

@@ -93,17 +93,22 @@ without_spaces-token n (b ∷ name) after white is =
     drop_at n (b ∷ name ++ after) (leading_spaces (n ++ (b ∷ name ++ after)))
     (sym (run_to is_space n b (name ++ after) white (token_byte-not_space b first.0)))
 
--- a name is cut from the spaces before it up to the equals sign
-cut_of-named : (n name after : List ℕ) → AreSpaces n → IsToken name
-    → cut_of (n ++ (name ++ (equals_byte ∷ after))) ≡ cut_after_equals (length (n ++ (name ++ (equals_byte ∷ after)))) name after
-unfolding cut_of is_token_byte
-cut_of-named n name after white is =
+-- A name is cut from the spaces before it up to the equals sign, and what follows that is left.
+pub name-cut : (n name after : List ℕ) → AreSpaces n → IsToken name → let body = without_spaces (n ++ (name ++ (equals_byte ∷ after))) in
+    (before_byte equals_byte body ≡ name) × (after_byte equals_byte body ≡ after)
+unfolding is_token_byte
+name-cut n name after white is =
     let others = are_other-token equals_byte refl name (AreTokenBytes-from_token name is) in
-    rw (
-      without_spaces-token n name (equals_byte ∷ after) white is,
+    rw (without_spaces-token n name (equals_byte ∷ after) white is) (
       before_byte-run equals_byte name (equals_byte ∷ after) after others (ended after),
       after_byte-run equals_byte name (equals_byte ∷ after) after others (ended after),
     )
+
+-- The first pair is cut with that name from what follows it.
+cut_of-named : (n name after : List ℕ) → AreSpaces n → IsToken name
+    → cut_of (n ++ (name ++ (equals_byte ∷ after))) ≡ cut_after_equals (length (n ++ (name ++ (equals_byte ∷ after)))) name after
+unfolding cut_of
+cut_of-named n name after white is = let cut = name-cut n name after white is in rw (cut.0, cut.1)
 
 -- the text before the value of a parameter
 abbrev head_of : Parameter → List ℕ
@@ -127,7 +132,7 @@ head_counted : (n name opening after : List ℕ)
 head_counted n name opening after = grind (arith, common_steps)
 
 -- the first pair cut from the text of a parameter and what follows it
-cut_of-parameter : (n : List ℕ) (p : Parameter) (follow rest : List ℕ) → AreSpaces n → IsParameter p
+pub cut_of-parameter : (n : List ℕ) (p : Parameter) (follow rest : List ℕ) → AreSpaces n → IsParameter p
     → IsFollow semicolon_byte follow rest
     → cut_of (n ++ (text_of_parameter p ++ follow))
     ≡ record { name = (pair_of p).0; value_start = length (n ++ head_of p); value = (pair_of p).1; rest = rest }
@@ -157,7 +162,7 @@ pairs_within-text_of_list (more n p rest) (white, well, others) =
     ∙ ap (λ pairs. pair_of p ∷ pairs) (pairs_within-text_of_list rest others)
 
 -- spaces are in lowercase already
-lowered-spaces : (bytes : List ℕ) → AreSpaces bytes → lowered bytes ≡ bytes
+pub lowered-spaces : (bytes : List ℕ) → AreSpaces bytes → lowered bytes ≡ bytes
 lowered-spaces [] white = refl
 lowered-spaces (b ∷ bytes) white =
     let parts = and_parts (is_space b) (list_all is_space bytes) white in
@@ -172,7 +177,7 @@ lowered_parameter-parts (plain name value) after = rw (lowered-append name (equa
 lowered_parameter-parts (quoted name content n) after = rw (lowered-append name (equals_byte ∷ quote_byte ∷ [])) (simp append_assoc)
 
 -- a list lowercased pair by pair: its first parameter, and then the rest
-lowered_within-parameter : (count : ℕ) (n : List ℕ) (p : Parameter) (between rest : List ℕ) → AreSpaces n → IsParameter p
+pub lowered_within-parameter : (count : ℕ) (n : List ℕ) (p : Parameter) (between rest : List ℕ) → AreSpaces n → IsParameter p
     → IsFollow semicolon_byte (between ++ rest) rest
     → lowered_within (suc count) (n ++ (text_of_parameter p ++ (between ++ rest)))
     ≡ n ++ (text_of_parameter (lowered_parameter p) ++ (between ++ lowered_within count rest))

@@ -128,6 +128,29 @@ pub lowered_to-sizes : (bytes left : List ℕ) (from count : ℕ) (whole : List 
 lowered_to-sizes bytes left from count whole so_far =
     omega (arith, so_far.at, ap length so_far.parts, length-append so_far.done (so_far.between ++ left), length-append so_far.between left)
 
+-- A part that begins where bytes are to be lowercased, lowercased up to a position of the list.
+part_written : (bytes left part : List ℕ) (from count n k : ℕ) (whole : List ℕ) (so_far : IsLoweredTo bytes left from count whole)
+    → n ≡ length so_far.between + k → let P = take (length bytes - from) (drop from bytes) in part ≡ lowered (take n P) ++ drop n P
+    → part ≡ lowered so_far.between ++ (lowered (take k left) ++ drop k left)
+part_written bytes left part from count n k whole so_far there lowers =
+    let done = so_far.done in
+    let between = so_far.between in
+    let behind : drop from bytes ≡ between ++ left = ap (drop from) so_far.parts ∙ drop_at done (between ++ left) from so_far.at in
+    let P : take (length bytes - from) (drop from bytes) ≡ between ++ left = take_rest bytes from ∙ behind in
+    let tail : left ≡ drop (length between) (between ++ left) = sym (drop_at between left (length between) refl) in
+    lowers ∙ (λ i. lowered (take (there i) (P i)) ++ drop (there i) (P i))
+    ∙ lowered_start-end (between ++ left) left (length between) k tail
+    ∙ rw (take_at between left (length between) refl) refl
+
+-- The bytes with that part in its place are those that are done, and the part.
+part_put : (bytes left part : List ℕ) (from count : ℕ) (whole : List ℕ) (so_far : IsLoweredTo bytes left from count whole)
+    → put_mid from (length bytes - from) bytes part ≡ so_far.done ++ part
+part_put bytes left part from count whole so_far =
+    let before : take from bytes ≡ so_far.done = ap (take from) so_far.parts ∙ take_at so_far.done (so_far.between ++ left) from so_far.at in
+    let back : drop (length bytes - from) (drop from bytes) ≡ [] =
+    drop_all (length bytes - from) (drop from bytes) (omega (arith, length-drop from bytes)) in
+    rw (before, back) (ap (λ x. so_far.done ++ x) (append-nil part))
+
 -- the next pair is lowercased, and what is before it
 pub lowered_to-more : (bytes left part rest : List ℕ) (from low count next : ℕ) (whole : List ℕ) (so_far : IsLoweredTo bytes left from count whole)
     → count ≡ suc next → low ≡ cond (is_charset (cut_of left).name) (length (cut_of left).value) 0
@@ -138,24 +161,15 @@ pub lowered_to-more : (bytes left part rest : List ℕ) (from low count next : �
 lowered_to-more bytes left part rest from low count next whole so_far counts low_is lowers rests =
     let lies = cut_of-lies left in
     let first = first_lowered left lies in
-    let k = (cut_of left).value_start + low in
     let done = so_far.done in
     let between = so_far.between in
     let new = put_mid from (length bytes - from) bytes part in
-    let sizes = lowered_to-sizes bytes left from count whole so_far in
-    let behind : drop from bytes ≡ between ++ left = ap (drop from) so_far.parts ∙ drop_at done (between ++ left) from so_far.at in
-    let before : take from bytes ≡ done = ap (take from) so_far.parts ∙ take_at done (between ++ left) from so_far.at in
-    let P : take (length bytes - from) (drop from bytes) ≡ between ++ left = take_rest bytes from ∙ behind in
-    let n : length bytes - length left - from + k ≡ length between + k = omega (arith, sizes) in
-    let tail : left ≡ drop (length between) (between ++ left) = sym (drop_at between left (length between) refl) in
     let written : part ≡ lowered between ++ (first ++ rest) =
-    lowers ∙ (λ i. lowered (take (n i) (P i)) ++ drop (n i) (P i))
-    ∙ lowered_start-end (between ++ left) left (length between) k tail
-    ∙ rw (take_at between left (length between) refl)
-    (ap (λ x. lowered between ++ x) (lowered_first-start left low low_is ∙ lowered_first-joined left lies ∙ ap (λ x. first ++ x) (sym rests))) in
-    let back : drop (length bytes - from) (drop from bytes) ≡ [] =
-    drop_all (length bytes - from) (drop from bytes) (omega (arith, length-drop from bytes)) in
-    let parts : new ≡ (done ++ (lowered between ++ first)) ++ rest = rw (before, back, written) (simp (append_assoc, append-nil)) in
+    part_written bytes left part from count _ ((cut_of left).value_start + low) whole so_far
+    (omega (arith, lowered_to-sizes bytes left from count whole so_far)) lowers
+    ∙ ap (λ x. lowered between ++ x) (lowered_first-start left low low_is ∙ lowered_first-joined left lies ∙ ap (λ x. first ++ x) (sym rests)) in
+    let parts : new ≡ (done ++ (lowered between ++ first)) ++ rest =
+    part_put bytes left part from count whole so_far ∙ rw written (simp append_assoc) in
     record {
       done = done ++ (lowered between ++ first);
       between = [];
@@ -168,3 +182,14 @@ lowered_to-more bytes left part rest from low count next whole so_far counts low
           ∙ so_far.comes;
       none = λ _. refl;
     }
+
+-- The last pair is lowercased, and what is before it, up to a position of the list after which nothing changes.
+pub lowered_to-last : (bytes left part : List ℕ) (from count n k : ℕ) (whole : List ℕ) → IsLoweredTo bytes left from count whole
+    → n + from ≡ length bytes - length left + k → lowered (take k left) ++ drop k left ≡ lowered_within count left
+    → let P = take (length bytes - from) (drop from bytes) in part ≡ lowered (take n P) ++ drop n P
+    → put_mid from (length bytes - from) bytes part ≡ whole
+lowered_to-last bytes left part from count n k whole so_far there last lowers =
+    let sizes = lowered_to-sizes bytes left from count whole so_far in
+    let written = part_written bytes left part from count n k whole so_far (omega (arith, sizes, there)) lowers in
+    part_put bytes left part from count whole so_far
+    ∙ ap (λ x. so_far.done ++ x) (written ∙ ap (λ x. lowered so_far.between ++ x) last) ∙ so_far.comes

@@ -3,23 +3,21 @@ use Rattle.std.proofs.lemmas.Grind.{common_steps}
 use Rattle.std.proofs.Common.{⊎_elim, ◌≡◌, ◌≢◌, ℕ, zero, suc, ◌+◌, ◌<◌, ◌≤◌, Bool, true, false, List, [], ◌∷◌, ◌++◌, length, get_or, drop, refl, sym, ap, ◌∙◌, arith, ◌-◌, take, subst, append-nil, append_assoc, length-append, rules}
 use Rattle.std.specs.Prelude.{IsTrue, ◌==◌, ◌&&◌, not, Option, Some, codes}
 use Rattle.std.specs.List.{position_or_len}
-use Rattle.std.specs.Char.{to_ascii_lowercase}
 use Rattle.std.specs.Str.{IsUtf8, IsCharBoundary, bytes_eq}
 use Rattle.std.proofs.lemmas.Str.{IsCharBoundary-start, IsCharBoundary-after_ascii}
 use Rattle.std.proofs.lemmas.Bool.Decides.{nat_tests}
-use Rattle.std.proofs.lemmas.List.Sums.{prefix_len_passes, prefix_len_stops, prefix_len-le-length}
-use Rattle.std.proofs.lemmas.List.Folds.{length-prefix_len, list_any_at}
-use Rattle.std.proofs.lemmas.List.{take_at, drop_at, drop-drop, take-append-drop, get_or-take, length-take}
-use Rattle.std.proofs.lemmas.Bool.{and_parts, cases_Bool, cases_lt, cond-false, eqb-true, true≢false, cond_both}
+use Rattle.std.proofs.lemmas.List.Sums.{prefix_len_passes, prefix_len-le-length}
+use Rattle.std.proofs.lemmas.List.{take_at, drop_at, drop-drop, take-append-drop}
+use Rattle.std.proofs.lemmas.Bool.{and_parts, cases_Bool, cond-false, eqb-true, true≢false, cond_both}
 use Rattle.mime.specs.Bytes.{quote_byte, backslash_byte, equals_byte}
 use Rattle.mime.specs.Grammar.{IsContent, is_space}
 use Rattle.mime_search.specs.Rests.{first_position, before_byte, after_byte}
 use Rattle.mime.specs.Inner.Quoted.{awaits_next, takes, takes_all, awaits_after, len_from, content_len}
 use Rattle.mime.proofs.GrammarLemmas.Content.{taken-closes_not, content-taken, content-awaits}
 use Rattle.mime.specs.Values.{lowered, lowered_value}
-use Rattle.mime.specs.Inner.Pairs.{PairCut, cut_after_equals, leading_spaces, without_spaces, cut_of, pairs_within, has_equals, lowered_first, lowered_within}
+use Rattle.mime.specs.Inner.Pairs.{PairCut, cut_after_equals, leading_spaces, without_spaces, cut_of, pairs_within, lowered_first, lowered_within}
 use Rattle.mime.specs.Items.{items_of, IsFirstAccepted}
-use Rattle.mime.proofs.LowercaseLemmas.{lowered_value-either, length-lowered}
+use Rattle.mime.proofs.LowercaseLemmas.{lowered_value-either}
 use Rattle.mime.proofs.ValueLemmas.Utf8.{IsLoweredInPart, same, lowercase, in_parts}
 
 -- ---- the spaces with which a list begins
@@ -239,73 +237,3 @@ pub found-next : (Accepts : List ℕ → Bool → Type 0) (count : ℕ) (list : 
     → IsFirstAccepted Accepts (items_of (pairs_within count list)) found
 found-next Accepts count list found some other rest =
     rw (pairs_within-first count list some) (λ accepted. absurd (other accepted), λ _. rest)
-
--- ---- a name of a known length
-
--- an equals sign isn't before the first one
-pub first_equals-le : (text : List ℕ) (n : ℕ) → get_or text n 0 ≡ equals_byte → first_position equals_byte text ≤ n
-first_equals-le text n is = ⊎_elim
-    (λ (before : n < first_position equals_byte text).
-    absurd (true≢false (sym (subst (λ b. not (b == equals_byte) ≡ true) is (prefix_len_passes (λ b. not (b == equals_byte)) text n 0 before)))))
-    (λ (after : first_position equals_byte text ≤ n). after)
-    (cases_lt n (first_position equals_byte text))
-
--- at the first position of an equals sign there is one, or the text ends
-get_or-first_equals : (text : List ℕ) → first_position equals_byte text < length text
-    → get_or text (first_position equals_byte text) 0 == equals_byte ≡ true
-get_or-first_equals text within =
-    grind (arith, nat_tests, prefix_len_stops (λ b. not (b == equals_byte)) text 0 within)
-
--- the first position of an equals sign isn't that of any other byte
-pub first_equals-other : (text : List ℕ) (n : ℕ) → n < length text → get_or text n 0 ≢ equals_byte → first_position equals_byte text ≢ n
-first_equals-other text n within other is =
-    other (subst (λ k. get_or text k 0 ≡ equals_byte) is (eqb-true _ equals_byte (get_or-first_equals text (omega (arith, within, is)))))
-
--- lowercasing neither adds an equals sign nor takes one away
-has_equals-lowered : (text : List ℕ) → has_equals (lowered text) ≡ has_equals text
-has_equals-lowered [] = refl
-has_equals-lowered (b ∷ text) =
-    let equals : (to_ascii_lowercase b == equals_byte) ≡ (b == equals_byte) = grind (arith, nat_tests) in
-    rw (equals, has_equals-lowered text)
-
-has_equals-case : (text other : List ℕ) → lowered text ≡ lowered other → has_equals text ≡ has_equals other
-has_equals-case text other is = sym (has_equals-lowered text) ∙ ap has_equals is ∙ has_equals-lowered other
-
--- the text before the first equals sign is as long as its position says, and has none
-length-before_equals : (text : List ℕ) → length (before_byte equals_byte text) ≡ first_position equals_byte text
-length-before_equals text = length-prefix_len (λ b. not (b == equals_byte)) text
-
-has_equals-before : (text : List ℕ) → has_equals (before_byte equals_byte text) ≡ false
-has_equals-before [] = refl
-has_equals-before (b ∷ text) = ⊎_elim
-    (λ (is : b == equals_byte ≡ true). rw is refl)
-    (λ (other : b == equals_byte ≡ false).
-    let on : suc (first_position equals_byte text) ≡ first_position equals_byte (b ∷ text) = rw other (omega arith) in
-    subst (λ n. has_equals (take n (b ∷ text)) ≡ false) on (rw other (has_equals-before text)))
-    (cases_Bool (b == equals_byte))
-
--- a name that is a text but for case is as long, and so no equals sign is in the text
-pub first_equals-named : (list text : List ℕ) → lowered (cut_of list).name ≡ lowered text
-    → first_position equals_byte (without_spaces list) ≡ length text
-first_equals-named list text is =
-    sym (length-before_equals (without_spaces list)) ∙ ap length (cut_of-name list _ refl)
-    ∙ sym (length-lowered (cut_of list).name) ∙ ap length is ∙ length-lowered text
-
-pub has_equals-named : (list text : List ℕ) → lowered (cut_of list).name ≡ lowered text → has_equals text ≡ false
-has_equals-named list text is =
-    sym (has_equals-case (cut_of list).name text is) ∙ ap has_equals (sym (cut_of-name list _ refl)) ∙ has_equals-before (without_spaces list)
-
--- bytes that are a text without an equals sign but for case end at the first one, if that isn't after them
-pub first_equals-taken : (body text : List ℕ) → lowered (take (length text) body) ≡ lowered text → has_equals text ≡ false
-    → first_position equals_byte body ≤ length text → first_position equals_byte body ≡ length text
-first_equals-taken body text is none least = ⊎_elim
-    (λ (before : first_position equals_byte body < length text).
-    let at = first_position equals_byte body in
-    let size : length (take (length text) body) ≡ length text = sym (length-lowered _) ∙ ap length is ∙ length-lowered text in
-    let within : at < length body = omega (arith, before, size, length-take (length text) body) in
-    let there = get_or-take (length text) body at 0 before in
-    absurd (true≢false (
-    sym (list_any_at (λ b. b == equals_byte) (take (length text) body) at 0 (omega (arith, before, size)) (rw there (get_or-first_equals body within)))
-    ∙ has_equals-case _ text is ∙ none)))
-    (λ (after : length text ≤ first_position equals_byte body). omega (arith, after, least))
-    (cases_lt (first_position equals_byte body) (length text))

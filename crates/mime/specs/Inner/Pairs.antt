@@ -1,12 +1,12 @@
 -- The pairs of a parameter list's text, cut from the left.
-use Rattle.std.specs.Prelude.{ℕ, zero, suc, Bool, ◌+◌, ◌-◌, List, [], ◌∷◌, ◌++◌, length, take, drop, Option, None, Some, if◌then◌else◌, ◌==◌}
+use Rattle.std.specs.Prelude.{◌≡◌, ℕ, zero, suc, Bool, ◌+◌, ◌-◌, List, [], ◌∷◌, ◌++◌, length, take, drop, Option, None, Some, if◌then◌else◌, ◌==◌}
 use Rattle.std.specs.Borrow.{Bor}
 use Rattle.std.specs.List.{prefix_len, list_any}
 use Rattle.mime_search.specs.Rests.{before_byte, after_byte}
 use Rattle.mime.specs.Bytes.{semicolon_byte, equals_byte, quote_byte}
-use Rattle.mime.specs.Grammar.{is_space}
+use Rattle.mime.specs.Grammar.{Parameters, AreParameters, text_of_list, is_space}
 use Rattle.mime.specs.Inner.Quoted.{content_of, after_content}
-use Rattle.mime.specs.Values.{lowered, lowered_value}
+use Rattle.mime.specs.Values.{lowered, lowered_value, pairs_of_list}
 
 -- the first pair of a list: its name, the number of bytes before its value, its value without
 -- quotes, and the list after its semicolon
@@ -37,6 +37,10 @@ unfoldable pub cut_of : List ℕ → PairCut
 cut_of list =
     let body = without_spaces list in
     cut_after_equals (length list) (before_byte equals_byte body) (after_byte equals_byte body)
+
+-- the text is that of a well-formed list with this number of pairs
+abbrev pub HasPairs : ℕ → List ℕ → Type 0
+HasPairs count text = (list : Parameters) × AreParameters list × (text_of_list list ≡ text) × (length (pairs_of_list list) ≡ count)
 
 -- whether there is an equals sign in a text
 abbrev pub has_equals : List ℕ → Bool

@@ -1,8 +1,8 @@
 -- What the reader has left, what a pass over it leaves, and what the scanner finds.
-use Rattle.std.specs.Prelude.{◌≡◌, ℕ, ◌+◌, ◌-◌, ◌<◌, ◌≤◌, Bool, IsTrue, IsFalse, List, [], ◌++◌, length, take, drop, Option, Some, None, MatchOption, ⊤}
+use Rattle.std.specs.Prelude.{◌≡◌, ℕ, ◌+◌, ◌-◌, ◌<◌, ◌≤◌, Bool, IsTrue, IsFalse, List, [], ◌∷◌, ◌++◌, length, take, drop, Option, Some, None, MatchOption, ⊤}
 use Rattle.std.specs.Option.{option_to_list}
 use Rattle.std.specs.List.{list_all}
-use Rattle.mime.specs.Bytes.{is_token_byte}
+use Rattle.mime.specs.Bytes.{is_token_byte, plus_byte}
 use Rattle.mime.specs.Grammar.{blank, Tail, no_list, listed, SyntaxTree, text_of, IsToken, IsWellFormed}
 use Rattle.mime.specs.Values.{last_plus, pairs_of_tail, IsRejected}
 use Rattle.mime.specs.Faults.{IsViable, IsDeadAt, IsFault}
@@ -37,6 +37,12 @@ pub record Passes (class : ℕ → Bool) (old new : Remaining) (stop : Option �
   pub of_class : IsTrue (list_all class run)
   pub given : Given old new run stop
   pub stopped : MatchOption stop (new.left ≡ []) (λ b. IsFalse (class b))
+
+-- a run of token bytes was passed after a plus, and the last plus is this number of bytes after that plus
+pub record PassesPluses (old new : Remaining) (count : ℕ) : Type 0 where
+  pub passing : Passing is_token_byte old new
+  pub last : (at : ℕ) → last_plus at (plus_byte ∷ passing.run) ≡ Some (at + count)
+  pub within : count ≤ length passing.run
 
 -- the positions of a tree's parts in its text
 abbrev pub semicolon_of : ℕ → Tail → Option ℕ

@@ -1,10 +1,11 @@
 //! A reader that counts the bytes that it has returned or skipped.
 
-ghost use Rattle.std.specs.Prelude.{◌≡◌, ◌≢◌, ◌+◌, ◌-◌, ◌<◌, ◌≤◌, ◌^◌, [], true, false, length, drop, not, IsTrue, None, Some};
+ghost use Rattle.std.specs.Prelude.{ℕ, ◌≡◌, ◌≢◌, ◌+◌, ◌-◌, ◌<◌, ◌≤◌, ◌^◌, [], true, false, length, drop, not, IsTrue, None, Some};
 ghost use Rattle.std.specs.List.{prefix_len};
 ghost use Rattle.mime.specs.Bytes.{is_quoted_text_byte};
 ghost use Rattle.mime.specs.Inner.ByteClasses.{is_token_except_plus, token_bytes};
-ghost use Rattle.mime.specs.Inner.Scanning.{GivesFirst, Passing, Reaches};
+ghost use Rattle.mime.specs.Inner.Remaining.{reader_at};
+ghost use Rattle.mime.specs.Inner.Scanning.{GivesFirst, Passing, PassesPluses, Reaches};
 ghost use Rattle.mime_search.specs.Classes.{is_stop};
 
 use crate::bytes::{is_in_token, is_token};
@@ -82,6 +83,30 @@ fn end_far(text: &[u8], from: usize, with_plus: bool) -> usize
         return end_past_pluses(text, from);
     }
     end_at_plus(text, from)
+}
+
+/// Skips the token bytes from `from` on, which follow a plus. Returns the position after them, and the position after
+/// their last plus, or `from` if they have none. This function isn't inlined: few subtypes have more than one plus.
+#[inline(never)]
+fn end_and_last_plus(text: &[u8], from: usize) -> (usize, usize)
+    requires { from ≤ length text.now }
+    ensures within { result.0 ≤ length text.now }
+    ensures order { from ≤ result.1 }
+    ensures passes { (before : ℕ) → PassesPluses (reader_at text.now from before) (reader_at text.now result.0 before) (result.1 - from) }
+{
+    let mut at = from;
+    let mut after_plus = from;
+    while at < text.len() {
+        let byte = text[at];
+        if !is_token(byte) {
+            return (at, after_plus);
+        }
+        at += 1;
+        if byte == b'+' {
+            after_plus = at;
+        }
+    }
+    (at, after_plus)
 }
 
 impl<'a> Model for ByteReader<'a> {
@@ -198,6 +223,25 @@ impl<'a> ByteReader<'a> {
         self.next()
     }
 
+    /// Skips the rest of a token after a plus, in the reader of a `MimeIter`, if the token may have many pluses
+    /// (`may_be_many`). Otherwise skips nothing. Returns the number of bytes up to and including the last plus that was
+    /// skipped, or 0.
+    #[inline(always)]
+    pub(crate) fn skip_pluses(&mut self, may_be_many: bool) -> usize
+        ensures { PassesPluses self.old self.new result }
+    {
+        if self.near == usize::MAX {
+            return 0;
+        }
+        if !may_be_many {
+            return 0;
+        }
+        let from = self.at;
+        let (end, after_plus) = end_and_last_plus(self.text, from);
+        self.at = end;
+        after_plus - from
+    }
+
     /// Skips bytes, block by block, up to the first byte of `class`. If less than a block is left, skips nothing.
     #[inline(always)]
     fn skip_blocks(&mut self, class: &Class)
@@ -228,34 +272,19 @@ impl<'a> ByteReader<'a> {
         Some(self.text[stop])
     }
 
-    /// Returns `false` only if a known byte ends the subtype being read, and the string is rejected there.
-    #[inline(always)]
-    fn may_go_on(&self) -> bool {
-        if self.at >= self.known {
-            return true;
-        }
-        let stops = self.stops >> self.at;
-        if stops == 0 {
-            return true;
-        }
-        let stop = self.text[self.at + stops.trailing_zeros() as usize];
-        stop == b';' || is_token(stop)
-    }
-
-    /// Makes up to `WINDOW` bytes known, if only a block is known and `may_go_on` returns `true`. Most rejected strings
-    /// are rejected within this block.
+    /// Makes up to `WINDOW` bytes known, if only a block is known.
     #[inline(always)]
     pub(crate) fn look_further(&mut self)
         ensures { self.new ≡ self.old }
     {
-        if self.known == BLOCK && self.known < self.text.len() && self.may_go_on() {
+        if self.known == BLOCK && self.known < self.text.len() {
             let window = &self.text[..self.text.len().min(WINDOW)];
             self.stops = stops_in_window(window, self.stops, &TOKEN_STOPS);
             self.known = window.len();
         }
     }
 
-    /// Skips bytes of quoted text if the next byte is known. Some of the quoted text may remain.
+    /// May skip quoted text, and nothing else.
     #[inline(always)]
     pub(crate) fn skip_quoted_text(&mut self)
         ensures { Passing is_quoted_text_byte self.old self.new }

@@ -5,10 +5,11 @@ ghost use Rattle.mime.specs.Bytes.{semicolon_byte};
 ghost use Rattle.mime.specs.Values.{lowered, is_charset};
 ghost use Rattle.mime.specs.Inner.Scanning.{HasPositions};
 ghost use Rattle.mime.specs.Inner.KeptText.{with_pairs_lowered, kept_positions, kept_text_of};
+ghost use Rattle.mime.specs.Inner.Pairs.{HasPairs};
 
 use crate::name::constants::CHARSET;
 use crate::scan::Positions;
-use crate::value::pairs::cut;
+use crate::value::pairs::{cut, cut_name};
 use mime_search::{BLOCK, Rest, eq_ignore_ascii_case};
 use std::alloc::{AllocError, Global};
 
@@ -58,34 +59,40 @@ fn lowercase_start(bytes: &mut [u8], len: usize)
     lowercase_range(bytes, len - BLOCK, len);
 }
 
-/// Returns how many bytes of a parameter's value are lowercased: all if the parameter's name is `charset`, else none.
+/// Returns how many of the `len` bytes of a parameter's value are lowercased: all if the parameter's name is `charset`,
+/// else none.
 #[inline(always)]
-fn low_len(name: &str, value: &str) -> usize
-    ensures { result ≡ if is_charset name.now then length value.now else 0 }
+fn low_len(name: &str, len: usize) -> usize
+    ensures { result ≡ if is_charset name.now then len else 0 }
 {
-    if names_charset(name) { value.len() } else { 0 }
+    if names_charset(name) { len } else { 0 }
 }
 
-/// Lowercases everything up to position `semicolon`, the names of the first `count` pairs, and the values of `charset`.
-/// `bytes` is a copy of the bytes of `text`. This function isn't inlined: most strings have no capital.
+/// Lowercases everything up to position `semicolon`, the names of the `count` pairs, and the values of `charset`. `bytes`
+/// is a copy of the bytes of `text`. This function isn't inlined: most strings have no capital.
 #[cold]
 #[inline(never)]
 pub(crate) fn lowercase_text(bytes: &mut [u8], text: &str, semicolon: usize, count: usize)
     requires same { bytes.old ≡ text.now }
     requires parted { slice_get text.now semicolon ≡ Some semicolon_byte }
+    requires pairs { HasPairs count (drop (semicolon + 1) text.now) }
     requires some { 0 < count }
     ensures { bytes.new ≡ with_pairs_lowered count semicolon text.now }
 {
     let mut left = Rest::of(text, semicolon + 1);
     let mut from = 0;
-    for _ in 0..count {
+    for _ in 1..count {
         let start = bytes.len() - left.len();
         let pair = cut(&left);
-        let low = pair.value_start + low_len(pair.name, pair.value);
+        let low = pair.value_start + low_len(pair.name, pair.value.len());
         lowercase_start(&mut bytes[from..], start - from + low);
         from = bytes.len() - pair.rest.len();
         left = pair.rest;
     }
+    // Where the last value ends isn't needed, since no capital follows it.
+    let (name, end) = cut_name(&left);
+    let low = bytes.len() - end.len() + low_len(name, end.len());
+    lowercase_start(&mut bytes[from..], low - from);
 }
 
 /// Returns the kept text of a string with `count` pairs after position `semicolon`. Only the parts that ignore case are lowercased.
@@ -97,6 +104,7 @@ fn keep_pairs(
     count: usize,
 ) -> Result<String, AllocError>
     requires parted { slice_get text.now semicolon ≡ Some semicolon_byte }
+    requires pairs { HasPairs count (drop (semicolon + 1) text.now) }
     requires some { 0 < count }
     ensures { IfOk result (λ kept. string_bytes kept ≡ with_pairs_lowered count semicolon text.now) }
 {

@@ -146,7 +146,7 @@ fn without_spaces<'a>(list: &Rest<'a>) -> Rest<'a>
 
 /// Cuts the first name and the white space before it off a list. Returns the name, and the rest after its equals sign.
 #[inline(always)]
-fn cut_name<'a>(list: &Rest<'a>) -> (&'a str, Rest<'a>)
+pub(crate) fn cut_name<'a>(list: &Rest<'a>) -> (&'a str, Rest<'a>)
     ensures name { result.0.now ≡ before_byte equals_byte (without_spaces list.now) }
     ensures rest { result.1 ≡ after_byte equals_byte (without_spaces list.now) }
 {

@@ -1,14 +1,16 @@
 //! A short kept text, which is stored in the `Mime` itself, so neither making nor cloning it allocates.
 
-ghost use Rattle.std.specs.Prelude.{◌≡◌, ◌<◌, ◌≤◌, ◌-◌, IfSome, None, Some, IsUtf8, length, take, drop, slice_get, replicate};
+ghost use Rattle.std.specs.Prelude.{◌≡◌, ◌<◌, ◌≤◌, ◌+◌, ◌-◌, IfSome, None, Some, IsUtf8, length, take, drop, slice_get, replicate};
 ghost use Rattle.mime_search.specs.Differences.{DifferAt};
 ghost use Rattle.mime.specs.Bytes.{semicolon_byte};
 ghost use Rattle.mime.specs.Values.{lowered};
 ghost use Rattle.mime.specs.Inner.Scanning.{HasPositions};
 ghost use Rattle.mime.specs.Inner.KeptText.{kept_text_of, with_pairs_lowered};
+ghost use Rattle.mime.specs.Inner.Pairs.{HasPairs};
 
 use crate::scan::Positions;
 use crate::value::kept::{has_capital, lowercase_text};
+use crate::value::pairs::Pairs;
 use mime_search::difference_from;
 use std::marker::Model;
 
@@ -47,19 +49,27 @@ fn padded(text: &str) -> [u8; PADDED]
     bytes
 }
 
-/// Lowercases the text at the start of `block`, but only its parts that ignore case. `count` pairs follow position `semicolon`.
+/// Lowercases the text at the start of `block`, but only its parts that ignore case. `count` pairs follow position
+/// `semicolon`. The only pair is often a charset, so then the whole block is lowercased.
 #[inline(always)]
 fn lowercase_pairs(block: &mut [u8; PADDED], text: &str, semicolon: usize, count: usize)
     requires short { length text.now ≤ SHORT }
     requires same { take (length text.now) block.old ≡ text.now }
+    requires zeros { drop (length text.now) block.old ≡ replicate (48 - length text.now) 0 }
     requires parted { slice_get text.now semicolon ≡ Some semicolon_byte }
+    requires pairs { HasPairs count (drop (semicolon + 1) text.now) }
     requires some { 0 < count }
     ensures lowered { take (length text.now) block.new ≡ with_pairs_lowered count semicolon text.now }
     ensures rest { drop (length text.now) block.new ≡ drop (length text.now) block.old }
 {
-    if has_capital(block) {
-        lowercase_text(&mut block[..text.len()], text, semicolon, count);
+    if !has_capital(block) {
+        return;
     }
+    if Pairs::of_text(text, Some(semicolon), count).is_lone_charset() {
+        block.make_ascii_lowercase();
+        return;
+    }
+    lowercase_text(&mut block[..text.len()], text, semicolon, count);
 }
 
 impl ShortText {

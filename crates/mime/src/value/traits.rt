@@ -6,10 +6,11 @@ ghost use Rattle.std.specs.Fmt.{debug_str, styled_text};
 ghost use Rattle.std.specs.Cmp.Lexicographic.{slice_cmp};
 ghost use Rattle.std.specs.Ordering.{eq_by_cmp, on, as_partial_cmp};
 ghost use Rattle.mime.specs.Comparison.{Same, IsOrderOf, pair_cmp, media_cmp};
-ghost use Rattle.mime.specs.Inner.HashInput.{media_input, media_input-same};
+ghost use Rattle.mime.specs.Inner.HashInput.{media_input, media_input-same, pair_input};
+ghost use Rattle.std.specs.List.{fold, flat_map};
 ghost use Rattle.mime.specs.Inner.OrderLaws.{media_cmp_total, same_from_cmp};
 
-use crate::value::hashing::feed_pairs;
+use crate::value::pairs::Pairs;
 use crate::value::{Mime, Text};
 use std::alloc::AllocError;
 use std::cmp::Ordering;
@@ -173,6 +174,16 @@ impl Ord for Mime {
             return self.param_count().cmp(&other.param_count());
         }
         order_pairs(self, other)
+    }
+}
+
+/// Feeds the names and the values of parameters to a hasher.
+fn feed_pairs<H: Hasher>(pairs: Pairs<'_>, state: &mut H)
+    ensures { state.new ≡ fold H.write state.old (flat_map pair_input pairs.entry) }
+{
+    for (name, value) in pairs {
+        name.hash(state);
+        value.hash(state);
     }
 }
 

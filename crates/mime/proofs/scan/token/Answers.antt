@@ -1,7 +1,8 @@
 -- The bytes so far, those up to a stop that is known or found by a call, and the stop, if it is of the class.
 use Rattle.std.proofs.Common.{sym, ◌∙◌}
 use Rattle.mime.specs.Inner.ByteClasses.{token_bytes}
-use Rattle.mime.proofs.ScanLemmas.Passing.{passing_more, passing_none, passing_with, passes_to, reaches_wider, token_bytes-wider}
+use Rattle.mime.proofs.ScanLemmas.Passing.{passing_more, passing_none, passing_with, passes_to, reaches_wider}
+use Rattle.mime.proofs.ScanLemmas.Pluses.{token_bytes-wider}
 use Rattle.mime.proofs.scan.token.Goals.{in-Some+else-not-is_in_token, in_default}
 use Rattle.mime.proofs.scan.token.Goals as goal
 

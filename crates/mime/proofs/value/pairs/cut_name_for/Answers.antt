@@ -3,7 +3,8 @@ use Rattle.std.proofs.Common.{◌≡◌, ℕ, ◌+◌, ◌≤◌, false, List, �
 use Rattle.mime.specs.Bytes.{equals_byte}
 use Rattle.mime_search.specs.Rests.{before_byte, after_byte, first_position}
 use Rattle.mime.specs.Inner.Pairs.{has_equals}
-use Rattle.mime.proofs.ValueLemmas.Pairs.{cut_of-name, first_equals-named, has_equals-named, first_equals-taken}
+use Rattle.mime.proofs.ValueLemmas.Pairs.{cut_of-name}
+use Rattle.mime.proofs.ValueLemmas.KnownNames.{first_equals-named, has_equals-named, first_equals-taken}
 use Rattle.mime.specs.Values.{lowered}
 use Rattle.mime.proofs.value.pairs.cut_name_for.Goals.{then-not-is_accepted-via-then-not-is_accepted, then-not-is_accepted-via-else-not-is_accepted+then-has_equals}
 use Rattle.mime.proofs.value.pairs.cut_name_for.Goals as goal

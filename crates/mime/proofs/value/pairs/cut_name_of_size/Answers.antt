@@ -3,7 +3,7 @@ use Rattle.std.proofs.Common.{◌≡◌, ◌∙◌, ap, length, get_or, subst, a
 use Rattle.std.specs.Prelude.{◌==◌, not}
 use Rattle.std.proofs.lemmas.List.Sums.{prefix_len-le-length}
 use Rattle.mime.specs.Bytes.{equals_byte}
-use Rattle.mime.proofs.ValueLemmas.Pairs.{first_equals-le, first_equals-other}
+use Rattle.mime.proofs.ValueLemmas.KnownNames.{first_equals-le, first_equals-other}
 use Rattle.mime.proofs.value.pairs.cut_name_of_size.Goals as goal
 
 pub returns-then-size-bytes-2-clause-other : goal.returns-then-size-bytes-2-clause-other

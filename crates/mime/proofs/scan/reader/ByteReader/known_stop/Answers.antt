@@ -6,7 +6,8 @@ use Rattle.mime.specs.Inner.Scanning.{Passing, Reaches}
 use Rattle.mime.specs.declared.scan.runs.TheConstants.{TOKEN_STOPS}
 use Rattle.mime.proofs.StopsLemmas.{are_token_bytes}
 use Rattle.mime_search.proofs.Masks.{known-none, known-few, known-some}
-use Rattle.mime.proofs.ScanLemmas.Passing.{reader_at, passing_skip, reaches_then, reaches_skip, reaches_wider}
+use Rattle.mime.specs.Inner.Remaining.{reader_at}
+use Rattle.mime.proofs.ScanLemmas.Passing.{passing_skip, reaches_then, reaches_skip, reaches_wider}
 use Rattle.mime.proofs.scan.reader.ByteReader.known_stop.Goals as goal
 
 pub bounds-self-inside-stop : goal.bounds-self-inside-stop

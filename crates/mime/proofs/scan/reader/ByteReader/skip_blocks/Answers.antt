@@ -2,7 +2,8 @@
 use Rattle.std.proofs.Common.{not, subst, arith}
 use Rattle.mime_search.specs.Classes.{is_stop}
 use Rattle.mime.specs.Inner.Scanning.{Passing}
-use Rattle.mime.proofs.ScanLemmas.Passing.{reader_at, passing_skip}
+use Rattle.mime.specs.Inner.Remaining.{reader_at}
+use Rattle.mime.proofs.ScanLemmas.Passing.{passing_skip}
 use Rattle.mime.proofs.scan.reader.ByteReader.skip_blocks.Goals as goal
 
 pub returns-then-self-ge-BLOCK : goal.returns-then-self-ge-BLOCK

@@ -2,7 +2,8 @@
 use Rattle.std.proofs.Common.{subst, arith}
 use Rattle.mime.specs.Inner.ByteClasses.{token_bytes}
 use Rattle.mime.specs.Inner.Scanning.{Passing}
-use Rattle.mime.proofs.ScanLemmas.Passing.{reader_at, passing_skip}
+use Rattle.mime.specs.Inner.Remaining.{reader_at}
+use Rattle.mime.proofs.ScanLemmas.Passing.{passing_skip}
 use Rattle.mime.proofs.scan.reader.ByteReader.skip_far.Goals as goal
 
 pub returns-then-self : goal.returns-then-self

@@ -2,7 +2,7 @@
 use Rattle.std.proofs.Common.{◌≡◌}
 use Rattle.std.specs.List.{fold, flat_map}
 use Rattle.mime.specs.Inner.HashInput.{pair_input}
-use Rattle.mime.proofs.value.hashing.feed_pairs.Given as goal
+use Rattle.mime.proofs.value.traits.feed_pairs.Given as goal
 
 abbrev pub invariant-loop-name : goal.invariant-loop-name
 invariant-loop-name g l =
