@@ -1,7 +1,7 @@
 //! The laws of the definitions and of `FieldError`, as functions. A caller of such a function can use the law in its own proof.
 
 ghost use Rattle.std.specs.Prelude.{◌≡◌};
-ghost use Rattle.mime_http.specs.{HeaderLaws.PlainIsHttp, HeaderLaws.OneHttpReading, HeaderLaws.OnePrintedText, HeaderLaws.PrintedIsRead, HeaderLaws.OneHttpFault, ListLaws.OneCut, ListLaws.HttpListsAreRead, ListLaws.ReadAreHttpLists, ListLaws.OneHeader, ListLaws.BadIsAlone, Written.WrittenIsMeant, RangesLaws.ClosestIsClosest, RangesLaws.BestIsAcceptable, RangesLaws.BestIsFirst, RangesLaws.CoversItself, RangesLaws.MeaningCounts, RangesLaws.StrangerChangesNothing, RangesLaws.WeightIsNumber};
+ghost use Rattle.mime_http.specs.{HeaderLaws.PlainIsHttp, HeaderLaws.OneHttpReading, HeaderLaws.OnePrintedText, HeaderLaws.PrintedIsRead, HeaderLaws.OneHttpFault, ListLaws.OneCut, ListLaws.HttpListsAreRead, ListLaws.ReadAreHttpLists, ListLaws.OneHeader, ListLaws.OneFirstBad, ListLaws.BadIsAlone, Written.WrittenIsMeant, RangesLaws.ClosestIsClosest, RangesLaws.BestIsAcceptable, RangesLaws.BestIsFirst, RangesLaws.CoversItself, RangesLaws.MeaningCounts, RangesLaws.StrangerChangesNothing, RangesLaws.WeightIsNumber};
 
 use crate::value::FieldError;
 
@@ -55,6 +55,11 @@ pub fn read_are_http_lists()
 /// The lines of a header determine its ranges, how each range is printed, and its bad entries.
 pub fn one_header()
     ensures { OneHeader }
+{}
+
+/// Lines have a first bad entry exactly if an entry is bad, and only one. That of `a/b, , c d, e` is at position 1.
+pub fn one_first_bad()
+    ensures { OneFirstBad }
 {}
 
 /// A bad entry, wherever it is, changes no other entry and no offer's weight: `c/d, a b` and `c/d` have the same ranges.
