@@ -214,8 +214,7 @@ def build(crate, command, log):
 
 @functools.lru_cache(None)
 def program(crate, kind=""):
-    """The program of a crate, of one kind, that was proved and built from its sources; if none was, rt does so, once no other run does.
-    Its mark, NAME.sources, has checksums of these sources and of the program itself. While it is built it has none."""
+    """The program of a crate, of one kind, that was proved and built from its sources; if none was, rt does so, once no other run does."""
     out, sources, command = f"{TOP}/crates/{crate}/out", run_ok("tools/sources", crate), KINDS[kind]
     made, began, log = f"{out}/{crate}{kind}", f"{out}/build.began", f"{out}/build.log"
     mark, marked = Path(f"{made}.sources"), lambda: sources + run_ok("sh", "-c", 'cksum <"$0"', made)
