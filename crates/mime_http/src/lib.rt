@@ -55,7 +55,7 @@ mod reader;
 mod value;
 mod weights;
 
-pub use crate::accept::Accept;
+pub use crate::accept::{Accept, BadEntries};
 pub use crate::list::trimmed;
 pub use crate::multipart::{boundary, is_boundary};
 pub use crate::parameter::{with_boundary, with_charset, with_parameter};

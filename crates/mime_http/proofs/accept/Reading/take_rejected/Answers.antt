@@ -1,6 +1,6 @@
 -- A piece that the library rejects is a media type, or bad.
 use Rattle.mime_http.proofs.{Around.utf8_around, Takes.takes_bad, Takes.takes_range, HttpLaws.error_is_memory}
-use Rattle.mime_http.proofs.accept.Accept.take_rejected.Goals as goal
+use Rattle.mime_http.proofs.accept.Reading.take_rejected.Goals as goal
 
 pub returns-in-Ok : goal.returns-in-Ok
 returns-in-Ok c =

@@ -1,7 +1,7 @@
 -- The pieces from here on are left.
 use Rattle.mime_http.proofs.Common.{cut, drop, length, ◌-◌, ◌≤◌}
 use Rattle.mime_http.proofs.Takes.{AreLeft}
-use Rattle.mime_http.proofs.accept.Accept.take_line.Given as goal
+use Rattle.mime_http.proofs.accept.Reading.take_line.Given as goal
 
 abbrev pub invariant-loop-from : goal.invariant-loop-from
 invariant-loop-from l = record {
