@@ -247,5 +247,4 @@ if __name__ == "__main__":
     try:
         program(sys.argv[1])
     except OSError as error:
-        say(f"{sys.argv[1]}: {error.strerror}: {error.filename}" if error.filename else f"{sys.argv[1]}: {error}")
-        sys.exit(2)
+        sys.exit(f"{sys.argv[1]}: {error.strerror}: {error.filename}" if error.filename else f"{sys.argv[1]}: {error}")
