@@ -6,11 +6,11 @@ ghost use Rattle.std.specs.Str.{IsUtf8, IsValidUpTo, valid_up_to};
 ghost use Rattle.mime.specs.Values.{IsAccepted, MediaType};
 ghost use Rattle.mime.specs.Faults.{Explains};
 ghost use Rattle.mime_http.specs.HttpMediaType.{HttpReads, IsHttpMediaType};
-ghost use Rattle.mime_http.specs.HttpList.{trimmed, IsPrinted};
+ghost use Rattle.mime_http.specs.HttpList.{trim_end, trimmed, IsPrinted};
 ghost use Rattle.mime_http.specs.HttpFaults.{HttpExplains, IsHttpFault};
 ghost use Rattle.mime_http.specs.HttpPrinted.{not_utf8_text};
 
-use crate::list::{is_space, trim_end, trim_start};
+use crate::list::{is_space, trim_start};
 use crate::reader::write_anew;
 use mime::{Mime, ParseError};
 use std::alloc::Global;
@@ -89,9 +89,17 @@ fn trimmed(text: &str) -> &str
     unsafe { str::from_utf8_unchecked(left) }
 }
 
+/// Returns `true` if the last byte of a text is white space.
+#[tactic(auto, using(crate::proofs::Around::nothing_after))]
+fn ends_in_space(text: &[u8]) -> bool
+    ensures { IsFalse result → trim_end text.now ≡ text.now }
+{
+    !text.is_empty() && is_space(text[text.len() - 1])
+}
+
 /// Returns the fault of a value if it follows from `fault`, which `mime` returns for the trimmed value. A byte at fault for `mime` is at
 /// fault for HTTP, too, unless the byte is white space or a semicolon. A part that is missing for `mime` is missing for HTTP, too, unless
-/// the value ends in white space. This function isn't inlined, so that it uses none of the caller's registers.
+/// white space follows that can't continue it. This function isn't inlined, so that it uses none of the caller's registers.
 #[inline(never)]
 fn same_fault(value: &[u8], fault: ParseError) -> Option<ParseError>
     requires { Explains (trimmed value.now) fault }
@@ -104,7 +112,9 @@ fn same_fault(value: &[u8], fault: ParseError) -> Option<ParseError>
             Some(ParseError::InvalidToken { pos, byte })
         }
         ParseError::InvalidToken { .. } | ParseError::NoMemory => None,
-        _ if trim_end(text).len() < text.len() => None,
+        // White space doesn't close a quoted string.
+        ParseError::MissingQuote => Some(fault),
+        _ if ends_in_space(text) => None,
         _ => Some(fault),
     }
 }
