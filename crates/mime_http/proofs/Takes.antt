@@ -79,11 +79,6 @@ module _ (keeps_bad : Bool) (piece : List ℕ) (old : Held) where
 
 -- ---- texts of which nothing is read
 
--- Lines that are there are the lines of a header.
-pub or_any : (lines : List (List ℕ)) → 0 < length lines → lines_or_any lines ≡ lines
-or_any [] some = absurd (omega (arith, some))
-or_any (line ∷ lines) some = refl
-
 -- Nothing is read of the pieces of lines that have no entry.
 pub pieces_of_nothing : {lines : List (List ℕ)} → IsHeader lines nothing_held.kept → AreSorted (pieces_of (lines_or_any lines)) [] []
 pieces_of_nothing holds = rw (only_cut holds.cut) at holds.sorted
