@@ -53,11 +53,6 @@ def made(words, calls):
         yield Given(*numbers, text, text.split("\0")[:-1])
 
 
-def header(value):
-    """The call that reads a header. Of 41 bytes with a semicolon at the end those before it need no memory, though it is asked for."""
-    return call("content_type", value, may_do_without=len(value.strip(" \t")) == SHORT + 1)
-
-
 def check_found(it, text):
     """Checks the strings that were found, or the fault, which lies within the text, at the byte that was found, or at one past ASCII."""
     if it.answer == OK:
@@ -76,11 +71,11 @@ def check_read(text):
     it = yield call("read", text)
     check_found(it, text)
     is_read = it.answer == OK
-    asked = int(is_read and len(text) > SHORT)
+    asked = int(is_read and len(it.strings[-1]) > SHORT)
     assert it.answer <= NOT_UTF8 and it.answer != NO_MEMORY and it.requests == asked and it.largest <= len(text)
     rows = [(text, text, it.answer, is_read, 2 * asked), ("*/*", text, it.answer, it.strings == ["*/*"] * 2, asked),
             (text, "a/", MISSING_SUBTYPE if is_read else it.answer, 0, asked), ("a/", text, MISSING_SUBTYPE, 0, 0),
-            *((text, printed, OK, 1, asked + (len(printed) > SHORT)) for printed in it.strings[-1:])]
+            *((text, printed, OK, 1, 2 * asked) for printed in it.strings[-1:])]
     for one, other, *wanted in rows:
         equal = yield call("equal", one, other)
         assert [equal.answer, equal.length, equal.requests] == wanted and equal.blocks <= 2 and equal.largest <= len(text)
@@ -90,23 +85,25 @@ def check_list(text):
     it = yield call("list", text)
     assert (it.answer == OK or it.answer == NOT_UTF8 and not it.length) and it.blocks <= 1 and it.largest <= len(text)
     good = [item[1:] for item in it.strings if item[:1] == "+"]
-    assert sum(len(item) > SHORT for item in good) <= it.requests <= len(good)
+    assert it.requests == sum(len(item) > SHORT for item in good)
     for item in it.strings:
         read = yield call("read", item[1:])
         assert read.strings[-1:] == [item[1:]] if item[:1] == "+" else item[:1] == "-" and read.answer != OK
 
 
 def check_content_type(text):
-    it = yield header(text)
+    it = yield call("content_type", text)
     check_found(it, text)
     media, is_plain = MODEL.read(text), MODEL.ACCEPTED.fullmatch(text.strip(" \t")) is not None
     assert it.written == (written(media[1], *chain(*media[2]), media[0]) if media else "") and (it.answer == OK) == bool(media)
-    assert it.requests == 0 if not media else is_plain or it.requests == (2 if len(media[0]) > SHORT else 0)
+    # What is written anew is first written into room for 128 bytes.
+    asked = 0 if not media or len(media[0]) <= SHORT else 1 if is_plain or len(media[0]) <= 128 else 2
+    assert it.requests == asked
     # What is written anew has at most a byte more for each parameter, which has four.
     assert it.blocks <= (1 if is_plain else 2) and it.largest <= len(text) + (0 if is_plain else len(text) // 4)
     if media:
         # mime_read reads alike what is printed, and what is before the first semicolon has the same essence.
-        same, bare = (yield call("read", media[0])), (yield header(text.partition(";")[0]))
+        same, bare = (yield call("read", media[0])), (yield call("content_type", text.partition(";")[0]))
         assert same.strings == it.strings and (bare.params, bare.strings[:1]) == (0, it.strings[:1])
 
 
@@ -119,15 +116,14 @@ def first_bad(text):
 
 
 def check_accept(text):
-    # An entry of 41 bytes with a semicolon at its end needs no memory, though it is asked for.
-    it = yield call("accept", text, may_do_without=";" in text)
+    it = yield call("accept", text)
     ranges, bad = MODEL.entries([text])
     wanted = "".join(written(f"{MODEL.weight_of(media):04}", media[1], *chain(*media[2]), "") for media in ranges)
     assert (it.answer, it.params, it.written) == (OK, len(bad), wanted)
     refusal = (BAD_OFFER, first_bad(text)) if bad else (NOT_ACCEPTABLE, 0)
-    none = yield call("best", "", text, may_do_without=";" in text)
+    none = yield call("best", "", text)
     assert (none.answer, none.length) == refusal
-    best = yield call("best_of_all", text, may_do_without=";" in text)
+    best = yield call("best_of_all", text)
     assert (best.answer, best.length) == ((OK, 0) if ranges and not bad else refusal)
 
 
@@ -150,7 +146,7 @@ def check_unescape(text):
 
 
 def check_boundary(text):
-    value, (_, essence, pairs) = (yield header(text)), MODEL.read(text) or ("", "", [])
+    value, (_, essence, pairs) = (yield call("content_type", text)), MODEL.read(text) or ("", "", [])
     named = [it for name, it in MODEL.meant(pairs) if name == "boundary" and essence.startswith("multipart/")]
     # RFC 2046, 5.1.1
     wanted = [it for it in named[:1] if re.fullmatch(r"(?a)[\w'()+,\-./:=? ]{0,69}[\w'()+,\-./:=?]", it)]
@@ -162,9 +158,9 @@ def check_boundary(text):
 def check_set_parameter(text):
     """Checks parameters that are written into the text, or have it as their value, or as their name."""
     for media, name, value in ((text, "P", "x"), (text, "charset", "UTF-8"), ('a/b;p="y z";q=1', "p", text), ("a/b", text, "x y")):
-        before = yield header(media)
+        before = yield call("content_type", media)
         printed = before.answer == OK and MODEL.not_utf8(value) is None and MODEL.with_parameter(MODEL.read(media), name, value)
-        it = yield call("set_parameter", media, name, value, may_do_without=not printed or ";" in media)
+        it = yield call("set_parameter", media, name, value, may_do_without=not printed)
         assert it.written == (written(printed) if printed else "")
         assert it.answer == (before.answer if printed or before.answer != OK else BAD_PARAMETER)
 

@@ -1,5 +1,5 @@
 -- One call of a `MimeIter`: pieces are read up to the first that is an item, which is yielded.
-use Rattle.std.proofs.Common.{◌≡◌, ℕ, ◌<◌, ◌≤◌, true, false, List, [], length, Option, Some, None, Result, Ok, Err, refl, sym, ap, ◌∙◌, subst, arith, Bor, ◌∷◌, ◌++◌, map}
+use Rattle.std.proofs.Common.{◌≡◌, ℕ, ◌≤◌, true, false, List, [], length, Option, Some, None, Result, Ok, Err, refl, sym, ap, ◌∙◌, subst, arith, Bor, ◌∷◌, ◌++◌, map}
 use Rattle.std.specs.Prelude.{codes}
 use Rattle.std.proofs.lemmas.Bool.{true≢false}
 use Rattle.std.proofs.lemmas.Option.{none-some}
@@ -12,7 +12,8 @@ use Rattle.mime.specs.declared.iter.Bad.TheVariants.{Piece, NoMemory}
 use Rattle.mime.specs.declared.iter.MimeIter.TheInside.{Inside}
 use Rattle.mime.specs.declared.scan.Positions.{Positions}
 use Rattle.mime.proofs.CutLemmas.Cuts.{empty-cut, takes-viable, has_cut, cut_unique}
-use Rattle.mime.proofs.ValueLemmas.Reading.{accepted-from_positions}
+use Rattle.mime.specs.Faults.{Explains}
+use Rattle.mime.specs.declared.scan.fault.ParseError.TheVariants as error
 use Rattle.mime.proofs.GrammarLemmas.Viability.{empty_is_viable}
 use Rattle.std.specs.Iterator.{Drains}
 use Rattle.mime.specs.CutLaws.{items_of_rest, kept_item, AreGiven, none_left, a_value, a_piece, no_memory, RunGivesCut, PrintedListComesBack, CommaContainsOnRuns}
@@ -100,19 +101,18 @@ next-good old new piece positions mime found reads star =
 
 -- a call returns `NoMemory`, which ends the run
 pub next-out_of_memory : (old now new : Iteration) (piece : Bor (List ℕ)) (positions : Positions) → IsFound old (Some (piece, Some positions)) now
-    → 40 < length piece.now → new ≡ record now { left = []; out_of_memory = true } → IsNext old (Some (Err NoMemory)) new
-next-out_of_memory old now new piece positions found long is =
-    let accepted = accepted-from_positions piece.now positions found.gives.0.0 in
+    → Explains piece.now error.NoMemory → new ≡ record now { left = []; out_of_memory = true } → IsNext old (Some (Err NoMemory)) new
+next-out_of_memory old now new piece positions found (value, reads, long) is =
     let others = has_cut now.left in
     next-some old now new (piece, Some positions) (Err NoMemory) found
     (subst IsSound (sym is) (record { few = omega (arith, found.sound.few); exact = λ fed n takes. absurd (true≢false fed) }))
     (ap (λ (i : Iteration). i.text) is) (ap (λ (i : Iteration). i.steps) is) (
       record {
         piece = piece.now;
-        value = accepted.0;
+        value = value;
         items = others.items;
         rest = others.rest;
-        cut = found.gives.0.1 accepted.0 accepted.1 others.items others.rest others.cut;
+        cut = found.gives.0.1 value reads others.items others.rest others.cut;
         long = long;
       },
       ap (λ (i : Iteration). i.left) is,

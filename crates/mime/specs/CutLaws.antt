@@ -114,9 +114,9 @@ pub data AreGiven : List (Result OwnedMedia Bad) → List CutItem → Type 0 whe
   -- a bad piece for itself,
   a_piece : (piece : Bor (List ℕ)) (given : List (Result OwnedMedia Bad)) (items : List CutItem)
       → AreGiven given items → AreGiven (Err (Piece piece) ∷ given) (bad piece.now ∷ items)
-  -- and, at the end of what was yielded, out of memory for a good piece of more than 40 bytes
+  -- and, at the end of what was yielded, out of memory for a good piece of which more than 40 bytes are kept
   no_memory : (piece : List ℕ) (value : MediaType) (items : List CutItem)
-      → 40 < length piece → AreGiven (Err NoMemory ∷ []) (good piece value ∷ items)
+      → 40 < length value.kept → AreGiven (Err NoMemory ∷ []) (good piece value ∷ items)
 
 -- A run yields the items of the cut of what was left.
 abbrev pub RunGivesCut : Type 0

@@ -20,14 +20,14 @@ HasEnded i = i.left ≡ []
 abbrev pub IsFirstItem : List ℕ → CutItem → List ℕ → Type 0
 IsFirstItem text item left = (items : List CutItem) (rest : List ℕ) → Cut left items rest → Cut text (item ∷ items) rest
 
--- the first item of the text's cut is a media type of more than 40 bytes, which needs memory
+-- the first item of the text's cut is a media type of which more than 40 bytes are kept, which needs memory
 pub record FirstNeedsMemory (text : List ℕ) : Type 0 where
   pub piece : List ℕ
   pub value : MediaType
   pub items : List CutItem
   pub rest : List ℕ
   pub cut : Cut text (good piece value ∷ items) rest
-  pub long : 40 < length piece
+  pub long : 40 < length value.kept
 
 -- the text's cut has no item
 abbrev pub HasNoItem : List ℕ → Type 0

@@ -141,7 +141,7 @@ fn read_next_piece<'a>(text: &'a str, from: u128) -> ReadPiece<'a>
 /// pieces aren't yielded, and neither is a last piece that is only the beginning of a media type. A bad entry doesn't
 /// affect the entries after it, unless it ends in an open quoted string. No byte is scanned twice.
 ///
-/// Yielding a media type allocates once, for its kept text, if its piece has more than 40 bytes, including white space.
+/// Yielding a media type allocates once, for its kept text, if this text has more than 40 bytes.
 /// So does cloning this media type. Yielding any other item doesn't allocate.
 ///
 /// Over `text/html, invalid, a/b; q=1` the iterator yields `text/html`, the bad piece `invalid`, and `a/b; q=1`. Over

@@ -279,7 +279,7 @@ pub fn http_list_is_cut()
 {}
 
 /// A run of a `MimeIter` yields the items of the remaining string's cut: over `a/b, e, c/d` it yields `a/b`, the bad piece
-/// `e`, and `c/d`. In place of a media type whose piece has more than 40 bytes, it may yield `NoMemory`, which ends the run.
+/// `e`, and `c/d`. In place of a media type whose kept text has more than 40 bytes, it may yield `NoMemory`, which ends the run.
 #[tactic(auto, using(crate::proofs::IterLemmas::run_gives_cut))]
 pub fn run_gives_cut()
     ensures { RunGivesCut }

@@ -29,10 +29,9 @@
 //! type, such as `text/`.
 //!
 //! # Memory
-//! `Mime::from_str`, `MimeIter::new` and `KnownText::into_mime` take the allocator. Reading or making a media type from
-//! more than 40 bytes, including white space, allocates at most once. So does each `clone` of this media type. If
-//! memory runs out, an error is returned. Nothing else allocates. The text of a constant, or of a media type read or
-//! made from at most 40 bytes, is stored in the `Mime` itself.
+//! `Mime::from_str`, `MimeIter::new` and `KnownText::into_mime` take the allocator. Reading or making a media type whose
+//! kept text has more than 40 bytes allocates at most once. So does each `clone` of this media type. If memory runs out,
+//! an error is returned. Nothing else allocates. A kept text of at most 40 bytes is stored in the `Mime` itself.
 //!
 //! # Standards
 //! The grammar follows RFC 7231 and RFC 7230, with the departures that docs/DIFFERENCES.md lists. RFC 9110 (8.3.1,

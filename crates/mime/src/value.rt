@@ -22,7 +22,7 @@ mod traits;
 
 use crate::name::{Name, ParamKey};
 use crate::scan::{ByteReader, FromStrError, ParseError, Positions, Scanned, scan};
-use crate::value::kept::{keep, positions_in_kept};
+use crate::value::kept::{keep, kept_len, positions_in_kept};
 pub use crate::value::known::KnownText;
 use crate::value::pairs::Pairs;
 pub use crate::value::params::Params;
@@ -31,8 +31,8 @@ use crate::value::short::{SHORT, ShortText};
 use std::alloc::{AllocError, Global};
 use std::marker::Model;
 
-/// The kept text of a media type. If it was made from at most `SHORT` bytes, it is stored in the `Mime` itself.
-/// Otherwise it is allocated.
+/// The kept text of a media type. A text of at most `SHORT` bytes is stored in the `Mime` itself. A longer text is
+/// allocated.
 #[derive(Drop)]
 enum Text {
     Owned(String),
@@ -97,8 +97,8 @@ impl Model for Mime {
 
 impl Mime {
     /// Reads a media type from the whole of `s` (RFC 7231, 3.1.1.1, with the departures that docs/DIFFERENCES.md
-    /// lists). If `s` is a media type of more than 40 bytes, this function allocates once, for the kept text. Otherwise
-    /// it doesn't allocate.
+    /// lists). If `s` is a media type whose kept text has more than 40 bytes, this function allocates once, for this text.
+    /// Otherwise it doesn't allocate.
     ///
     /// `TEXT/PLAIN; CHARSET=UTF-8; FOO=BAR` is kept as `text/plain; charset=utf-8; foo=BAR`, and
     /// `text/plain; ` as `text/plain`.
@@ -108,12 +108,12 @@ impl Mime {
     /// `MissingSlash`, `MissingSubtype`, `MissingEqual`, `MissingValue` or `MissingQuote`: `MissingEqual` for `a/b;p`.
     /// Otherwise the fault is `InvalidToken`, with the first byte that can't continue a media type, and this byte's
     /// position in bytes from 0: 5 for `text/;`. Returns [`ParseError::NoMemory`] if memory runs out, which can happen
-    /// only for a media type of more than 40 bytes.
+    /// only if the kept text has more than 40 bytes.
     pub fn from_str(alloc: Global, s: &str) -> Result<Mime, FromStrError>
         // The result is the value of the string.
         ensures read { IfOk result (λ mime. Reads s.now mime.media) }
-        // An error is the fault of a rejected string, or says that memory ran out for an accepted string of more than
-        // 40 bytes.
+        // An error is the fault of a rejected string, or says that memory ran out for an accepted string whose kept text
+        // has more than 40 bytes.
         ensures explained { IfErr result (λ error. Explains s.now error) }
         // So an accepted string is read, or memory ran out.
         ensures accepted { IsAccepted s.now → IfErr result (λ error. error ≡ ParseError.NoMemory) }
@@ -132,17 +132,11 @@ impl Mime {
                 return Err(FromStrError::new(ParseError::InvalidToken { pos, byte }));
             }
         };
-        // Each branch for a short text returns, so that the text isn't moved where the branches join.
-        if s.len() <= SHORT {
-            if positions.pair_count == 0 {
-                return Ok(Mime::of_short(s, positions, ShortText::essence(s, positions)));
-            }
-            return Ok(Mime::of_short(s, positions, ShortText::with_pairs(s, positions)));
-        }
         Mime::of_accepted(alloc, s, positions)
     }
 
-    /// Returns the media type of an accepted string whose parts have these positions. The only error is `NoMemory`.
+    /// Returns the media type of an accepted string whose parts have these positions. The only error is `NoMemory`. Each
+    /// branch for a short text returns, so that the text isn't moved where the branches join.
     #[inline(always)]
     pub(crate) fn of_accepted(
         alloc: Global,
@@ -152,14 +146,14 @@ impl Mime {
         requires { HasPositions s.now positions }
         ensures read { IfOk result (λ mime. Reads s.now mime.media) }
         ensures memory { IfErr result (λ error. error ≡ ParseError.NoMemory) }
+        ensures explained { IfErr result (λ error. Explains s.now error) }
         ensures star { s.now ≡ codes "*/*" → IfOk result (λ mime. mime.fixed ≡ true) }
-        ensures short { length s.now ≤ SHORT → IsOk result }
     {
-        if s == "*/*" {
-            return Ok(Mime::star());
-        }
-        if s.len() <= SHORT {
-            return Ok(Mime::of_short(s, positions, ShortText::keep(s, positions)));
+        if kept_len(s, positions) <= SHORT {
+            if positions.pair_count == 0 {
+                return Ok(Mime::of_short(s, positions, ShortText::essence(s, positions)));
+            }
+            return Ok(Mime::of_short(s, positions, ShortText::with_pairs(s, positions)));
         }
         match keep(alloc, s, positions) {
             Ok(text) => Ok(Mime::of_kept(Text::Owned(text), positions_in_kept(positions))),

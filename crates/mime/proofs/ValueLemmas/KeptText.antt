@@ -1,5 +1,5 @@
 -- The kept text of an accepted text, and the value of a kept text.
-use Rattle.std.proofs.Common.{◌≡◌, ℕ, ◌+◌, List, [], ◌∷◌, ◌++◌, length, take, drop, Some, refl, sym, ap, ◌∙◌, subst, arith, append-nil, append_assoc, length-append}
+use Rattle.std.proofs.Common.{◌≡◌, ◌≢◌, ℕ, zero, suc, ◌+◌, List, [], ◌∷◌, ◌++◌, length, take, drop, Option, None, Some, refl, sym, ap, ◌∙◌, subst, arith, append-nil, append_assoc, length-append}
 use Rattle.std.specs.Prelude.{slice_get}
 use Rattle.std.proofs.lemmas.List.{take_at, drop_at, take_all, take-append-drop}
 use Rattle.mime.specs.Bytes.{slash_byte, semicolon_byte}
@@ -12,7 +12,7 @@ use Rattle.mime.specs.declared.scan.Positions.{Positions}
 use Rattle.mime.proofs.BytesLemmas.{slice_get-prefix}
 use Rattle.mime.proofs.LowercaseLemmas.{lowered-append, lowered_tree-lowered_tree, IsWellFormed-lowered_tree, positions_of-lowered_tree}
 use Rattle.mime_search.proofs.IgnoringCase.{length-lowered}
-use Rattle.mime.proofs.ValueLemmas.Utf8.{IsLoweredInPart, lowercase, in_parts}
+use Rattle.mime.proofs.ValueLemmas.Utf8.{IsLoweredInPart, length-in_part, lowercase, in_parts}
 use Rattle.mime.proofs.ValueLemmas.Pairs.{lowered_within-in_part}
 use Rattle.mime.proofs.ValueLemmas.ListText.{pairs_within-text_of_list, lowered_within-text_of_list}
 
@@ -228,3 +228,9 @@ kept-in_part count s text =
     subst (λ t. IsLoweredInPart t (with_pairs_lowered count s text))
     (take-append-drop (s + 1) text)
     (in_parts _ _ _ _ (lowercase (take (s + 1) text)) (lowered_within-in_part count (drop (s + 1) text)))
+
+-- The kept text of a text with a pair is as long as that text.
+pub length-kept : (count : ℕ) (semicolon : Option ℕ) (text : List ℕ) → count ≢ 0 → length text ≡ length (kept_text_of count semicolon text)
+length-kept count None text some = sym (length-lowered text)
+length-kept zero (Some s) text some = absurd (some refl)
+length-kept (suc count) (Some s) text some = sym (length-in_part text _ (kept-in_part (suc count) s text))

@@ -1,17 +1,17 @@
 -- What reading a text answers, and that the constant media types are stored with their positions.
 use Rattle.std.proofs.Common.{◌≡◌, ℕ, List, [], ◌∷◌, refl, sym, ap, ◌∙◌, subst, ◌+◌, length, take, drop, Option, Some, None, codes, rules}
-use Rattle.std.specs.Prelude.{◌≤◌, Result, IfErr, IsOk, codes, unwrap_or}
+use Rattle.std.specs.Prelude.{◌<◌, codes, unwrap_or}
 use Rattle.mime.specs.Bytes.{is_token_byte, space_byte}
 use Rattle.mime.specs.Grammar.{SyntaxTree, no_list, plain, final, Tail, listed, text_of, IsToken, IsTail}
 use Rattle.mime.specs.Values.{value_of, IsAccepted, IsRejected, lowered_tree}
 use Rattle.mime.specs.Faults.{IsFault, Explains}
 use Rattle.mime.specs.Inner.Scanning.{HasPositions, positions_of}
-use Rattle.mime.specs.Inner.KeptText.{IsKept, kept_positions, positions_in}
+use Rattle.mime.specs.Inner.KeptText.{IsKept, kept_positions, kept_text_of, positions_in}
 use Rattle.mime.specs.declared.scan.fault.ParseError.{ParseError}
 use Rattle.mime.specs.declared.scan.fault.ParseError.TheVariants.{InvalidToken, NoMemory}
 use Rattle.mime.specs.declared.scan.Positions.{Positions}
 use Rattle.mime.proofs.GrammarLemmas.Readings.{one_tree}
-use Rattle.mime.proofs.ValueLemmas.KeptText.{reads_as}
+use Rattle.mime.proofs.ValueLemmas.KeptText.{kept_reads, reads_as}
 use Rattle.mime.proofs.GrammarLemmas.Viability.{rejected-at_dead}
 use Rattle.mime.proofs.GrammarLemmas.Faults.{completed_is_rejected}
 use Rattle.mime.specs.Atoms.{atom_text}
@@ -22,10 +22,10 @@ use Rattle.mime.specs.declared.atoms.Atom.TheVariants.{STAR_STAR}
 pub accepted-from_positions : (text : List ℕ) (positions : Positions) → HasPositions text positions → IsAccepted text
 accepted-from_positions text positions has = (value_of has.tree, reads_as has refl)
 
--- running out of memory is explained if the text is accepted, and a short one never runs out
-pub Explains-no_memory : {T : Type 0} (text : List ℕ) (result : Result T ParseError) → IsAccepted text → (length text ≤ 40 → IsOk result)
-    → IfErr result (λ error. error ≡ NoMemory) → IfErr result (λ error. Explains text error)
-Explains-no_memory text result accepted short memory = search rules
+-- Running out of memory is explained if a long text is kept.
+pub Explains-no_memory : (text : List ℕ) (positions : Positions) → HasPositions text positions
+    → 40 < length (kept_text_of positions.pair_count positions.semicolon text) → Explains text NoMemory
+Explains-no_memory text positions has long = (_, kept_reads text positions has, long)
 
 -- a text with a fault is rejected
 pub rejected-from_fault : (text : List ℕ) (fault : ParseError) → IsFault text fault → IsRejected text

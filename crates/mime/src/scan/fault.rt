@@ -31,7 +31,7 @@ pub enum ParseError {
         /// The byte, which is the first of its character.
         byte: u8,
     },
-    /// The string is a media type of more than 40 bytes, and memory ran out.
+    /// The string is a media type whose kept text has more than 40 bytes, and memory ran out.
     NoMemory,
 }
 

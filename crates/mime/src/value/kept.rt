@@ -123,6 +123,20 @@ pub(crate) fn positions_in_kept(positions: Positions) -> Positions
     }
 }
 
+/// Returns the length in bytes of an accepted string's kept text.
+#[inline(always)]
+pub(crate) fn kept_len(text: &str, positions: Positions) -> usize
+    requires { HasPositions text.now positions }
+    ensures kept { result ≡ length (kept_text_of positions.pair_count positions.semicolon text.now) }
+    ensures pairs { 0 < positions.pair_count → result ≡ length text.now }
+    ensures within { result ≤ length text.now }
+{
+    if positions.pair_count != 0 {
+        return text.len();
+    }
+    positions.semicolon.unwrap_or(text.len())
+}
+
 /// Returns the kept text of an accepted string. An empty parameter list is dropped.
 #[inline(always)]
 pub(crate) fn keep(alloc: Global, text: &str, positions: Positions) -> Result<String, AllocError>

@@ -151,12 +151,12 @@ impl ShortText {
         ShortText::of(&bytes, text.len())
     }
 
-    /// Returns the kept text of an accepted string that has at most `SHORT` bytes and no parameter. An empty parameter
-    /// list is dropped.
+    /// Returns the kept text, of at most `SHORT` bytes, of an accepted string without parameters. An empty parameter list
+    /// is dropped.
     #[inline(always)]
     pub(crate) fn essence(text: &str, positions: Positions) -> ShortText
         requires accepted { HasPositions text.now positions }
-        requires short { length text.now ≤ SHORT }
+        requires short { length (kept_text_of positions.pair_count positions.semicolon text.now) ≤ SHORT }
         requires none { positions.pair_count ≡ 0 }
         ensures { result ≡ kept_text_of positions.pair_count positions.semicolon text.now }
     {
@@ -181,19 +181,5 @@ impl ShortText {
         block[..text.len()].copy_from_slice(text.as_bytes());
         lowercase_pairs(&mut block, text, semicolon, positions.pair_count);
         ShortText::of(&block, text.len())
-    }
-
-    /// Returns the kept text of an accepted string of at most `SHORT` bytes.
-    #[inline(always)]
-    pub(crate) fn keep(text: &str, positions: Positions) -> ShortText
-        requires accepted { HasPositions text.now positions }
-        requires short { length text.now ≤ SHORT }
-        ensures { result ≡ kept_text_of positions.pair_count positions.semicolon text.now }
-    {
-        if positions.pair_count == 0 {
-            ShortText::essence(text, positions)
-        } else {
-            ShortText::with_pairs(text, positions)
-        }
     }
 }

@@ -192,8 +192,8 @@ impl Hash for Mime {
     }
 }
 
-/// Returns a copy with the same kept text, or `AllocError` if memory runs out. Cloning allocates at most once. Cloning
-/// a constant, or a value that was read or made from at most 40 bytes, doesn't allocate.
+/// Returns a copy with the same kept text, or `AllocError` if memory runs out. Cloning allocates at most once. If the
+/// kept text has at most 40 bytes, cloning doesn't allocate.
 impl Clone for Mime {
     ghost is_clone = { λ mime copy. copy ≡ mime };
 

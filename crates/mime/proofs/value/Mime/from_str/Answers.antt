@@ -1,15 +1,13 @@
 -- The scanner's verdict is what the call answers.
 use Rattle.std.proofs.Common.{◌-◌, sym, rules, inl, inr}
 use Rattle.mime.specs.Faults.{IsDeadAt}
-use Rattle.mime.proofs.ValueLemmas.Reading.{accepted-from_positions, Explains-from_fault, Explains-no_memory, rejected-from_fault, star-accepted}
+use Rattle.mime.proofs.ValueLemmas.Reading.{Explains-from_fault, rejected-from_fault, star-accepted}
 use Rattle.mime.proofs.GrammarLemmas.Viability.{rejected-at_dead}
 use Rattle.mime.proofs.value.Mime.from_str.Goals.{In-Stopped}
 use Rattle.mime.proofs.value.Mime.from_str.Goals as goal
 
 pub returns-clause-explained : goal.returns-clause-explained
-returns-clause-explained c =
-    let has = rw c.by_blocks-reader.ensures.left at c.in-Accepted.ensures.judged.1 in
-    Explains-no_memory _ _ (accepted-from_positions _ _ has) c.of_accepted.ensures.short c.of_accepted.ensures.memory
+returns-clause-explained c = c.of_accepted.ensures.explained
 
 pub returns-in-Unfinished-clause-accepted : goal.returns-in-Unfinished-clause-accepted
 returns-in-Unfinished-clause-accepted c = λ accepted.

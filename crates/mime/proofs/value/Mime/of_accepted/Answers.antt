@@ -1,5 +1,7 @@
 -- An accepted text is kept, and reads as the value of what is kept.
+use Rattle.std.proofs.Common.{arith}
 use Rattle.mime.proofs.ValueLemmas.KeptText.{kept-from_positions, kept_reads}
+use Rattle.mime.proofs.ValueLemmas.Reading.{Explains-no_memory}
 use Rattle.mime.proofs.value.Mime.of_accepted.Goals as goal
 
 pub of_kept-requires : goal.of_kept-requires
@@ -7,3 +9,7 @@ of_kept-requires c = rw (c.in-Ok.ensures, c.positions_in_kept.ensures) (kept-fro
 
 pub returns-in-Ok-clause-read : goal.returns-in-Ok-clause-read
 returns-in-Ok-clause-read c = rw (c.of_kept.ensures.media, c.in-Ok.ensures, c.positions_in_kept.ensures) (kept_reads _ _ c.requires)
+
+pub returns-in-Err-clause-explained : goal.returns-in-Err-clause-explained
+returns-in-Err-clause-explained c =
+    rw c.new.ensures (Explains-no_memory _ _ c.requires (omega (arith, c.kept_len.ensures.kept, c.if-kept_len-le-SHORT.false)))
