@@ -96,7 +96,9 @@ def check_content_type(text):
     check_found(it, text)
     media, is_plain = MODEL.read(text), MODEL.ACCEPTED.fullmatch(text.strip(" \t")) is not None
     assert it.written == (written(media[1], *chain(*media[2]), media[0]) if media else "") and (it.answer == OK) == bool(media)
-    assert it.requests == (2 - is_plain if media and len(media[0]) > SHORT else 0)
+    # What is written anew is first written into room for 128 bytes.
+    asked = 0 if not media or len(media[0]) <= SHORT else 1 if is_plain or len(media[0]) <= 128 else 2
+    assert it.requests == asked
     # What is written anew has at most a byte more for each parameter, which has four.
     assert it.blocks <= (1 if is_plain else 2) and it.largest <= len(text) + (0 if is_plain else len(text) // 4)
     if media:

@@ -234,7 +234,7 @@ def program(crate, kind=""):
             mark.unlink(missing_ok=True)
             build(crate, command, log)
             if not os.path.exists(built):
-                raise OSError(f"{crate} can't be built; {log} has what rt said:\n{Path(log).read_text('utf-8', 'replace')[-3000:]}")
+                raise OSError(f"the proof or the build of {crate} failed; {log} has what rt said:\n{Path(log).read_text('utf-8', 'replace')[-3000:]}")
             os.replace(built, made)
             # If a source was touched or is lost meanwhile, the next run builds again.
             if not output(["tools/sources", crate], env={**os.environ, "SINCE": began})[0]:
@@ -246,4 +246,4 @@ if __name__ == "__main__":
     try:
         program(sys.argv[1])
     except OSError as error:
-        sys.exit(f"{error}")
+        sys.exit(f"{sys.argv[1]}: {error.strerror}: {error.filename}" if error.filename else f"{sys.argv[1]}: {error}")

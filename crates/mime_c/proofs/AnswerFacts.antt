@@ -9,8 +9,10 @@ use Rattle.mime.specs.Values.{MediaType, Reads}
 use Rattle.mime.specs.Cut.{good, bad, Cut, whole}
 use Rattle.mime.specs.declared.scan.fault.ParseError.TheVariants.{MissingSlash, MissingSubtype, MissingEqual, MissingValue, MissingQuote, InvalidToken, NoMemory}
 use Rattle.mime.proofs.HandedOut.{empty-cut, cut_unique}
+use Rattle.mime_http.specs.declared.value.FieldError.TheVariants.{NotUtf8, Invalid}
+use Rattle.mime_http.specs.declared.value.FieldError.TheVariants as field
 use Rattle.mime_c.specs.Strings.{strings, ComeBack, texts_of, item_texts, written}
-use Rattle.mime_c.specs.Answers.{number_of, found_at, found_of, found_of_fault, nothing, Fails, is_not_text, ReadsTo, is_read, fails, has_no_room, NeedsMemory, ListsTo, is_listed, Compares, are_read, first_fails, second_fails}
+use Rattle.mime_c.specs.Answers.{number_of, number_of_error, found_at, found_of, found_of_error, nothing, has_room, has_no_room, is_read, fails, TextExplains, are_written, ReadsTo, NeedsMemory, ListsTo, is_listed, Compares, are_compared}
 use Rattle.mime_c.proofs.OneOutcome.{reads_to_one, lists_to_one, compares_as_one}
 use Rattle.mime_c.specs.declared.MimeFound.{MimeFound}
 use Rattle.mime_c.specs.declared.TheConstants.{MIME_OK, MIME_NO_MEMORY, MIME_NOT_UTF8, MIME_NO_ROOM}
@@ -31,9 +33,10 @@ svg_found : found_of svg ≡ record { length = 36; params = 1; printed = 17; sla
 unfolding svg
 svg_found = refl
 
-invalid_found : (found_of_fault (InvalidToken 7 40) ≡ record { length = 0; params = 0; printed = 0; slash = 0; subtype_end = 0; pos = 7; byte = 40 })
-    × (found_of_fault MissingQuote ≡ found_at 0 0)
-invalid_found = (refl, refl)
+invalid_found : (found_of_error (Invalid (InvalidToken 7 40))
+    ≡ record { length = 0; params = 0; printed = 0; slash = 0; subtype_end = 0; pos = 7; byte = 40 })
+    × (found_of_error (NotUtf8 3) ≡ found_at 3 0) × (found_of_error (Invalid MissingQuote) ≡ nothing)
+invalid_found = (refl, refl, refl)
 
 -- the items of a list
 items_written : strings (item_texts (good (codes "A/b") (record svg { kept = codes "a/b" }) ∷ bad (codes "e") ∷ []))
@@ -48,9 +51,9 @@ not_with_zero : ¬ (ComeBack ((1 ∷ 0 ∷ 2 ∷ []) ∷ []))
 not_with_zero back = absurd (omega (arith, ap length back))
 
 -- the numbers of the header
-numbers : map number_of (MissingSlash ∷ MissingSubtype ∷ MissingEqual ∷ MissingValue ∷ MissingQuote ∷ InvalidToken 7 40 ∷ NoMemory ∷ [])
-    ≡ 1 ∷ 2 ∷ 3 ∷ 4 ∷ 5 ∷ 6 ∷ 7 ∷ []
-numbers = refl
+numbers : (map number_of (MissingSlash ∷ MissingSubtype ∷ MissingEqual ∷ MissingValue ∷ MissingQuote ∷ InvalidToken 7 40 ∷ NoMemory ∷ [])
+    ≡ 1 ∷ 2 ∷ 3 ∷ 4 ∷ 5 ∷ 6 ∷ 7 ∷ []) × (map number_of_error (NotUtf8 3 ∷ Invalid MissingSlash ∷ field.NoMemory ∷ []) ≡ 8 ∷ 1 ∷ 7 ∷ [])
+numbers = (refl, refl)
 
 -- ---- answers
 
@@ -65,35 +68,36 @@ whole_ab : Cut (codes "A/B") (good (codes "A/B") ab ∷ []) []
 whole_ab = whole (codes "A/B") ab reads_ab
 
 -- seven bytes aren't enough for a text of three, whatever it is
-ab_no_room : ReadsTo (codes "A/B") (codes "-------") MIME_NO_ROOM (codes "-------") nothing
+ab_no_room : ReadsTo (codes "A/B") (codes "-------") MIME_NO_ROOM (codes "-------", nothing)
 ab_no_room = has_no_room (omega arith)
 
 module _ (utf8 : IsUtf8 (codes "A/B")) where
   -- eight are, and nothing else is answered
-  ab_read : ReadsTo (codes "A/B") (codes "--------") MIME_OK (codes "a/b" ++ 0 ∷ codes "a/b" ++ 0 ∷ []) (record { length = 8; params = 0; printed = 4; slash = 1; subtype_end = 3; pos = 0; byte = 0 })
+  ab_read : ReadsTo (codes "A/B") (codes "--------") MIME_OK
+      (codes "a/b" ++ 0 ∷ codes "a/b" ++ 0 ∷ [], record nothing { length = 8; printed = 4; slash = 1; subtype_end = 3 })
   unfolding ab
-  ab_read = is_read ab (omega arith) utf8 reads_ab refl
+  ab_read = has_room _ _ (omega arith) (is_read ab _ _ (utf8, reads_ab) (are_written refl))
 
-  ab_not_else : (answer : ℕ) (new : List ℕ) (found : MimeFound) → answer ≢ MIME_NO_MEMORY → answer ≢ MIME_OK
-      → ¬ (ReadsTo (codes "A/B") (codes "--------") answer new found)
-  ab_not_else answer new found some other answers =
+  ab_not_else : (answer : ℕ) (held : List ℕ × MimeFound) → answer ≢ MIME_NO_MEMORY → answer ≢ MIME_OK
+      → ¬ (ReadsTo (codes "A/B") (codes "--------") answer held)
+  ab_not_else answer held some other answers =
       let only = (reads_to_one (codes "A/B") (codes "--------")).4 in
-      other ((only answer (new, found) some answers).0 ∙ sym (only MIME_OK _ (λ is. omega (arith, is)) ab_read).0)
+      other ((only answer held some answers).0 ∙ sym (only MIME_OK _ (λ is. omega (arith, is)) ab_read).0)
 
   -- a list of one item, and nothing else is answered
-  ab_listed : ListsTo (codes "A/B") (codes "------") MIME_OK (codes "+a/b" ++ 0 ∷ codes "-") 5
+  ab_listed : ListsTo (codes "A/B") (codes "------") MIME_OK (codes "+a/b" ++ 0 ∷ codes "-", 5)
   unfolding ab
-  ab_listed = is_listed (good (codes "A/B") ab ∷ []) [] (omega arith) utf8 whole_ab refl
+  ab_listed = has_room _ _ (omega arith) (is_listed (good (codes "A/B") ab ∷ []) [] utf8 whole_ab refl)
 
   ab_not_listed_else : (answer : ℕ) (new : List ℕ) (size : ℕ) → answer ≢ MIME_NO_MEMORY → size ≢ 5
-      → ¬ (ListsTo (codes "A/B") (codes "------") answer new size)
+      → ¬ (ListsTo (codes "A/B") (codes "------") answer (new, size))
   ab_not_listed_else answer new size some other answers =
       let only = (lists_to_one (codes "A/B") (codes "------")).4 in
       other (ap (λ it. it.1) ((only answer (new, size) some answers).1 ∙ sym (only MIME_OK _ (λ is. omega (arith, is)) ab_listed).1))
 
   -- equal, and nothing else is answered
   same_ab : Compares (codes "A/B") (codes "A/B") MIME_OK 1
-  same_ab = are_read ab ab true utf8 utf8 reads_ab reads_ab ((λ is. (refl, refl)), (λ is. refl))
+  same_ab = is_read ab _ _ (utf8, reads_ab) (is_read ab _ _ (utf8, reads_ab) (are_compared true ((λ is. (refl, refl)), (λ is. refl))))
 
   not_different : ¬ (Compares (codes "A/B") (codes "A/B") MIME_OK 0)
   not_different different =
@@ -134,10 +138,10 @@ module _ (isnt : ¬ (IsUtf8 (255 ∷ []))) where
     longest = λ m above utf8. isnt (subst IsUtf8 (take_all m (255 ∷ []) (omega (arith, above))) utf8);
   }
 
-  not_read : ReadsTo (255 ∷ []) (codes "----") MIME_NOT_UTF8 (codes "----") nothing
-  not_read = fails MIME_NOT_UTF8 nothing (omega arith) (is_not_text 0 isnt none_valid)
+  not_read : ReadsTo (255 ∷ []) (codes "----") MIME_NOT_UTF8 (codes "----", nothing)
+  not_read = has_room _ _ (omega arith) (fails (NotUtf8 0) (isnt, none_valid))
 
   not_compared : IsUtf8 (codes "A/B") → Compares (255 ∷ []) (codes "A/B") MIME_NOT_UTF8 0 × Compares (codes "A/B") (255 ∷ []) MIME_NOT_UTF8 0
   not_compared utf8 =
-      let failed : Fails (255 ∷ []) MIME_NOT_UTF8 nothing = is_not_text 0 isnt none_valid in
-      (first_fails MIME_NOT_UTF8 nothing failed, second_fails ab MIME_NOT_UTF8 nothing utf8 reads_ab failed)
+      let why : TextExplains (255 ∷ []) (NotUtf8 0) = (isnt, none_valid) in
+      (fails (NotUtf8 0) why, is_read ab _ _ (utf8, reads_ab) (fails (NotUtf8 0) why))

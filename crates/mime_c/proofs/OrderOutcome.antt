@@ -1,5 +1,5 @@
 -- `mime_order` has one outcome, unless memory runs out: offers have one order.
-use Rattle.std.proofs.Common.{◌≡◌, ◌≢◌, ℕ, ◌<◌, ◌⊎◌, inl, inr, Bool, true, zero, suc, List, [], ◌∷◌, length, map, refl, sym, ap, ◌∙◌, subst, arith, ⊎_elim, rules}
+use Rattle.std.proofs.Common.{◌≡◌, ◌≢◌, ℕ, ◌<◌, ◌⊎◌, inl, inr, true, zero, suc, List, [], ◌∷◌, length, map, refl, sym, ◌∙◌, subst, arith, ⊎_elim, rules}
 use Rattle.std.specs.Prelude.{Contains, ◌↔◌}
 use Rattle.std.specs.List.{All, AllPairs}
 use Rattle.std.specs.Ordering.{is_gt}
@@ -9,15 +9,15 @@ use Rattle.std.proofs.lemmas.List.{length-map}
 use Rattle.std.proofs.lemmas.List.Elements.{All-contains, All-cons, All-head, All-nil, All-tail, All-weaker, Contains-get_or}
 use Rattle.std.proofs.lemmas.List.Kept.{AllPairs-cons}
 use Rattle.mime.specs.Values.{MediaType}
-use Rattle.mime_http.specs.HttpList.{Header, IsHeader}
 use Rattle.mime_http.specs.Ranges.{Rank, rank_cmp, merit, merit_at, AreInOrder}
 use Rattle.mime_http.proofs.HandedOut.{weighs_within}
 use Rattle.mime_c.specs.Strings.{written}
-use Rattle.mime_c.specs.HeaderAnswers.{lines_of, OrderIs, order_is, none_is_ordered, order_has_no_room, an_ordered_is_bad, order_has_no_memory}
-use Rattle.mime_c.specs.Laws.{OrderIsOne}
-use Rattle.mime_c.specs.declared.TheConstants.{MIME_NO_MEMORY}
-use Rattle.mime_c.proofs.OneOutcome.{is_one}
-use Rattle.mime_c.proofs.HeaderOutcome.{header_of, same_header, empty_or_not}
+use Rattle.mime_c.specs.Answers.{InRoom, Holds}
+use Rattle.mime_c.specs.HeaderAnswers.{IsOrder, order_is, none_is_ordered}
+use Rattle.mime_c.specs.Laws.{HasOne, OrderIsOne}
+use Rattle.mime_c.specs.declared.TheConstants.{MIME_NO_MEMORY, MIME_NOT_ACCEPTABLE}
+use Rattle.mime_c.proofs.OneOutcome.{one_success, one_in_room}
+use Rattle.mime_c.proofs.HeaderOutcome.{one_of_offers, empty_or_not}
 
 -- ---- what a list contains
 
@@ -183,65 +183,35 @@ module _ (ranges offers : List MediaType) where
 
 -- ---- outcomes
 
--- two outcomes speak of the same order
-same_order : {lines offers : List (List ℕ)} {header offered another others : Header} {order other : List ℕ} → IsHeader lines header
-    → IsHeader offers offered → IsHeader lines another → IsHeader offers others → AreInOrder header.ranges offered.ranges order
-    → AreInOrder another.ranges others.ranges other → other ≡ order
-same_order {header = header} {offered = offered} {another = another} {other = other} is of too again one two =
-    only_order header.ranges offered.ranges _ _ one
-    (subst (λ (it : Header). AreInOrder it.ranges offered.ranges other) (same_header is too)
-    (subst (λ (it : Header). AreInOrder another.ranges it.ranges other) (same_header of again) two))
+module _ (old : List ℕ) (ranges offers : List MediaType) where
+  only_none : AreInOrder ranges offers [] → (n : ℕ) (held : List ℕ × ℕ) → n ≢ MIME_NO_MEMORY → IsOrder old ranges offers n held
+      → (n ≡ MIME_NOT_ACCEPTABLE) × (held ≡ (old, 0))
+  only_none none n held some (order_is order _ _ are more is) = absurd (more (only_order ranges offers [] order none are))
+  only_none none n held some (none_is_ordered too) = (refl, refl)
 
--- the offers of one aren't bad
-not_bad : {lines : List (List ℕ)} {one two : Header} → IsHeader lines one → IsHeader lines two → one.bad ≡ [] → ¬ (two.bad ≢ [])
-not_bad is too good bad = bad (ap (λ (it : Header). it.bad) (same_header is too) ∙ good)
+  -- An order is written if there is room for it.
+  abbrev IsPlaced : List ℕ → ℕ → List ℕ × ℕ → Type 0
+  IsPlaced order = InRoom (length order) old (old, 0) (Holds (written order old, length order))
 
-module _ {is_there : Bool} {line offers old : List ℕ} where
-  one_ordering : {n m : ℕ} {new bytes : List ℕ} {size other : ℕ} → n ≢ MIME_NO_MEMORY → m ≢ MIME_NO_MEMORY
-      → OrderIs is_there line offers old n new size → OrderIs is_there line offers old m bytes other
-      → (m ≡ n) × ◌≡◌ {A = List ℕ × ℕ} (bytes, other) (new, size)
-  one_ordering h k (order_has_no_memory none) orders = absurd (h refl)
-  one_ordering h k orders (order_has_no_memory none) = absurd (k refl)
-  one_ordering h k (order_is _ _ order is of good one some room) (order_is _ _ another too again fine two more place) =
-      (refl, ap (λ (it : List ℕ). (written it old, length it)) (same_order is of too again one two))
-  one_ordering h k (order_is _ _ order is of good one some room) (none_is_ordered _ _ too again fine none) =
-      absurd (some (sym (same_order is of too again one none)))
-  one_ordering h k (order_is _ _ order is of good one some room) (order_has_no_room _ _ another too again fine two short) =
-      absurd (omega (arith, room, short, ap length (same_order is of too again one two)))
-  one_ordering h k (order_is _ _ order is of good one some room) (an_ordered_is_bad _ again bad) = absurd (not_bad of again good bad)
-  one_ordering h k (none_is_ordered _ _ is of good none) (order_is _ _ another too again fine two some room) =
-      absurd (some (same_order is of too again none two))
-  one_ordering h k (none_is_ordered _ _ is of good none) (none_is_ordered _ _ too again fine nothing) = (refl, refl)
-  one_ordering h k (none_is_ordered _ _ is of good none) (order_has_no_room _ _ another too again fine two short) =
-      absurd (omega (arith, short, ap length (same_order is of too again none two)))
-  one_ordering h k (none_is_ordered _ _ is of good none) (an_ordered_is_bad _ again bad) = absurd (not_bad of again good bad)
-  one_ordering h k (order_has_no_room _ _ order is of good one short) (order_is _ _ another too again fine two some room) =
-      absurd (omega (arith, room, short, ap length (same_order is of too again one two)))
-  one_ordering h k (order_has_no_room _ _ order is of good one short) (none_is_ordered _ _ too again fine none) =
-      absurd (omega (arith, short, ap length (same_order is of too again one none)))
-  one_ordering h k (order_has_no_room _ _ order is of good one short) (order_has_no_room _ _ another too again fine two less) = (refl, refl)
-  one_ordering h k (order_has_no_room _ _ order is of good one short) (an_ordered_is_bad _ again bad) = absurd (not_bad of again good bad)
-  one_ordering h k (an_ordered_is_bad _ of bad) (order_is _ _ another too again fine two some room) = absurd (not_bad again of fine bad)
-  one_ordering h k (an_ordered_is_bad _ of bad) (none_is_ordered _ _ too again fine none) = absurd (not_bad again of fine bad)
-  one_ordering h k (an_ordered_is_bad _ of bad) (order_has_no_room _ _ another too again fine two short) = absurd (not_bad again of fine bad)
-  one_ordering h k (an_ordered_is_bad _ of bad) (an_ordered_is_bad _ again worse) = (refl, refl)
+  one_place : (order : List ℕ) → HasOne (IsPlaced order)
+  one_place order = one_in_room one_success
 
+  only_some : (order : List ℕ) → AreInOrder ranges offers order → order ≢ [] → (n : ℕ) (held : List ℕ × ℕ) → n ≢ MIME_NO_MEMORY
+      → IsOrder old ranges offers n held → (n ≡ (one_place order).0) × (held ≡ (one_place order).1)
+  only_some order are more n held some (order_is other _ _ too _ is) =
+      (one_place order).4 n held some (subst (λ it. IsPlaced it n held) (only_order ranges offers order other are too) is)
+  only_some order are more n held some (none_is_ordered none) = absurd (more (only_order ranges offers [] order none are))
+
+  -- Ranges and offers have one order, which there is room for or isn't.
+  one_ordering : HasOne (IsOrder old ranges offers)
+  one_ordering =
+      let order = has_order ranges offers in
+      ⊎_elim
+      (λ none. let are = subst (AreInOrder ranges offers) none order.1 in
+      (_, _, (λ same. omega (arith, same)), none_is_ordered are, only_none are))
+      (λ more. let has = one_place order.0 in
+      (_, _, has.2, order_is order.0 _ _ order.1 more has.3, only_some order.0 order.1 more)) (empty_or_not order.0)
+
+-- `mime_order` has one outcome.
 pub order_is_one : OrderIsOne
-order_is_one is_there line offers old =
-    let one = is_one (λ n (held : List ℕ × ℕ). OrderIs is_there line offers old n held.0 held.1) in
-    let header = header_of (lines_of is_there line) in
-    let offered = header_of (offers ∷ []) in
-    let order = has_order header.0.ranges offered.0.ranges in
-    ⊎_elim
-    (λ good. ⊎_elim
-    (λ none. one _ _ (λ same. omega (arith, same))
-    (none_is_ordered header.0 offered.0 header.1 offered.1 good (subst (AreInOrder header.0.ranges offered.0.ranges) none order.1)) (λ m y. one_ordering))
-    (λ some. ⊎_elim
-    (λ short. one _ _ (λ same. omega (arith, same))
-    (order_has_no_room header.0 offered.0 order.0 header.1 offered.1 good order.1 short) (λ m y. one_ordering))
-    (λ room. one _ _ (λ same. omega (arith, same))
-    (order_is header.0 offered.0 order.0 header.1 offered.1 good order.1 some room) (λ m y. one_ordering))
-    (cases_lt (length old) (length order.0)))
-    (empty_or_not order.0))
-    (λ bad. one _ _ (λ same. omega (arith, same)) (an_ordered_is_bad offered.0 offered.1 bad) (λ m y. one_ordering))
-    (empty_or_not offered.0.bad)
+order_is_one is_there line offers old = one_of_offers is_there line offers (λ at. (old, at)) (one_ordering old)

@@ -3,14 +3,15 @@ use Rattle.std.proofs.Common.{◌≡◌, ℕ, List, [], ◌∷◌, ◌++◌, ref
 use Rattle.std.proofs.lemmas.Bool.{true≢false}
 use Rattle.mime.specs.Bytes.{is_token_byte, is_quoted_byte}
 use Rattle.mime.specs.Values.{MediaType}
-use Rattle.mime_c.specs.ParameterAnswers.{BoundaryIs, boundary_has_no_room, UnescapesTo, is_unescaped, room_with, IsParameter, with_parameter, SetsTo, set_has_no_room}
+use Rattle.mime_c.specs.Answers.{has_room, has_no_room, holds}
+use Rattle.mime_c.specs.ParameterAnswers.{BoundaryIs, UnescapesTo, room_with, IsParameter, with_parameter, SetsTo}
 use Rattle.mime_c.specs.declared.TheConstants.{MIME_OK, MIME_NO_ROOM}
 
 -- `a\"b` means three bytes, and nothing else is answered
-escaped_quote : UnescapesTo (codes "a\\\"b") (codes "-----") MIME_OK (codes "a\"b" ++ 0 ∷ codes "-") 3
-escaped_quote = is_unescaped (omega arith)
+escaped_quote : UnescapesTo (codes "a\\\"b") (codes "-----") MIME_OK (codes "a\"b" ++ 0 ∷ codes "-", 3)
+escaped_quote = has_room _ _ (omega arith) holds
 
-not_four : (new : List ℕ) → ¬ (UnescapesTo (codes "a\\\"b") (codes "-----") MIME_OK new 4)
+not_four : (new : List ℕ) → ¬ (UnescapesTo (codes "a\\\"b") (codes "-----") MIME_OK (new, 4))
 not_four new is = search rules
 
 -- how many bytes are asked for, and what is written
@@ -33,11 +34,11 @@ unfolding is_quoted_byte
 no_line_feed name is = true≢false (sym is.safe)
 
 -- for nothing, a byte isn't enough for a boundary, nor five for a parameter, and nothing else is answered
-no_room : BoundaryIs [] (codes "-") MIME_NO_ROOM (codes "-") 0 × SetsTo [] [] [] (codes "-----") MIME_NO_ROOM (codes "-----") 0
-no_room = (boundary_has_no_room (omega arith), set_has_no_room (omega arith))
+no_room : BoundaryIs [] (codes "-") MIME_NO_ROOM (codes "-", 0) × SetsTo [] [] [] (codes "-----") MIME_NO_ROOM (codes "-----", 0)
+no_room = (has_no_room (omega arith), has_no_room (omega arith))
 
-no_boundary_there : (new : List ℕ) (size : ℕ) → ¬ (BoundaryIs [] (codes "-") MIME_OK new size)
-no_boundary_there new size is = search rules
+no_boundary_there : (held : List ℕ × ℕ) → ¬ (BoundaryIs [] (codes "-") MIME_OK held)
+no_boundary_there held is = search rules
 
-no_type_there : (new : List ℕ) (size : ℕ) → ¬ (SetsTo [] [] [] (codes "-----") MIME_OK new size)
-no_type_there new size is = search rules
+no_type_there : (held : List ℕ × ℕ) → ¬ (SetsTo [] [] [] (codes "-----") MIME_OK held)
+no_type_there held is = search rules

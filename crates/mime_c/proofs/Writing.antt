@@ -14,7 +14,7 @@ use Rattle.mime_c.specs.Strings.{string_of, strings, pair_texts, parts_of, texts
 use Rattle.mime_c.specs.Writing.{HasWritten, Writes}
 use Rattle.mime_c.specs.HeaderAnswers.{four_digits, range_texts, ranges_texts}
 use Rattle.mime_http.specs.Ranges.{weight_of}
-use Rattle.mime_c.specs.Answers.{ListsTo, is_listed, has_no_memory}
+use Rattle.mime_c.specs.Answers.{has_room, ListsTo, is_listed, has_no_memory}
 use Rattle.mime_c.specs.declared.TheConstants.{MIME_OK, MIME_NO_MEMORY}
 use Rattle.mime_c.proofs.NoZero.{items_come_back}
 use Rattle.mime_c.proofs.Room.{items_fit, strings_of_items}
@@ -177,14 +177,14 @@ module _ {text old now left next : List ℕ} {at : ℕ} {item : CutItem} (lists 
 
 module _ {text old now left : List ℕ} {at : ℕ} (lists : Lists text old now at left) (room : 2 * length text ≤ length old) (utf8 : IsUtf8 text) where
   -- at the end all are written,
-  pub lists-last : HasNoItem left → ListsTo text old MIME_OK now at
+  pub lists-last : HasNoItem left → ListsTo text old MIME_OK (now, at)
   lists-last (rest, none) =
       let cut = subst (λ items. Cut text items rest) (append-nil lists.before) (lists.cuts [] rest none) in
-      rw (lists.wrote.there, lists.wrote.end) (is_listed lists.before rest room utf8 cut (items_come_back text lists.before rest cut))
+      rw (lists.wrote.there, lists.wrote.end) (has_room _ _ room (is_listed lists.before rest utf8 cut (items_come_back text lists.before rest cut)))
 
   -- if there was no memory for an item, the call says so
-  pub lists-no_memory : runs.FirstNeedsMemory left → ListsTo text old MIME_NO_MEMORY now 0
-  lists-no_memory needs = has_no_memory now room utf8 (record {
+  pub lists-no_memory : runs.FirstNeedsMemory left → ListsTo text old MIME_NO_MEMORY (now, 0)
+  lists-no_memory needs = has_room _ _ room (has_no_memory now utf8 (record {
     before = lists.before;
     piece = needs.piece;
     media = needs.value;
@@ -192,4 +192,4 @@ module _ {text old now left : List ℕ} {at : ℕ} (lists : Lists text old now a
     rest = needs.rest;
     cut = lists.cuts _ needs.rest needs.cut;
     long = needs.long;
-  })
+  }))

@@ -37,7 +37,7 @@ pub extern "C" fn mime_boundary(
     out: &mut [u8],
     size: &mut usize,
 ) -> u32
-    ensures { BoundaryIs value.now out.old result out.new size.new }
+    ensures { BoundaryIs value.now out.old result (out.new, size.new) }
 {
     *size = 0;
     if out.len() < BOUNDARY_ROOM {
@@ -98,7 +98,7 @@ fn put_unescaped(out: &mut [u8], value: &[u8]) -> usize
 /// `size` to their number. `a\"b` means `a"b`. Returns `MIME_OK`, or `MIME_NO_ROOM` if it wrote nothing.
 #[unsafe(no_mangle)]
 pub extern "C" fn mime_unescape(value: &[u8], out: &mut [u8], size: &mut usize) -> u32
-    ensures { UnescapesTo value.now out.old result out.new size.new }
+    ensures { UnescapesTo value.now out.old result (out.new, size.new) }
 {
     *size = 0;
     if out.len() <= value.len() {
@@ -130,7 +130,7 @@ pub extern "C" fn mime_set_parameter(
     out: &mut [u8],
     size: &mut usize,
 ) -> u32
-    ensures { SetsTo text.now name.now value.now out.old result out.new size.new }
+    ensures { SetsTo text.now name.now value.now out.old result (out.new, size.new) }
 {
     *size = 0;
     if !has_room(out, text, name, value) {

@@ -1,9 +1,10 @@
 -- The content of quoted strings: what is written for a value and in which form, what needs no backslash, and what it means.
-use Rattle.mime_http.proofs.Common.{AreHeaderBytes, one-add, AreTokenBytes-from_token, Bool, IsBoundary, IsContent, IsToken, List, WrittenIsMeant, [], and_parts, ap, append-nil, append_assoc, arith, cases_Bool, cond, drop, drop-append-add, drop-length, drop_of_length-le, eqb-true, escaped, false, false_from_ne_true, get_or, if◌then◌else◌, is_bchar, is_charset, is_quoted_byte, is_quoted_text_byte, is_token_byte, length, list_all, list_all-wider, lowered, lowered_value, lowered_value-either, nat_tests, no_byte, not, quoted_pair, refl, suc, sym, take, take-append-add, take-length, text_byte, to_ascii_lowercase, true, unescaped, zero, ℕ, ⊎_elim, ◌&&◌, ◌*◌, ◌++◌, ◌+◌, ◌-◌, ◌<◌, ◌==◌, ◌||◌, ◌∙◌, ◌∷◌, ◌≡◌, ◌≢◌, ◌≤◌, Form, flat_map-append, text_of_pairs, Token, bit_and, drop-cons, form_of, is_plain, is_token_value, list_all-append, prefix_len, prefix_len-le-length, prefix_len_stops, take_more, text_in, text_of_pair, is_ascii_uppercase}
+use Rattle.mime_http.proofs.Common.{AreHeaderBytes, one-add, AreTokenBytes-from_token, Bool, IsBoundary, IsContent, IsToken, List, WrittenIsMeant, [], and_parts, ap, append-nil, append_assoc, arith, cases_Bool, cond, drop, drop-append-add, drop-length, drop_of_length-le, eqb-true, escaped, false, false_from_ne_true, get_or, if◌then◌else◌, is_bchar, is_charset, is_quoted_byte, is_quoted_text_byte, is_token_byte, length, list_all, list_all-wider, lowered, lowered_value, lowered_value-either, nat_tests, no_byte, not, quoted_pair, refl, suc, sym, take, take-append-add, take-length, take_rest, text_byte, to_ascii_lowercase, true, unescaped, zero, ℕ, ⊎_elim, ◌&&◌, ◌*◌, ◌++◌, ◌+◌, ◌-◌, ◌<◌, ◌==◌, ◌||◌, ◌∙◌, ◌∷◌, ◌≡◌, ◌≢◌, ◌≤◌, Form, flat_map-append, text_of_pairs, Token, bit_and, drop-cons, form_of, is_plain, is_token_value, list_all-append, prefix_len, prefix_len-le-length, prefix_len_stops, take_more, text_in, text_of_pair, is_ascii_uppercase}
 use Rattle.mime.specs.Bytes.{backslash_byte}
+use Rattle.std.specs.Int.Bits.{or_zero_r}
 use Rattle.mime_http.proofs.{Common.drop-drop, Common.drop_more, Common.is_stop, Common.slice_range, ReadAt.run_is}
 use Rattle.mime_search.{specs.Classes.end_of_run, specs.declared.class.Class.Class}
-use Rattle.mime_http.{specs.declared.quoted.Form.TheVariants.Quoted, proofs.Written.token_from_test}
+use Rattle.mime_http.{specs.declared.quoted.Form.TheVariants.Quoted, proofs.Written.token_from_test, specs.declared.parameter.TheConstants.CONTROLS}
 
 -- bytes that stand in quotes as they are need no backslash,
 pub plain_text : (bytes : List ℕ) → list_all is_quoted_text_byte bytes ≡ true → escaped bytes ≡ bytes
@@ -41,9 +42,6 @@ unescaped_is [] = refl
 unescaped_is (b ∷ []) = refl
 unescaped_is (b ∷ c ∷ bytes) = grind (arith, unescaped_is bytes, unescaped_is (c ∷ bytes))
 
--- how what was moved is the whole
-pub ruleset moved = (unescaped_is, drop_of_length-le, append-nil)
-
 -- they mean themselves
 pub unescaped_before : (bytes : List ℕ) (at : ℕ) → at ≤ length bytes → ((i : ℕ) → i < at → get_or bytes i 0 ≢ 92)
     → unescaped bytes ≡ take at bytes ++ unescaped (drop at bytes)
@@ -55,11 +53,12 @@ unescaped_before (b ∷ bytes) (suc at) within none = grind (arith, nat_tests, n
 pub unescaped_same : (bytes : List ℕ) → ((i : ℕ) → i < length bytes → get_or bytes i 0 ≢ 92) → unescaped bytes ≡ bytes
 unescaped_same bytes none = grind (arith, unescaped_before bytes (length bytes), drop-length, take-length, append-nil)
 
--- so do those at the end of a buffer
+-- What a value means from a position on is added after the bytes before it, which mean themselves.
 pub unescaped_end : (front value : List ℕ) (start at : ℕ) → start ≡ length front → at ≤ length value
-    → ((i : ℕ) → i < at → get_or value i 0 ≢ 92)
-    → take (start + at) (front ++ value) ++ unescaped (drop (start + at) (front ++ value)) ≡ front ++ unescaped value
-unescaped_end front value start at long within none = grind (arith, drop-append-add, take-append-add, append_assoc, unescaped_before)
+    → ((i : ℕ) → i < at → get_or value i 0 ≢ 92) → {bytes : List ℕ} → bytes ≡ value
+    → take (start + at) (front ++ value) ++ unescaped (take (length bytes - at) (drop at bytes)) ≡ front ++ unescaped value
+unescaped_end front value start at long within none is =
+    grind (arith, take-append-add, append_assoc, unescaped_before, take_rest, is)
 
 -- two bytes stand for each at most, and a backslash at the end for none
 pub length-unescaped : (bytes : List ℕ) → length bytes ≤ 2 * length (unescaped bytes) + 1
@@ -103,6 +102,23 @@ written_is_meant name value = grind (arith, lowered_escaped, meant)
 
 -- ---- what is written, character by character
 
+-- A run ends at the end of a text exactly if all bytes are of its class.
+pub whole_run : (class : ℕ → Bool) (bytes : List ℕ) → (prefix_len class bytes == length bytes) ≡ list_all class bytes
+whole_run class [] = refl
+whole_run class (b ∷ bytes) = grind (arith, nat_tests, one-add (prefix_len class bytes), whole_run class bytes)
+
+-- A search for a byte that no quoted string can contain passes the others.
+pub quoted_len : (bytes : List ℕ) → ((i : ℕ) → get_or bytes i 0 < 256)
+    → prefix_len (λ b. not (is_stop CONTROLS b)) bytes ≡ prefix_len is_quoted_byte bytes
+unfolding is_quoted_byte
+quoted_len [] few = refl
+quoted_len (b ∷ bytes) few = grind (arith, nat_tests, or_zero_r b, few 0, quoted_len bytes (λ i. few (suc i)))
+
+-- Bytes of quoted text are those of a quoted string that need no backslash.
+pub quoted_text : (bytes : List ℕ) → list_all is_quoted_text_byte bytes ≡ (list_all is_quoted_byte bytes && list_all is_plain bytes)
+quoted_text [] = refl
+quoted_text (b ∷ bytes) = grind (arith, nat_tests, quoted_text bytes)
+
 -- a search for a byte that needs one passes those that need none
 plain_len : (class : Class) → ((b : ℕ) → is_stop class b ≡ (b == 34 || b == 92)) → (bytes : List ℕ)
     → prefix_len (λ b. not (is_stop class b)) bytes ≡ prefix_len is_plain bytes
@@ -131,7 +147,7 @@ run_found value from at is =
 -- before another a backslash is written
 pub special_written : (value text whole : List ℕ) (from at : ℕ) → at < length value → is_plain (get_or value at 0) ≡ false
     → escaped (drop from value) ≡ slice_range value from at ++ escaped (drop at value) → text ++ escaped (drop from value) ≡ whole
-    → (((text ++ slice_range value from at) ++ (backslash_byte ∷ [])) ++ (get_or value at 0 ∷ [])) ++ escaped (drop (at + 1) value) ≡ whole
+    → ((text ++ slice_range value from at) ++ (backslash_byte ∷ get_or value at 0 ∷ [])) ++ escaped (drop (at + 1) value) ≡ whole
 special_written value text whole from at within special run is =
     grind (arith, nat_tests, append_assoc, drop_more value at 0 within, special, run, is)
 

@@ -58,71 +58,35 @@ printed_is_read value media is (anew _ _ isnt same) =
     let kept = kept_is_read (text_of_parts parts) media (grind (arith, media_is, same, written_reads value parts answered)) in
     (kept, plain_is_http media.kept media kept)
 
--- ---- what the library keeps
-
--- in lowercase a list takes as many bytes
-length_list : (list : Parameters) → length (text_of_list (lowered_list list)) ≡ length (text_of_list list)
-length_list (blank n) = refl
-length_list (final n (plain name value)) = grind (arith, lengths)
-length_list (final n (quoted name content m)) = grind (arith, lengths)
-length_list (more n (plain name value) rest) = grind (arith, lengths, length_list rest)
-length_list (more n (quoted name content m) rest) = grind (arith, lengths, length_list rest)
+-- ---- what is read of a value
 
 -- what the library reads without the white space around it is read and printed as it stands,
 pub stands : (value : List ℕ) (media : MediaType) → Reads (trimmed value) media → HttpReads value media × IsPrinted value media
 stands value media reads = (reads_around value media (plain_is_http (trimmed value) media reads), as_it_stands value media reads)
 
-module _ (value : List ℕ) (media : MediaType) (parts : Parts) (reads : Reads (trimmed value) media)
-    (answered : answer_of value ≡ read parts) where
-  -- and is written anew as the same, but for the kept text,
-  anew_is : media_of parts ≡ with_pairs media media.pairs
-  anew_is =
-      let found = http_is_answered value media (stands value media reads).0 in
-      subst (λ parts. media_of parts ≡ with_pairs media media.pairs) (cc (found.1, answered)) found.2
+-- so it needs memory if more than 40 bytes of it are kept.
+pub stands_needs : (value : List ℕ) → Explains (trimmed value) NoMemory → NeedsMemory value
+stands_needs value (media, reads, long) =
+    let (is, printed) = stands value media reads in record { media = media; is = is; printed = printed; long = long }
 
-  -- which takes the bytes of the essence and of the pairs
-  length-anew : length (text_of_parts parts) ≡ length media.essence + length (text_of_pairs media.pairs)
-  length-anew = grind (arith, written_length parts, anew_is, length-append media.essence)
+module _ {value text : List ℕ} (parts : Parts) (isnt : ¬ (IsAccepted (trimmed value))) (answered : answer_of value ≡ read parts)
+    (same : text ≡ text_of_parts parts) where
+  -- What is written anew of a value that the library rejects is read as the value, which is printed so.
+  pub anew_is : (media : MediaType) → Reads text media → HttpReads value media × IsPrinted value media
+  anew_is media reads =
+      let is = one_reading (text_of_parts parts) media (media_of parts) (rw same at reads) (written_reads value parts answered) in
+      rw is (answered_is_http value parts answered, anew value (media_of parts) isnt refl)
 
-  -- If that is the essence alone, it is the same,
-  essence_alone : length (text_of_parts parts) ≤ length media.essence → media_of parts ≡ media
-  essence_alone all = grind (arith, nil_from_length, length-anew, pairs_within_text, anew_is, append-nil)
+  -- The value needs memory if that is long.
+  pub anew_needs : 40 < length text → NeedsMemory value
+  anew_needs long =
+      let (is, printed) = anew_is (media_of parts) (rw same (written_reads value parts answered)) in
+      record { media = media_of parts; is = is; printed = printed; long = omega (arith, long, ap length same, written_length parts) }
 
-  -- and if it is more, or is long, a long value is printed with many bytes.
-  many_kept : 40 < length (trimmed value) → (40 < length (text_of_parts parts)) ⊎ (length media.essence < length (text_of_parts parts))
-      → 40 < length media.kept
-  many_kept long either = grind (arith, length-anew, lengths, length_list, reads.valued, reads.spelled)
-
--- ---- what is read of it
-
-module _ {value bytes : List ℕ} (parts : Parts) (same : bytes ≡ value) (answered : answer_of bytes ≡ read parts) where
-  -- the value is answered as its bytes
-  here : answer_of value ≡ read parts
-  here = ap answer_of (sym same) ∙ answered
-
-  -- that is printed of a value that the library rejects without the white space around it
-  pub printed_anew : {media : MediaType} → ¬ (IsAccepted (trimmed value)) → media ≡ media_of parts
-      → HttpReads value media × IsPrinted value media
-  printed_anew isnt is = rw is (answered_is_http value parts here, anew value (media_of parts) isnt refl)
-
-  pub anew_needs : ¬ (IsAccepted (trimmed value)) → 40 < length (text_of_parts parts) → NeedsMemory value
-  anew_needs isnt long =
-      let (is, printed) = printed_anew {media = media_of parts} isnt refl in
-      record { media = media_of parts; is = is; printed = printed; long = omega (arith, long, written_length parts) }
-
-  -- and of one that it accepts what it keeps
-  pub stands_needs : IsAccepted (trimmed value) → 40 < length (trimmed value)
-      → (40 < length (text_of_parts parts)) ⊎ (length (media_of parts).essence < length (text_of_parts parts)) → NeedsMemory value
-  stands_needs (media, reads) long either =
-      let (is, printed) = stands value media reads in
-      let long : 40 < length media.kept = grind (arith, anew_is value media parts reads here, many_kept value media parts reads here) in
-      record { media = media; is = is; printed = printed; long = long }
-
-  pub stands_printed : {media : MediaType} → IsAccepted (trimmed value) → media ≡ media_of parts
-      → length (text_of_parts parts) ≤ length media.essence → HttpReads value media × IsPrinted value media
-  stands_printed {media} (found, reads) is few =
-      let essence = ap (λ (it : MediaType). length it.essence) (is ∙ anew_is value found parts reads here) in
-      rw (is, essence_alone value found parts reads here (omega (arith, few, essence))) (stands value found reads)
+  -- It does if reading what is written does.
+  pub reading_needs : Explains text NoMemory → NeedsMemory value
+  reading_needs (media, reads, long) =
+      let (is, printed) = anew_is media reads in record { media = media; is = is; printed = printed; long = long }
 
 -- ---- errors
 
@@ -163,18 +127,3 @@ pub not_accepted : (text : List ℕ) (fault : ParseError) → fault ≢ NoMemory
 not_accepted text NoMemory other why = absurd (other refl)
 not_accepted text (InvalidToken pos byte) other why = rejected-from_fault text (InvalidToken pos byte) why
 not_accepted text fault other why = rejected-from_fault text fault why
-
--- a value that `mime` didn't read is printed as it is written anew: or, if memory ran out, if that is its essence
-pub printed_other : {value bytes : List ℕ} {media : MediaType} (accepted : Bool) (parts : Parts) → bytes ≡ value
-    → answer_of bytes ≡ read parts → (IsTrue accepted → IsAccepted (trimmed value) × (40 < length (trimmed value)))
-    → (IsFalse accepted → ¬ (IsAccepted (trimmed value))) → media ≡ media_of parts
-    → (IsTrue accepted → length (text_of_parts parts) ≤ length media.essence) → HttpReads value media × IsPrinted value media
-printed_other true parts same answered kept isnt is few = stands_printed parts same answered (kept refl).0 is (few refl)
-printed_other false parts same answered kept isnt is few = printed_anew parts same answered (isnt refl) is
-
--- and needs memory if that is long
-pub other_needs : {value bytes : List ℕ} (accepted : Bool) (parts : Parts) → bytes ≡ value → answer_of bytes ≡ read parts
-    → (IsTrue accepted → IsAccepted (trimmed value) × (40 < length (trimmed value))) → (IsFalse accepted → ¬ (IsAccepted (trimmed value)))
-    → 40 < length (text_of_parts parts) → NeedsMemory value
-other_needs true parts same answered kept isnt long = stands_needs parts same answered (kept refl).0 (kept refl).1 (inl long)
-other_needs false parts same answered kept isnt long = anew_needs parts same answered (isnt refl) long

@@ -1,20 +1,51 @@
--- What every byte of a value may be decides the form.
-use Rattle.std.proofs.Common.{rules, tests}
-use Rattle.std.{proofs.lemmas.Iterator.YieldsList-from_slice, proofs.lemmas.Iterator.Search.all_from_yields_List}
-use Rattle.mime_http.proofs.Common.{arith, is_quoted_byte, is_quoted_text_byte, list_all, ◌≡◌}
-use Rattle.mime_http.proofs.Contents.{safe_text}
+-- What two searches find decides the form.
+use Rattle.mime_http.proofs.Common.{arith, Bool, ℕ, is_plain, is_quoted_byte, length, list_all, nat_lt, nat_tests, not, prefix_len-le-length, rules, ◌≡◌}
+use Rattle.mime_http.proofs.Contents.{quoted_len, quoted_text, whole_run}
 use Rattle.mime_http.proofs.parameter.form_of.Goals as goal
 
-pub returns-then-all : goal.returns-then-all
-returns-then-all c =
-    let text : c.all.result ≡ list_all is_quoted_text_byte c.args.value.now =
-    all_from_yields_List is_quoted_text_byte _ _ _ c.all.ensures.ran (YieldsList-from_slice _ cc) (λ x b q k. search (rules, tests)) in
-    grind (arith, text, c.if-all.true, c.is_token_text.ensures, c.if-is_token_text.false, safe_text)
+pub returns-then-first_stop-bytes : goal.returns-then-first_stop-bytes
+returns-then-first_stop-bytes c =
+    let value = c.args.value.now in
+    let quoted = quoted_len value (λ i. search (c.type_inv.value i, rules)) in
+    grind (arith, nat_tests, quoted, whole_run is_quoted_byte value, c.first_stop.ensures.end, c.if-first_stop-bytes.true)
 
-pub returns-then-all-2 : goal.returns-then-all-2
-returns-then-all-2 c =
-    let text : c.all.result ≡ list_all is_quoted_text_byte c.args.value.now =
-    all_from_yields_List is_quoted_text_byte _ _ _ c.all.ensures.ran (YieldsList-from_slice _ cc) (λ x b q k. search (rules, tests)) in
-    let within : c.all-else-all.result ≡ list_all is_quoted_byte c.args.value.now =
-    all_from_yields_List is_quoted_byte _ _ _ c.all-else-all.ensures.ran (YieldsList-from_slice _ cc) (λ x b q k. search (rules, tests)) in
-    grind (arith, text, within, c.if-all.false, c.if-all-2.true, c.is_token_text.ensures, c.if-is_token_text.false)
+pub returns-then-special_from-bytes : goal.returns-then-special_from-bytes
+returns-then-special_from-bytes c =
+    let value = c.args.value.now in
+    let quoted = quoted_len value (λ i. search (c.type_inv.value i, rules)) in
+    let plain = quoted_text value in
+    grind (
+      arith,
+      nat_tests,
+      quoted,
+      plain,
+      whole_run is_quoted_byte value,
+      whole_run is_plain value,
+      prefix_len-le-length is_quoted_byte value,
+      c.first_stop.ensures.end,
+      c.if-first_stop-bytes.false,
+      c.special_from.ensures.special,
+      c.if-special_from-bytes.true,
+    )
+
+pub returns-else-special_from-bytes : goal.returns-else-special_from-bytes
+returns-else-special_from-bytes c =
+    let value = c.args.value.now in
+    let quoted = quoted_len value (λ i. search (c.type_inv.value i, rules)) in
+    let plain = quoted_text value in
+    grind (
+      arith,
+      nat_tests,
+      quoted,
+      plain,
+      whole_run is_quoted_byte value,
+      whole_run is_plain value,
+      prefix_len-le-length is_quoted_byte value,
+      prefix_len-le-length is_plain value,
+      c.first_stop.ensures.end,
+      c.if-first_stop-bytes.false,
+      c.special_from.ensures.special,
+      c.if-special_from-bytes.false,
+      c.is_token_text.ensures,
+      c.if-is_token_text.false,
+    )

@@ -1,6 +1,6 @@
 -- Before the text stands white space, and perhaps behind it.
-use Rattle.mime_http.proofs.Common.{AreSpaces, Explains, IsHttpFault, List, [], ap, append-nil, arith, length, length-append, nil_from_length, slice_get_within, subst, sym, trim_end, trim_start, trimmed, ℕ, ◌+◌, ◌++◌, ◌-◌, ◌∙◌, ◌≡◌}
-use Rattle.mime_http.proofs.{Around.split_end, PlainIsHttp.same_byte, PlainIsHttp.same_lack, Around.split_white}
+use Rattle.mime_http.proofs.Common.{MissingQuote, append_assoc, rules, AreSpaces, Explains, IsHttpFault, List, [], ap, append-nil, arith, length, length-append, nil_from_length, slice_get_within, subst, sym, trim_end, trim_start, trimmed, ℕ, ◌+◌, ◌++◌, ◌-◌, ◌∙◌, ◌≡◌}
+use Rattle.mime_http.proofs.{ReadFaults.open_after, Around.split_end, PlainIsHttp.same_byte, PlainIsHttp.same_lack, Around.split_white}
 use Rattle.mime_http.proofs.value.same_fault.Goals as goal
 
 -- what stands around a value, and how long it is
@@ -36,13 +36,18 @@ returns-in-InvalidToken c =
     let first : length before ≡ length value - length c.trim_start-text.result.now = omega (arith, begin, ap length c.trim_start-text.ensures) in
     rw (← whole, first) at (same_byte before (trimmed value) after _ _ white dead space c.if-byte-ne59.true)
 
+pub returns-in-MissingQuote : goal.returns-in-MissingQuote
+returns-in-MissingQuote c =
+    let value = c.args.value.now in
+    let (before, white, first) = split_white value in
+    let (after, space, last) = split_end (trim_start value) in
+    let same : value ≡ (before ++ trimmed value) ++ after = grind (arith, first, last, append_assoc) in
+    rw (same, c.in-MissingQuote.is) (open_after (before ++ trimmed value) after space (same_lack before (trimmed value) MissingQuote white (λ is. absurd cc) (λ pos byte is. absurd cc) (search rules)))
+
 pub returns-in_default-2 : goal.returns-in_default-2
 returns-in_default-2 c =
     let value = c.args.value.now in
-    let (before, after, white, whole, begin, end) = around value in
-    let left = c.trim_end.ensures ∙ ap trim_end c.trim_start-text.ensures in
-    let none : after ≡ [] =
-    nil_from_length after (omega (arith, end, ap length left, ap length c.trim_start-text.ensures, c.if-trim_end-text.false)) in
-    let same : value ≡ before ++ trimmed value = grind (arith, whole, none, append-nil) in
-    subst (λ text. IsHttpFault text c.args.fault) (sym same)
-    (same_lack before (trimmed value) c.args.fault white c.in_default.not-NoMemory c.in_default.not-InvalidToken c.requires)
+    let (before, white, first) = split_white value in
+    let none : trimmed value ≡ trim_start value =
+    subst (λ text. trim_end text ≡ text) c.trim_start-text.ensures (c.ends_in_space.ensures c.if-ends_in_space.false) in
+    rw (first, sym none) (same_lack before (trimmed value) c.args.fault white c.in_default.not-NoMemory c.in_default.not-InvalidToken c.requires)
