@@ -108,8 +108,8 @@ unfolding is_token_byte is_quoted_byte
 memory =
     let value : List ℕ = lettered (codes "abcdefghijklmnopqrstuvwxyzabcdefg") in
     let parts = letter_parts (codes "abcdefghijklmnopqrstuvwxyzabcdefg") in
-    let (reads, printed) = anew_is {value = value} parts (stopped-from_walk (codes "a/b;;p=abcdefghijklmnopqrstuvwxyzabcdefg") refl) refl refl
-    (media_of parts) (written_reads value parts refl) in (
+    let isnt = stopped-from_walk (codes "a/b;;p=abcdefghijklmnopqrstuvwxyzabcdefg") refl in
+    let (reads, printed) = anew_is {value = value} parts isnt refl refl (media_of parts) (written_reads value parts refl) in (
       anew_needs (letter_parts (codes "abcdefghijklmnopqrstuvwxyzabcdefgh"))
           (stopped-from_walk (codes "a/b;;p=abcdefghijklmnopqrstuvwxyzabcdefgh") refl) refl refl (omega arith),
       short_needs_none _ _ reads printed (omega arith),
