@@ -1,7 +1,8 @@
 -- Worked facts of the pages `HttpMediaType`, `HttpFaults` and `HttpList`, and of `Unescaped`, `Written` and `Boundary`: values that are
 -- media types, values that aren't, their faults, and what is printed of a value.
 use Rattle.mime_http.proofs.Common.{Parameter, SyntaxTree, IsUtf8-nil, HttpExplains, HttpReads, InvalidToken, IsBoundary, IsBoundaryOf, IsContent-taken, IsHttpFault, IsHttpMediaType, IsPrinted, List, MediaType, media_of, MissingQuote, MissingSubtype, MissingValue, NeedsMemory, None, Parts, [], anew, ap, arith, as_it_stands, bytes_eq, bytes_eq-Decides, codes, escaped, false, final, is_quoted_byte, is_token_byte, is_token_value, length, listed, others, quoted, refl, same_Some, stopped-from_walk, sym, text_of_pair, text_of_pairs, trimmed, true, true≢false, unescaped, with_pair, with_pairs, ℕ, ◌++◌, ◌∙◌, ◌∷◌, ◌≡◌, ◌≢◌}
-use Rattle.mime_http.specs.declared.value.FieldError.TheVariants.{Invalid, NoMemory as OutOfMemory}
+use Rattle.mime_http.specs.declared.value.FieldError.TheVariants.{Invalid, NotUtf8, NoMemory as OutOfMemory}
+use Rattle.mime_http.specs.HttpFaults.{fault_position}
 use Rattle.mime_http.proofs.{Around.white_more, Around.put_ascii, HttpLaws.one_printed_text, HttpLaws.short_needs_none, HttpLaws.anew_needs, HttpLaws.anew_is, HttpLaws.written_reads, ReadBack.answered_is_http, ReadFaults.answered_fault, ReadFaults.fault_answered, ReadFaults.rejected_is_none as none}
 
 -- ` text/HTML ;; charset="UTF-8" `
@@ -51,6 +52,11 @@ faults = (
   (λ fault. absurd (cc (fault_answered (codes " text/") MissingValue fault))),
   λ fault. absurd (cc (fault_answered (codes " text/") MissingQuote fault)),
 )
+
+-- A value fails at its fault, or at its end if something is missing or memory ran out.
+positions : (fault_position (codes "a b") (NotUtf8 1) ≡ 1) × (fault_position (codes "a b") (Invalid (InvalidToken 1 32)) ≡ 1)
+    × (fault_position (codes " text/") (Invalid MissingSubtype) ≡ 6) × (fault_position (codes "a/b") OutOfMemory ≡ 3)
+positions = (refl, refl, refl, refl)
 
 -- ---- what is printed
 

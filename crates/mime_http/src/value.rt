@@ -7,14 +7,14 @@ ghost use Rattle.mime.specs.Values.{IsAccepted, MediaType};
 ghost use Rattle.mime.specs.Faults.{Explains};
 ghost use Rattle.mime_http.specs.HttpMediaType.{HttpReads, IsHttpMediaType};
 ghost use Rattle.mime_http.specs.HttpList.{trim_end, trimmed, IsPrinted};
-ghost use Rattle.mime_http.specs.HttpFaults.{HttpExplains, IsHttpFault};
+ghost use Rattle.mime_http.specs.HttpFaults.{HttpExplains, IsHttpFault, fault_position};
 ghost use Rattle.mime_http.specs.HttpPrinted.{not_utf8_text};
 ghost use Rattle.mime_http.specs.Reader.{Holds, Parts, answer_of, read, text_of_parts};
 
 use crate::list::{is_space, trim_start};
 use crate::reader::write_anew;
 use mime::{Mime, ParseError};
-use std::alloc::Global;
+use std::alloc::{AllocError, Global};
 use std::error::Error;
 use std::fmt;
 use std::fmt::{InlineText, Write};
@@ -65,6 +65,31 @@ impl fmt::Display for FieldError {
 }
 
 impl Error for FieldError {}
+
+/// An `AllocError` becomes `NoMemory`, so a function that reads values and allocates can use `?` for both.
+impl From<AllocError> for FieldError {
+    ghost use Rattle.mime_http.specs.declared.value.FieldError.{FieldError};
+
+    ghost from_gives = { λ _ error. error ≡ FieldError.NoMemory };
+
+    fn from(_error: AllocError) -> FieldError {
+        FieldError::NoMemory
+    }
+}
+
+impl FieldError {
+    /// Returns the position of the byte at fault, or the value's length if a part is missing at its end or memory ran out. `value` is the
+    /// value that was passed. A caret after as many spaces marks the fault of an ASCII value: position 7 of `   a/b c`.
+    pub fn position(&self, value: &[u8]) -> usize
+        ensures { result ≡ fault_position value.now self.now }
+    {
+        match self {
+            FieldError::NotUtf8 { pos } => *pos,
+            FieldError::Invalid(ParseError::InvalidToken { pos, .. }) => *pos,
+            _ => value.len(),
+        }
+    }
+}
 
 /// Converts bytes to a string as `str::from_utf8` does, but faster for ASCII, which most values are.
 #[inline(always)]
