@@ -1,7 +1,7 @@
 -- Lists as HTTP writes them are read as their elements, and what is read with nothing bad are such lists.
 use Rattle.std.specs.Str.{is_utf8}
 use Rattle.std.proofs.lemmas.Str.{IsUtf8-from_is_utf8, is_utf8-from_IsUtf8}
-use Rattle.mime_http.proofs.Common.{Answer, FirstBad, Header, IsHeader, IsUtf8, OneFirstBad, after_blank, after_range, arith, bad_here, inl, inr, length, lines_or_any, list_all, media_of, rejected, suc, true≢false, ◌⊎◌, ◌≢◌, At, Outside, State, Parts, MatchOption, MatchOption-at_some, MissingSlash, by_option, next, ends, after, answer_of, answer_from, answer_at_end, read, before_type, in_subtype, in_value, in_string, is_quoted_byte, ◌+◌, AreBetweenCommas, AreElements, AreSame, AreSorted, AreSpaces, BadIsAlone, BeginsPiece, HttpListsAreRead, HttpReads, IsAccepted, IsHttpMediaType, IsPiece, IsPrinted, List, MediaType, OneHeader, ReadAreHttpLists, [], a_bad, a_range, accepted_or_rejected, and_parts, anew, ap, append-nil, arith, as_it_stands, comma, element, false, is_space, is_token_byte, line_end, nat_tests, no_line, no_text, nothing, piece_byte, piece_end, refl, sym, trimmed, with_pairs, without_kept, ℕ, ⊎_elim, ⊤, ◌++◌, ◌∙◌, ◌∷◌, ◌≡◌, Equals, Paired, awaits_after, awaits_after-append, cases_Bool, if◌then◌else◌}
+use Rattle.mime_http.proofs.Common.{Answer, FirstBad, Header, IsHeader, IsUtf8, OneFirstBad, after_blank, after_range, arith, bad_here, inl, inr, length, lines_or_any, list_all, media_of, rejected, suc, true≢false, ◌⊎◌, ◌≢◌, At, Outside, State, Parts, MatchOption, MatchOption-at_some, MissingSlash, by_option, next, ends_piece, after, answer_of, answer_from, answer_at_end, read, before_type, in_subtype, in_value, in_string, is_quoted_byte, ◌+◌, AreBetweenCommas, AreElements, AreSame, AreSorted, AreSpaces, BadIsAlone, BeginsPiece, HttpListsAreRead, HttpReads, IsAccepted, IsHttpMediaType, IsPiece, IsPrinted, List, MediaType, OneHeader, ReadAreHttpLists, [], a_bad, a_range, accepted_or_rejected, and_parts, anew, ap, append-nil, arith, as_it_stands, comma, element, false, is_space, is_token_byte, line_end, nat_tests, no_line, no_text, nothing, piece_byte, piece_end, refl, sym, trimmed, with_pairs, without_kept, ℕ, ⊎_elim, ⊤, ◌++◌, ◌∙◌, ◌∷◌, ◌≡◌, Equals, Paired, awaits_after, awaits_after-append, cases_Bool, if◌then◌else◌}
 use Rattle.mime_http.{specs.HttpList.blank, specs.LineCut.Quoted, proofs.Around.reads_around, proofs.Around.white_more, proofs.HttpLaws.one_printed_text, proofs.HttpLaws.same_anew, proofs.PlainIsHttp.plain_is_http, proofs.Takes.sorted_both, proofs.Cuts.IsOutside, proofs.Cuts.IsWhole, proofs.Cuts.is_piece, proofs.Cuts.one_cut, proofs.Cuts.only_cut, proofs.Cuts.opens_none, proofs.ReadBack.answered_is_http, proofs.ReadFaults.rejected_is_none, proofs.ReadForth.http_is_answered, proofs.Runs.keeps_before, proofs.Runs.over_white}
 use Rattle.mime_http.specs.ListLaws.{no_text as no_element}
 
@@ -15,7 +15,7 @@ place_of state = Outside
 
 -- a byte that reading goes on with ends no piece, and leads to the place of the next state
 follows : (state : State) (b : ℕ)
-    → MatchOption (next state b) ⊤ (λ next. (ends (place_of state) b ≡ false) × (after (place_of state) b ≡ place_of next))
+    → MatchOption (next state b) ⊤ (λ next. (ends_piece (place_of state) b ≡ false) × (after (place_of state) b ≡ place_of next))
 unfolding is_token_byte is_quoted_byte
 follows (in_subtype top []) b = grind (arith, nat_tests)
 follows (in_subtype top (s ∷ sub)) b = grind (arith, nat_tests)
@@ -35,7 +35,7 @@ whole_from [] state at parts is = ended state is
     ended (in_string _ name content) is = absurd cc
     ended state is = tt
 whole_from (b ∷ bytes) state at parts is = by_option (next state b) (λ stops. absurd (cc (rw stops at is))) (λ next goes.
-    let Leads = λ (next : State). (ends (place_of state) b ≡ false) × (after (place_of state) b ≡ place_of next) in
+    let Leads = λ (next : State). (ends_piece (place_of state) b ≡ false) × (after (place_of state) b ≡ place_of next) in
     let it = MatchOption-at_some ⊤ Leads next goes (follows state b) in
     (it.0, rw it.1 (whole_from bytes next (at + 1) parts (rw goes at is))))
 

@@ -27,10 +27,10 @@ first_after some isnt (a_range text range texts ranges _ utf8 reads printed rest
     after_range text _ _ utf8 (range, reads) (first_after some isnt rest)
 
 -- The first bad text of held pieces stays the first, or there is still none, with a piece that isn't bad after them.
-first_kept : (first : Option ℕ) (pieces bad : List (List ℕ)) (piece : List ℕ) → MatchOption first (bad ≡ []) (FirstBad pieces)
+first_still : (first : Option ℕ) (pieces bad : List (List ℕ)) (piece : List ℕ) → MatchOption first (bad ≡ []) (FirstBad pieces)
     → MatchOption first (bad ++ [] ≡ []) (FirstBad (pieces ++ (piece ∷ [])))
-first_kept None pieces bad piece none = append-nil bad ∙ none
-first_kept (Some at) pieces bad piece is = first_stays (piece ∷ []) is
+first_still None pieces bad piece none = append-nil bad ∙ none
+first_still (Some at) pieces bad piece is = first_stays (piece ∷ []) is
 
 -- ---- a piece
 
@@ -42,7 +42,7 @@ module _ (keeps_bad : Bool) (piece : List ℕ) (old : Held) where
     sorted = rw (append-nil old.kept.ranges) at (sorted_both held.sorted (blank piece [] [] [] white no_text));
     kept = rw (append-nil held.bad) held.kept;
     count = rw (append-nil held.bad) held.count;
-    first = first_kept old.first before held.bad piece held.first;
+    first = first_still old.first before held.bad piece held.first;
   }
 
   -- A media type that was added is a range.
@@ -53,7 +53,7 @@ module _ (keeps_bad : Bool) (piece : List ℕ) (old : Held) where
     sorted = sorted_both held.sorted (a_range piece range [] [] [] utf8 reads printed no_text);
     kept = rw (append-nil held.bad) held.kept;
     count = rw (append-nil held.bad) held.count;
-    first = first_kept old.first before held.bad piece held.first;
+    first = first_still old.first before held.bad piece held.first;
   }))
 
   -- The first of a bad piece and of those before it is theirs, or else this piece.
@@ -102,7 +102,8 @@ pub record AreLeft (keeps_bad : Bool) (old now : Held) (all rest : List (List �
   pub nothing : AreSorted all [] [] → AreSorted rest [] []
 
 -- No more texts are sorted as bad than there are texts.
-bad_within : {texts : List (List ℕ)} {ranges : List MediaType} {bad : List (List ℕ)} → AreSorted texts ranges bad → length bad ≤ length texts
+bad_within : {texts : List (List ℕ)} {ranges : List MediaType} {bad : List (List ℕ)} → AreSorted texts ranges bad
+    → length bad ≤ length texts
 bad_within no_text = omega arith
 bad_within (blank _ _ _ _ _ rest) = omega (arith, bad_within rest)
 bad_within (a_range _ _ _ _ _ _ _ _ rest) = omega (arith, bad_within rest)
@@ -116,8 +117,8 @@ pieces_within place piece (b ∷ bytes) =
 
 module _ {keeps_bad : Bool} where
   -- At first all are left.
-  pub all_left : {old : Held} {all : List (List ℕ)} → AreLeft keeps_bad old old all all
-  all_left = record { takes = λ new taken. taken; nothing = λ sorted. sorted }
+  pub none_taken : {old : Held} {all : List (List ℕ)} → AreLeft keeps_bad old old all all
+  none_taken = record { takes = λ new taken. taken; nothing = λ sorted. sorted }
 
   -- After some are taken, those behind them are left.
   pub rest_left : (some : List (List ℕ)) {old now new : Held} {all rest : List (List ℕ)} → AreLeft keeps_bad old now all (some ++ rest)

@@ -21,16 +21,16 @@ after Quoted b = if b == backslash_byte then Paired else if b == quote_byte then
 after Paired b = Quoted
 
 -- whether a byte ends a piece
-abbrev pub ends : At → ℕ → Bool
-ends Quoted b = false
-ends Paired b = false
-ends place b = b == comma_byte
+abbrev pub ends_piece : At → ℕ → Bool
+ends_piece Quoted b = false
+ends_piece Paired b = false
+ends_piece place b = b == comma_byte
 
 -- the pieces of a line, from a place on, of which the first begins with these bytes
 abbrev pub cut_from : At → List ℕ → List ℕ → List (List ℕ)
 cut_from place piece [] = piece ∷ []
 cut_from place piece (b ∷ bytes) =
-    if ends place b then piece ∷ cut_from Outside [] bytes else cut_from (after place b) (piece ++ (b ∷ [])) bytes
+    if ends_piece place b then piece ∷ cut_from Outside [] bytes else cut_from (after place b) (piece ++ (b ∷ [])) bytes
 
 abbrev pub cut : List ℕ → List (List ℕ)
 cut line = cut_from Outside [] line
@@ -42,7 +42,7 @@ pieces_of lines = flat_map cut lines
 -- the number of bytes of the first piece, from a place on
 abbrev pub piece_len : At → List ℕ → ℕ
 piece_len place [] = zero
-piece_len place (b ∷ bytes) = if ends place b then zero else suc (piece_len (after place b) bytes)
+piece_len place (b ∷ bytes) = if ends_piece place b then zero else suc (piece_len (after place b) bytes)
 
 -- those after a comma
 abbrev pub cut_after : List ℕ → List (List ℕ)

@@ -49,8 +49,8 @@ abbrev pub OneFirstBad : Type 0
 OneFirstBad = (lines : List (List ℕ)) (header : Header) → IsHeader lines header → (header.bad ≢ [] → (at : ℕ) × IsFirstBad lines at)
     × ((at : ℕ) → IsFirstBad lines at → (header.bad ≢ []) × ((other : ℕ) → IsFirstBad lines other → other ≡ at))
 
--- A bad entry changes no other entry, wherever it is: lines with it, and lines without it, have the same ranges, so that each offer weighs the
--- same, and the same bad entries before it and after it.
+-- A bad entry changes no other entry, wherever it is: lines with it, and lines without it, have the same ranges, so that each offer weighs
+-- the same, and the same bad entries before it and after it.
 abbrev pub BadIsAlone : Type 0
 BadIsAlone = (lines others before after : List (List ℕ)) (entry : List ℕ) (ranges more : List MediaType) (bad worse : List (List ℕ))
     → AreSorted before ranges bad → AreSorted after more worse → ¬ (AreSpaces entry) → ¬ (IsUtf8 entry × IsHttpMediaType entry)

@@ -37,7 +37,8 @@ ClosestIsClosest = (ranges : List MediaType) (offer : MediaType) → MatchOption
 
 -- The best offer is the first in the order of all that weigh more than 0.
 abbrev pub BestIsFirst : Type 0
-BestIsFirst = (ranges offers : List MediaType) (order : List ℕ) → AreInOrder ranges offers order → best_offer ranges offers ≡ slice_get order 0
+BestIsFirst = (ranges offers : List MediaType) (order : List ℕ) → AreInOrder ranges offers order
+    → best_offer ranges offers ≡ slice_get order 0
 
 -- The best offer weighs more than 0.
 abbrev pub BestIsAcceptable : Type 0
@@ -81,14 +82,15 @@ pub record MeanTheSame (media other : MediaType) : Type 0 where
 -- is read as it is written.
 abbrev pub MeaningCounts : Type 0
 MeaningCounts =
-    (range other offer offered : MediaType) (at : ℕ) → MeanTheSame range other → MeanTheSame offer offered → weight_of range ≡ weight_of other
-    → closeness offer (at, range) ≡ closeness offered (at, other)
+    (range other offer offered : MediaType) (at : ℕ) → MeanTheSame range other → MeanTheSame offer offered
+    → weight_of range ≡ weight_of other → closeness offer (at, range) ≡ closeness offered (at, other)
 
 -- A range that covers none of the offers changes neither their weights nor which is the best nor their order, wherever it is and
 -- whatever it weighs.
 abbrev pub StrangerChangesNothing : Type 0
 StrangerChangesNothing =
-    (before after offers : List MediaType) (range : MediaType) → ((offer : MediaType) → Contains offers offer → closeness offer (0, range) ≡ None)
+    (before after offers : List MediaType) (range : MediaType)
+    → ((offer : MediaType) → Contains offers offer → closeness offer (0, range) ≡ None)
     → ((offer : MediaType) → Contains offers offer → given_weight (before ++ (range ∷ after)) offer ≡ given_weight (before ++ after) offer)
     × (best_offer (before ++ (range ∷ after)) offers ≡ best_offer (before ++ after) offers)
     × ((order : List ℕ) → AreInOrder (before ++ after) offers order → AreInOrder (before ++ (range ∷ after)) offers order)

@@ -27,9 +27,9 @@ use crate::constants::{show_bytes, show_copies};
 use crate::fields::string_at;
 use crate::http::{
     show, show_accept, show_accept_in_latin_1, show_best, show_boundary,
-    show_content_type_in_latin_1, show_covers, show_order, show_text, show_unescaped,
-    show_unescaped_in_room, show_value, show_weight_of, show_weights, show_with_boundary,
-    show_with_charset, show_with_parameter, shown,
+    show_content_type_in_latin_1, show_counting_bad, show_covers, show_order, show_ranking,
+    show_text, show_unescaped, show_unescaped_in_room, show_value, show_weight_of, show_weights,
+    show_with_boundary, show_with_charset, show_with_parameter, show_without_bad, shown,
 };
 use crate::items::{show_again, show_items, show_list};
 use crate::recipes::{
@@ -104,8 +104,11 @@ fn show_of_headers(alloc: Global, out: &mut String, word: &str, strings: &[Strin
         "content_type" => show_value(out, content_type(alloc, one.as_bytes())),
         "content_type in Latin-1" => show_content_type_in_latin_1(alloc, out, one),
         "covers" => show_covers(alloc, out, one, two),
+        "from_line_counting_bad" => show_counting_bad(alloc, out, one),
+        "from_lines_without_bad" => show_without_bad(alloc, out, one),
         "is_boundary" => show(out, &is_boundary(one.as_bytes())),
         "order" => show_order(alloc, out, strings),
+        "rank_offers" => show_ranking(alloc, out, strings),
         "trimmed" => show_text(out, Some(shown(trimmed(one.as_bytes())))),
         "unescape" => show_unescaped(alloc, out, one, two),
         "unescape in room" => show_unescaped_in_room(alloc, out, one, two),

@@ -9,7 +9,9 @@ returns-in_err-take_line-clause-nothing c = λ holds.
     absurd (true≢false (sym (c.in_err-take_line.ensures.nothing none)))
 
 pub returns-clause-header : goal.returns-clause-header
-returns-clause-header c = (line_counted _ (omega arith) (rw (c.new-reading.ensures, sym c.reading.view_is) at c.in_ok-take_line.ensures.taken)).0
+returns-clause-header c =
+    (line_counted _ (omega arith) (rw (c.new-reading.ensures, sym c.reading.view_is) at c.in_ok-take_line.ensures.taken)).0
 
 pub returns-clause-first : goal.returns-clause-first
-returns-clause-first c = (line_counted _ (omega arith) (rw (c.new-reading.ensures, sym c.reading.view_is) at c.in_ok-take_line.ensures.taken)).1
+returns-clause-first c =
+    (line_counted _ (omega arith) (rw (c.new-reading.ensures, sym c.reading.view_is) at c.in_ok-take_line.ensures.taken)).1
