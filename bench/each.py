@@ -8,7 +8,7 @@ from pathlib import Path
 from statistics import quantiles
 
 from commands import run_ok
-from rows import ACCEPTS, LONGER, OFFERS, TYPES
+from rows import ACCEPTS, LONGER, MARKED, NAME, OFFERS, TYPES, URL, profiles
 
 # How much more is dearer, and by how many instructions at least; by how many rounds two runs of driver.rs differ, and how often each of
 # them makes an operation, so that the loop counts for little.
@@ -17,6 +17,9 @@ VALUES, HEADERS = ([*dict.fromkeys(it)] for it in (TYPES + LONGER, ACCEPTS))
 TEXTS, NEXT = VALUES + HEADERS, VALUES[1:] + VALUES[:1]
 ESSENCES, OFFERED = [(it, it.split(";")[0].strip()) for it in VALUES if ";" in it], [(it, offer) for it in HEADERS for offer in OFFERS]
 # The values of parameters, without their quotes.
+# Offers that have parameters, and with them what a client asks for.
+DETAILED = ["text/html; charset=utf-8; level=1", "application/json; version=2", *profiles("sz")]
+PROFILES = [(one, other) for one in DETAILED for other in DETAILED]
 PARAMETERS = [it for it in dict.fromkeys(it.strip('"') for it in re.findall(r'=("(?:[^\\"]|\\.)*"|[^\s;]+)', "\n".join(VALUES))) if it]
 
 
@@ -35,6 +38,8 @@ CALLS = [
       (("params", "walk"), ("type, subtype, suffix", "parts"), ("essence_str, ==", "essence"), ("hash", "hash"), ("clone", "clone"),
        ("print", "print"), ("boundary", "boundary"), ("with_charset", "write_charset"), ("with_boundary", "write_boundary"),
        ("with_parameter", "write_name"))),
+    ("with_parameter of long values", "write_parameter", [(it, mime) for it in (URL, NAME, MARKED) for mime in VALUES]),
+    ("covers", "covers", beside(VALUES, VALUES) + beside(VALUES, NEXT) + PROFILES),
     *((f"{label} {what}", operation, pairs)
       for label, operation in (("==", "eq"), ("mime_eq_str", "eq_str"), ("cmp", "cmp"), ("mime_equal", "call_equal"))
       for what, pairs in (("of equal ones", beside(VALUES, VALUES)), ("of each and the next", beside(VALUES, NEXT)),
@@ -43,6 +48,7 @@ CALLS = [
     ("MimeIter", "items", beside(TEXTS)),
     ("Accept::from_lines", "accept", beside(HEADERS)),
     *((label, label, beside(HEADERS, "\n".join(OFFERS))) for label in ("best", "order")),
+    ("best of offers with parameters", "best", beside([*HEADERS, ", ".join(DETAILED)], "\n".join(DETAILED))),
     ("weight", "weight", OFFERED),
     ("weight_of", "weight_of", beside([*dict.fromkeys(it.strip() for header in HEADERS for it in header.split(","))])),
     ("mime_read", "call_read", beside(TEXTS)),
@@ -57,7 +63,7 @@ CALLS = [
 
 
 # The function of mime_bench that makes an operation, if it hasn't its name.
-MADE_BY = {"boundary": "meant_boundary", "weight_of": "weight",
+MADE_BY = {"boundary": "meant_boundary", "weight_of": "weight", "covers": "cover",
            **dict.fromkeys("unescape accept best order weight write_charset write_boundary write_name".split(), "one")}
 
 

@@ -88,12 +88,26 @@ def sixteen(text):
     return "\n".join([text] * 16)
 
 
+# Values of parameters that browsers, mail programs and JSON-LD clients send, and that need quotes.
+URL = "https://example.com/schemas/2024/customers/orders/invoices?version=2&format=full"
+NAME, MARKED = "Quarterly report for the board, third quarter (final v2).pdf", "=_Part_0123456789_abcdefghijklmnopqrstuvwxyz_0123456789_ABCDEFGHIJKLM?"
+
+
+def profiles(letters):
+    """Media types as of JSON-LD, whose long profiles differ only in their last byte."""
+    return [f'application/ld+json; profile="https://www.w3.org/ns/activitystream{it}"' for it in letters]
+
+
 def others():
     yield Row("content_type of a space", "field", " ", most=250)
     yield Row("content_type of text", "field", "text", most=225)
     yield Row("content_type of text/html ; charset=utf-8", "field", "text/html ; charset=utf-8", differs=True)
     yield Row("content_type of application/json, application/json", "field", "application/json, application/json",
               most=340)
+    for label, spaces, most in (("a space", 1, 450), ("2 KB of spaces", 2_048, 5_500)):
+        yield Row(f"content_type of an open string and {label}", "field", f'text/html; charset="utf-8{" " * spaces}', most=most)
+    yield Row("covers: profiles that differ at the end", "covers", *profiles("sz"), most=520)
+    yield Row("best of three such ranges and three such offers", "best", ", ".join(profiles("abc")), "\n".join(profiles("xyz")), most=4_700)
     yield Row("equality of text/html; charset=utf-8 and text/html", "eq", *map(sixteen, ("text/html; charset=utf-8", "text/html")), most=16)
     for label, text, most in (("x", "x" * 2_048, 1_600), ("\\\"-", '\\"-' * 683, 12_000)):
         yield Row(f"covers: a/b;p=1 and 2 KB of {label}", "covers", "a/b;p=1", f'a/b;charset="{text}"', most=most)
@@ -111,7 +125,8 @@ def others():
 
 # The other side rejects these, or takes them for other things.
 OTHERWISE = ("read: pairs \\\"", "walk: pairs \\\"", "read: pairs \\\"a", "walk: pairs \\\"a", "hash: pairs \\\"a",
-             "order: pairs \\\"a", "order: parameters, a tab before each", "with_parameter: quotes",
+             "order: pairs \\\"a", "order: parameters, a tab before each", "with_parameter: quotes", "with_parameter: quotes \"a",
+             "with_parameter: a token but for its end",
              "mime_list: */ over and over", "mime_list: a type of +", "list: semicolons", "content_type: semicolons", "content_type: spaces",
              "content_type: tabs at the end", "content_type: parameters ;p=1 after spaces")
 
@@ -146,7 +161,10 @@ def texts():
     yield long("hash: pairs \\\"a", "hash", single_pairs, most=6)
     yield long("order: pairs \\\"a", "cmp", single_pairs, single_pairs(65_536) + "y", most=12)
     yield long("order: parameters, a tab before each", "cmp", with_tabs, with_tabs(65_536) + ";p=x")
-    yield long("with_parameter: quotes", "write_parameter", lambda n: '"' * n, "a/b", most=56)
+    for label, make, most in (("quotes", lambda n: '"' * n, 56), ("quotes \"a", lambda n: '"a' * (n // 2), 44),
+                              ("a token", lambda n: "x" * n, 2), ("a token but for its end", lambda n: "x" * n + "?", 3)):
+        yield long(f"with_parameter: {label}", "write_parameter", make, "a/b", most=most)
+    yield long("unescape: a plain value after a pair", "unescape", lambda n: '\\"' + "x" * n, most=8)
     yield long("mime_list: */ over and over", "call_items", lambda n: "*/" * (n // 2))
     yield long("mime_unescape: pairs \\\"", "call_unescape", lambda n: '\\"' * (n // 2))
     yield long("mime_unescape: a plain value", "call_unescape", lambda n: "x" * n, most=1.5)
@@ -173,7 +191,10 @@ def calls():
     yield Row("mime_best, of an Accept header and four offers", "call_best", HEADERS, ", ".join(OFFERS))
     yield Row("mime_order, of the same", "call_order", HEADERS, ", ".join(OFFERS), differs=True)
     yield Row("mime_boundary", "call_boundary", TEXT)
-    yield Row("mime_set_parameter, a charset", "call_set_parameter", TEXT, "charset\nutf-8", differs=True)
+    for label, text, added, most in (("a charset", TEXT, "charset\nutf-8", None), ("a URL", "application/ld+json", f"profile\n{URL}", 1_450),
+                                     ("a file name", "application/pdf", f"name\n{NAME}", 1_290),
+                                     ("a boundary that ends in ?", "multipart/mixed", f"boundary\n{MARKED}", 1_460)):
+        yield Row(f"mime_set_parameter, {label}", "call_set_parameter", text, added, most, differs=True)
 
 
 GROUPS = {

@@ -11,7 +11,7 @@
 static uint32_t print_items(const char *text, size_t len, char *out)
 {
     size_t length;
-    uint32_t answer = mime_list(text, len, out, 2 * len, &length);
+    uint32_t answer = mime_list(text, len, out, MIME_LIST_ROOM(len), &length);
     for (const char *item = out; item < out + length; item += strlen(item) + 1)
         printf("%s %s\n", *item == MIME_GOOD ? "ok" : "bad", item + 1);
     return answer;
@@ -21,7 +21,7 @@ static uint32_t print_items(const char *text, size_t len, char *out)
 static uint32_t print_parts(const char *text, size_t len, char *out)
 {
     struct mime_found found;
-    uint32_t answer = mime_read(text, len, out, 2 * len + 2, &found);
+    uint32_t answer = mime_read(text, len, out, MIME_READ_ROOM(len), &found);
     if (answer >= MIME_MISSING_SLASH && answer <= MIME_INVALID_BYTE) {
         printf("bad mime parse error: %s", mime_answer_text(answer));
         if (answer == MIME_INVALID_BYTE)
@@ -55,7 +55,7 @@ int main(int argc, char **argv)
     ssize_t read;
     while ((read = getline(&line, &size, stdin)) >= 0) {
         size_t len = (size_t)read - (line[read - 1] == '\n');
-        char *out = malloc(2 * len + 2);
+        char *out = malloc(MIME_READ_ROOM(len));
         uint32_t answer = out == NULL ? MIME_NO_MEMORY : (is_list ? print_items : print_parts)(line, len, out);
         free(out);
         if (answer == MIME_NO_MEMORY)

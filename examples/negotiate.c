@@ -14,7 +14,7 @@ static const char offers[] = "text/html; charset=utf-8, application/json, text/p
 /* Returns the status for an upload: a table in UTF-8 is accepted. */
 static int check_upload(const char *content_type)
 {
-    char out[3 * LONGEST + 2];
+    char out[MIME_CONTENT_TYPE_ROOM(LONGEST)];
     struct mime_found found;
     size_t len = strlen(content_type);
     if (len > LONGEST)

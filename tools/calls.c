@@ -98,6 +98,21 @@ static void check(int is_so)
              names[call], (int)len[0], in[0], (int)len[1], in[1], (int)len[2], in[2], answer, out_len, refused_at);
 }
 
+/* How many bytes the call's buffer has to have, by the macros. */
+static size_t room(void)
+{
+    switch (call) {
+    case READ: return MIME_READ_ROOM(len[0]);
+    case CONTENT_TYPE: return MIME_CONTENT_TYPE_ROOM(len[0]);
+    case ACCEPT: return MIME_ACCEPT_ROOM(len[0]);
+    case LIST: return MIME_LIST_ROOM(len[0]);
+    case BOUNDARY: return MIME_BOUNDARY_ROOM;
+    case UNESCAPE: return MIME_UNESCAPE_ROOM(len[0]);
+    case SET_PARAMETER: return MIME_SET_PARAMETER_ROOM(len[0], len[1], len[2]);
+    default: return out_len;
+    }
+}
+
 /* How many bytes the call has written, from the start of its buffer on, or less. */
 static size_t written(void)
 {
@@ -140,9 +155,11 @@ static void look_up_each(void)
 static void make_each(int may_do_without)
 {
     make();
+    check(out_len == room());
     const struct mime_found whole = found;
     const uint32_t right = answer;
-    const size_t size = out_len, step = call == ORDER ? sizeof(size_t) : 1, least = call == ORDER ? found.length * step : size;
+    const size_t size = out_len, step = call == ORDER ? sizeof(size_t) : 1;
+    const size_t least = call != ORDER ? size : answer == MIME_OK ? found.length * step : 0;
     for (out_len = least > 300 ? least - step : 0; out_len < least; out_len += step) {
         make();
         check(answer == MIME_NO_ROOM && is_nothing() && (requests == 0 || call == ORDER));

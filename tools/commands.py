@@ -217,7 +217,8 @@ def program(crate, kind=""):
     """The program of a crate, of one kind, that was proved and built from its sources; if none was, rt does so, once no other run does."""
     out, sources, command = f"{TOP}/crates/{crate}/out", run_ok("tools/sources", crate), KINDS[kind]
     made, began, log = f"{out}/{crate}{kind}", f"{out}/build.began", f"{out}/build.log"
-    is_current = lambda: all(map(os.path.exists, (made, f"{made}.sources"))) and Path(f"{made}.sources").read_text("utf-8") == sources
+    mark, marked = Path(f"{made}.sources"), lambda: sources + run_ok("sh", "-c", 'cksum <"$0"', made)
+    is_current = lambda: os.path.exists(made) and mark.exists() and mark.read_text("utf-8") == marked()
     if is_current():
         return made
     say(f"{crate}: `{command}` proves and builds the program, and the libraries {' '.join(below(crate)[:-1])}, as far as they aren't up to "
@@ -230,13 +231,14 @@ def program(crate, kind=""):
         if not is_current():
             built = made.replace(".by-rattle", "")
             Path(built).unlink(missing_ok=True)
+            mark.unlink(missing_ok=True)
             build(crate, command, log)
             if not os.path.exists(built):
-                raise OSError(f"{crate} can't be built; {log} has what rt said:\n{Path(log).read_text('utf-8', 'replace')[-3000:]}")
+                raise OSError(f"the proof or the build of {crate} failed; {log} has what rt said:\n{Path(log).read_text('utf-8', 'replace')[-3000:]}")
             os.replace(built, made)
             # If a source was touched or is lost meanwhile, the next run builds again.
             if not output(["tools/sources", crate], env={**os.environ, "SINCE": began})[0]:
-                write(f"{made}.sources", sources)
+                write(mark, marked())
     return made
 
 
@@ -244,4 +246,4 @@ if __name__ == "__main__":
     try:
         program(sys.argv[1])
     except OSError as error:
-        sys.exit(f"{error}")
+        sys.exit(f"{sys.argv[1]}: {error.strerror}: {error.filename}" if error.filename else f"{sys.argv[1]}: {error}")

@@ -1,31 +1,97 @@
--- Each call has one outcome, unless memory runs out.
-use Rattle.std.proofs.Common.{◌≡◌, ◌≢◌, ℕ, ◌+◌, ◌*◌, ◌⊎◌, inl, inr, Bool, true, false, zero, suc, ◌<◌, ◌≤◌, List, length, take, refl, sym, ap, ◌∙◌, subst, arith, ⊎_elim, rules}
-use mir.Val.{bool_byte}
-use Rattle.std.specs.Prelude.{IsTrue, ◌↔◌, if◌then◌else◌}
-use Rattle.std.specs.Str.{IsUtf8, IsValidUpTo, is_utf8}
+-- Each call has one outcome, unless memory runs out: what all calls share, and the calls for texts.
+use Rattle.std.proofs.Common.{◌≡◌, ◌≢◌, ℕ, ◌⊎◌, inl, inr, zero, suc, ◌<◌, ◌≤◌, List, length, take, refl, sym, ap, ◌∙◌, subst, arith, ⊎_elim, rules}
+use Rattle.std.specs.Prelude.{if◌then◌else◌}
+use Rattle.std.specs.Str.{IsUtf8, IsValidUpTo}
 use Rattle.std.specs.Ordering.{eq_by_cmp}
-use Rattle.std.proofs.lemmas.Bool.{cases_lt, cases_Bool, true≢false}
-use Rattle.std.proofs.lemmas.Str.{IsUtf8-from_is_utf8, is_utf8-from_IsUtf8, IsUtf8-nil, utf8_valid_len-IsValidUpTo}
+use Rattle.std.proofs.lemmas.Bool.{cases_lt}
+use Rattle.std.proofs.lemmas.Str.{IsUtf8-nil, utf8_valid_len-IsValidUpTo}
 use Rattle.std.proofs.lemmas.List.{take_all}
 use Rattle.mime.specs.Values.{MediaType, Reads}
-use Rattle.mime.specs.Comparison.{Same, media_cmp}
+use Rattle.mime.specs.Comparison.{media_cmp}
 use Rattle.mime.specs.Faults.{IsFault, Explains}
 use Rattle.mime.specs.declared.scan.fault.ParseError.{ParseError}
 use Rattle.mime.proofs.HandedOut.{one_fault, rejected-from_fault, Explains-from_fault, one_reading, eq_by_cmp-tells, eq_by_cmp-same, accepted_or_rejected, has_cut, cut_unique}
-use Rattle.mime_c.specs.Strings.{strings, texts_of, written}
-use Rattle.mime_c.specs.Answers.{number_of, found_at, found_of, found_of_fault, Fails, is_rejected, is_not_text, ReadsTo, is_read, fails, has_no_room, ListsTo, is_listed, has_no_memory, Compares, are_read, first_fails, second_fails}
-use Rattle.mime_c.specs.Answers as answers
+use Rattle.mime_http.specs.declared.value.FieldError.{FieldError}
+use Rattle.mime_http.specs.declared.value.FieldError.TheVariants.{NotUtf8, Invalid, NoMemory}
+use Rattle.mime_http.proofs.HandedOut.{utf8_or_not}
+use Rattle.mime_c.specs.Strings.{ComeBack, texts_of}
+use Rattle.mime_c.specs.Answers.{number_of, number_of_error, found_of_error, InRoom, has_room, has_no_room, Holds, holds, Of, is_read, fails, TextExplains, AreWritten, are_written, AreListed, is_listed, is_not_text, AreCompared, are_compared}
 use Rattle.mime_c.specs.Laws.{HasOne, ReadsToOne, ListsToOne, ComparesAsOne}
 use Rattle.mime_c.specs.declared.MimeFound.{MimeFound}
-use Rattle.mime_c.specs.declared.TheConstants.{MIME_OK, MIME_NO_MEMORY}
+use Rattle.mime_c.specs.declared.TheConstants.{MIME_OK, MIME_NO_MEMORY, MIME_NO_ROOM}
 use Rattle.mime_c.proofs.NoZero.{texts_come_back, items_come_back}
 
-pub utf8_or_not : (text : List ℕ) → IsUtf8 text ⊎ ¬ (IsUtf8 text)
-utf8_or_not text =
-    ⊎_elim (λ is. inl (IsUtf8-from_is_utf8 text is)) (λ isnt. inr (λ utf8. true≢false (sym (is_utf8-from_IsUtf8 text utf8) ∙ isnt)))
-    (cases_Bool (is_utf8 text))
+-- ---- what all calls share
 
--- of the first bytes of a text, up to any position, the longest that are UTF-8
+-- An outcome is the one if any other is the same.
+pub one_is : {Held : Type 0} {Is : ℕ → Held → Type 0} {n : ℕ} {held : Held} → n ≢ MIME_NO_MEMORY → Is n held
+    → ((m : ℕ) (other : Held) → n ≢ MIME_NO_MEMORY → m ≢ MIME_NO_MEMORY → Is n held → Is m other → (m ≡ n) × (other ≡ held)) → HasOne Is
+one_is {n = n} {held = held} some is same = (n, held, some, is, λ m other too has. same m other some too is has)
+
+-- A call that succeeds with what it has to hold has one outcome.
+pub one_success : {Held : Type 0} {wanted : Held} → HasOne (Holds wanted)
+one_success = (_, _, (λ same. omega (arith, same)), holds, λ n held some is. search rules)
+
+-- A call has one outcome in each buffer if it has one in those that are long enough.
+module _ {Held : Type 0} {least : ℕ} {old : List ℕ} {untouched : Held} {Is : ℕ → Held → Type 0} (one : HasOne Is) where
+  -- A buffer that is too short has no other outcome.
+  only_short : length old < least → (n : ℕ) (held : Held) → n ≢ MIME_NO_MEMORY → InRoom least old untouched Is n held
+      → (n ≡ MIME_NO_ROOM) × (held ≡ untouched)
+  only_short short n held some (has_room _ _ room is) = absurd (omega (arith, short, room))
+  only_short short n held some (has_no_room _) = (refl, refl)
+
+  -- A buffer that is long enough has no other outcome.
+  only_there : least ≤ length old → (n : ℕ) (held : Held) → n ≢ MIME_NO_MEMORY → InRoom least old untouched Is n held
+      → (n ≡ one.0) × (held ≡ one.1)
+  only_there room n held some (has_room _ _ _ is) = one.4 n held some is
+  only_there room n held some (has_no_room short) = absurd (omega (arith, short, room))
+
+  pub one_in_room : HasOne (InRoom least old untouched Is)
+  one_in_room = ⊎_elim
+      (λ short. (_, _, (λ same. omega (arith, same)), has_no_room short, only_short short))
+      (λ room. (_, _, one.2, has_room _ _ room one.3, only_there room))
+      (cases_lt (length old) least)
+
+-- A reading finds one media type, or one reason why there is none, unless memory runs out.
+pub record IsReading (IsRead : MediaType → Type 0) (Explained : FieldError → Type 0) : Type 0 where
+  pub either : ((media : MediaType) × IsRead media)
+      ⊎ ((error : FieldError) × (number_of_error error ≢ MIME_NO_MEMORY) × Explained error)
+  pub one_media : (one two : MediaType) → IsRead one → IsRead two → two ≡ one
+  pub not_both : (media : MediaType) (error : FieldError) → number_of_error error ≢ MIME_NO_MEMORY → IsRead media → ¬ (Explained error)
+  pub one_error : (one two : FieldError) → number_of_error one ≢ MIME_NO_MEMORY → number_of_error two ≢ MIME_NO_MEMORY → Explained one
+      → Explained two → two ≡ one
+
+-- A call has one outcome if it reads a media type first and has one outcome for each.
+module _ {Held : Type 0} {IsRead : MediaType → Type 0} {Explained : FieldError → Type 0} {failed : MimeFound → Held}
+    {Is : MediaType → ℕ → Held → Type 0} (reading : IsReading IsRead Explained) (one : (media : MediaType) → IsRead media
+    → HasOne (Is media)) where
+  -- A media type that is read has no other outcome.
+  only_read : (media : MediaType) (is : IsRead media) (n : ℕ) (held : Held) → n ≢ MIME_NO_MEMORY → Of IsRead Explained failed Is n held
+      → (n ≡ (one media is).0) × (held ≡ (one media is).1)
+  only_read media is n held some (is_read other _ _ too has) =
+      (one media is).4 n held some (subst (λ (it : MediaType). Is it n held) (reading.one_media media other is too) has)
+  only_read media is n held some (fails error why) = absurd (reading.not_both media error some is why)
+
+  -- An error has no other outcome.
+  only_failed : (error : FieldError) → number_of_error error ≢ MIME_NO_MEMORY → Explained error → (n : ℕ) (held : Held) → n ≢ MIME_NO_MEMORY
+      → Of IsRead Explained failed Is n held → (n ≡ number_of_error error) × (held ≡ failed (found_of_error error))
+  only_failed error h why n held some (is_read media _ _ is has) = absurd (reading.not_both media error h is why)
+  only_failed error h why n held some (fails other too) =
+      let same = reading.one_error error other h some why too in (ap number_of_error same, ap (λ it. failed (found_of_error it)) same)
+
+  pub one_of_reading : HasOne (Of IsRead Explained failed Is)
+  one_of_reading = ⊎_elim
+      (λ it. let has = one it.0 it.1 in (_, _, has.2, is_read it.0 _ _ it.1 has.3, only_read it.0 it.1))
+      (λ it. (_, _, it.1, fails it.0 it.2, only_failed it.0 it.1 it.2))
+      reading.either
+
+-- The strings of a media type that come back are written in one way.
+pub one_writing : {old : List ℕ} {media : MediaType} → ComeBack (texts_of media) → HasOne (AreWritten old media)
+one_writing back = (_, _, (λ same. omega (arith, same)), are_written back, λ n held some is. search rules)
+
+-- ---- the reading of a text
+
+-- A text has a longest beginning in UTF-8, up to any position.
 longest_within : (text : List ℕ) (n : ℕ)
     → (k : ℕ) × IsUtf8 (take k text) × (k ≤ n) × ((m : ℕ) → k < m → m ≤ n → ¬ (IsUtf8 (take m text)))
 longest_within text zero = (0, IsUtf8-nil, omega arith, λ m above within utf8. absurd (omega (arith, above, within)))
@@ -43,7 +109,7 @@ longest_within text (suc n) = ⊎_elim
     ))
     (utf8_or_not (take (suc n) text))
 
--- a text that isn't UTF-8 is valid up to some position
+-- A text that isn't UTF-8 is valid up to some position.
 pub valid_up_to : (text : List ℕ) → ¬ (IsUtf8 text) → (pos : ℕ) × IsValidUpTo text pos
 valid_up_to text isnt =
     let found = longest_within text (length text) in
@@ -60,112 +126,84 @@ valid_up_to text isnt =
       },
     )
 
--- `NoMemory` isn't a fault,
+-- What explains an answer other than that memory ran out is a fault.
 is_fault : (text : List ℕ) (fault : ParseError) → Explains text fault → number_of fault ≢ MIME_NO_MEMORY → IsFault text fault
 is_fault text fault why some = search rules
 
-its_fault : (text : List ℕ) (fault : ParseError) → IsFault text fault → number_of fault ≢ MIME_NO_MEMORY
-its_fault text fault is = search rules
+-- A fault's answer isn't that memory ran out.
+its_number : (text : List ℕ) (fault : ParseError) → IsFault text fault → number_of fault ≢ MIME_NO_MEMORY
+its_number text fault is = search rules
 
-module _ {text : List ℕ} where
-  -- a text that is read doesn't fail,
-  not_both : {media : MediaType} {n : ℕ} {found : MimeFound} → IsUtf8 text → Reads text media → n ≢ MIME_NO_MEMORY → ¬ (Fails text n found)
-  not_both {media} utf8 reads some (is_rejected fault too why) = rejected-from_fault text fault (is_fault text fault why some) (media, reads)
-  not_both utf8 reads some (is_not_text pos isnt up) = isnt utf8
+module _ (text : List ℕ) where
+  -- A text that is read has no error.
+  not_both : (media : MediaType) (error : FieldError) → number_of_error error ≢ MIME_NO_MEMORY → IsUtf8 text × Reads text media
+      → ¬ (TextExplains text error)
+  not_both media (NotUtf8 pos) some is why = why.0 is.0
+  not_both media (Invalid fault) some is why = rejected-from_fault text fault (is_fault text fault why.1 some) (media, is.1)
+  not_both media NoMemory some is why = why
 
-  -- a text that isn't read fails in one way
-  one_failure : {n m : ℕ} {found other : MimeFound} → n ≢ MIME_NO_MEMORY → m ≢ MIME_NO_MEMORY → Fails text n found → Fails text m other
-      → (m ≡ n) × (other ≡ found)
-  one_failure h k (is_rejected one utf8 why) (is_rejected two too again) =
-      let is = is_fault text one why h in
-      let only = (one_fault text (rejected-from_fault text one is)).2 in
-      let same = only two (is_fault text two again k) ∙ sym (only one is) in
-      (ap number_of same, ap found_of_fault same)
-  one_failure h k (is_rejected one utf8 why) (is_not_text pos isnt up) = absurd (isnt utf8)
-  one_failure h k (is_not_text pos isnt up) (is_rejected one utf8 why) = absurd (isnt utf8)
-  one_failure h k (is_not_text pos isnt up) (is_not_text again too past) =
-      (refl, ap (λ n. found_at n 0) (sym (utf8_valid_len-IsValidUpTo text again past) ∙ utf8_valid_len-IsValidUpTo text pos up))
+  -- A text that isn't read has one error.
+  one_error : (one two : FieldError) → number_of_error one ≢ MIME_NO_MEMORY → number_of_error two ≢ MIME_NO_MEMORY → TextExplains text one
+      → TextExplains text two → two ≡ one
+  one_error NoMemory two h k why too = absurd why
+  one_error one NoMemory h k why too = absurd too
+  one_error (NotUtf8 pos) (NotUtf8 other) h k why too =
+      ap NotUtf8 (sym (utf8_valid_len-IsValidUpTo text other too.1) ∙ utf8_valid_len-IsValidUpTo text pos why.1)
+  one_error (NotUtf8 pos) (Invalid fault) h k why too = absurd (why.0 too.0)
+  one_error (Invalid fault) (NotUtf8 pos) h k why too = absurd (too.0 why.0)
+  one_error (Invalid fault) (Invalid other) h k why too =
+      let is = is_fault text fault why.1 h in
+      let only = (one_fault text (rejected-from_fault text fault is)).2 in
+      ap Invalid (only other (is_fault text other too.1 k) ∙ sym (only fault is))
 
--- a text is read as a media type, or fails
-given_or_failed : (text : List ℕ) → ((media : MediaType) × IsUtf8 text × Reads text media)
-    ⊎ ((answer : ℕ) × (found : MimeFound) × (answer ≢ MIME_NO_MEMORY) × Fails text answer found)
-given_or_failed text = ⊎_elim
-    (λ utf8. ⊎_elim (λ accepted. inl (accepted.0, utf8, accepted.1))
-    (λ rejected. let only = one_fault text rejected in
-    inr (_, _, its_fault text only.0 only.1, is_rejected only.0 utf8 (Explains-from_fault text only.0 only.1))) (accepted_or_rejected text))
-    (λ isnt. let up = valid_up_to text isnt in inr (_, _, (λ same. omega (arith, same)), is_not_text up.0 isnt up.1)) (utf8_or_not text)
+  -- A text is read, or has an error.
+  read_or_failed : ((media : MediaType) × (IsUtf8 text × Reads text media))
+      ⊎ ((error : FieldError) × (number_of_error error ≢ MIME_NO_MEMORY) × TextExplains text error)
+  read_or_failed = ⊎_elim
+      (λ utf8. ⊎_elim (λ accepted. inl (accepted.0, (utf8, accepted.1)))
+      (λ rejected. let only = one_fault text rejected in
+      inr (Invalid only.0, its_number text only.0 only.1, (utf8, Explains-from_fault text only.0 only.1))) (accepted_or_rejected text))
+      (λ isnt. let up = valid_up_to text isnt in inr (NotUtf8 up.0, (λ same. omega (arith, same)), (isnt, up.1))) (utf8_or_not text)
 
--- an outcome is the one, if any two are the same
-pub is_one : {Held : Type 0} (IsOutcome : ℕ → Held → Type 0) (n : ℕ) (x : Held) → n ≢ MIME_NO_MEMORY → IsOutcome n x
-    → ((m : ℕ) (y : Held) → n ≢ MIME_NO_MEMORY → m ≢ MIME_NO_MEMORY → IsOutcome n x → IsOutcome m y → (m ≡ n) × (y ≡ x)) → HasOne IsOutcome
-is_one IsOutcome n x some is same = (n, x, some, is, λ m y other too. same m y some other is too)
+  -- The reading of a text finds one media type or one error.
+  reading_of_text : IsReading (λ media. IsUtf8 text × Reads text media) (TextExplains text)
+  reading_of_text = record {
+    either = read_or_failed;
+    one_media = λ one two is too. one_reading text two one too.1 is.1;
+    not_both = not_both;
+    one_error = one_error;
+  }
+
+-- ---- the calls for texts
+
+-- `mime_read` has one outcome.
+pub reads_to_one : ReadsToOne
+reads_to_one text old = one_in_room (one_of_reading (reading_of_text text) (λ media is. one_writing (texts_come_back text media is.1)))
 
 module _ {text old : List ℕ} where
-  one_reading_of : {n m : ℕ} {new bytes : List ℕ} {found other : MimeFound} → n ≢ MIME_NO_MEMORY → m ≢ MIME_NO_MEMORY
-      → ReadsTo text old n new found → ReadsTo text old m bytes other → (m ≡ n) × ◌≡◌ {A = List ℕ × MimeFound} (bytes, other) (new, found)
-  one_reading_of h k (is_read media r utf8 reads b) (is_read again q too others c) =
-      (refl, ap (λ (it : MediaType). (written (strings (texts_of it)) old, found_of it)) (one_reading text again media others reads))
-  one_reading_of h k (is_read media r utf8 reads b) (fails p found q why) = absurd (not_both utf8 reads k why)
-  one_reading_of h k (fails p found r why) (is_read media q utf8 reads b) = absurd (not_both utf8 reads h why)
-  one_reading_of h k (fails p found r why) (fails q other s too) = let same = one_failure h k why too in (same.0, ap (λ it. (old, it)) same.1)
-  one_reading_of h k (has_no_room short) (has_no_room too) = (refl, refl)
-  one_reading_of h k (has_no_room short) (is_read media room u r b) = absurd (omega (arith, short, room))
-  one_reading_of h k (has_no_room short) (fails p found room why) = absurd (omega (arith, short, room))
-  one_reading_of h k (is_read media room u r b) (has_no_room short) = absurd (omega (arith, short, room))
-  one_reading_of h k (fails p found room why) (has_no_room short) = absurd (omega (arith, short, room))
-
-  one_listing : {n m : ℕ} {new bytes : List ℕ} {size other : ℕ} → n ≢ MIME_NO_MEMORY → m ≢ MIME_NO_MEMORY
-      → ListsTo text old n new size → ListsTo text old m bytes other → (m ≡ n) × ◌≡◌ {A = List ℕ × ℕ} (bytes, other) (new, size)
+  -- Two outcomes of a list are the same.
+  one_listing : {n m : ℕ} {held other : List ℕ × ℕ} → n ≢ MIME_NO_MEMORY → m ≢ MIME_NO_MEMORY → AreListed text old n held
+      → AreListed text old m other → (m ≡ n) × (other ≡ held)
   one_listing h k is is_too = search (rules, cut_unique)
 
-pub reads_to_one : ReadsToOne
-reads_to_one text old =
-    let one = is_one (λ n (held : List ℕ × MimeFound). ReadsTo text old n held.0 held.1) in
-    ⊎_elim (λ short. one _ _ (λ same. omega (arith, same)) (has_no_room short) (λ m y. one_reading_of))
-    (λ room. ⊎_elim
-    (λ it. one _ _ (λ same. omega (arith, same)) (is_read it.0 room it.1 it.2 (texts_come_back text it.0 it.2)) (λ m y. one_reading_of))
-    (λ it. one it.0 (old, it.1) it.2 (fails it.0 it.1 room it.3) (λ m y. one_reading_of)) (given_or_failed text))
-    (cases_lt (length old) (2 * length text + 2))
-
+-- `mime_list` has one outcome.
 pub lists_to_one : ListsToOne
-lists_to_one text old =
-    let one = is_one (λ n (held : List ℕ × ℕ). ListsTo text old n held.0 held.1) in
+lists_to_one text old = one_in_room (⊎_elim (λ utf8.
     let has = has_cut text in
-    ⊎_elim (λ short. one _ _ (λ same. omega (arith, same)) (answers.ListsTo.has_no_room short) (λ m y. one_listing))
-    (λ room. ⊎_elim
-    (λ utf8. one _ _ (λ same. omega (arith, same))
-    (is_listed has.items has.rest room utf8 has.cut (items_come_back text has.items has.rest has.cut)) (λ m y. one_listing))
-    (λ isnt. one _ _ (λ same. omega (arith, same)) (answers.ListsTo.is_not_text room isnt) (λ m y. one_listing)) (utf8_or_not text))
-    (cases_lt (length old) (2 * length text))
+    one_is (λ same. omega (arith, same))
+    (is_listed has.items has.rest utf8 has.cut (items_come_back text has.items has.rest has.cut)) (λ n x. one_listing))
+    (λ isnt. one_is (λ same. omega (arith, same)) (is_not_text isnt) (λ n x. one_listing)) (utf8_or_not text))
 
--- the byte that is written says whether two texts are read as equal
-pub compared : (one other : List ℕ) (first second : MediaType) (equal : Bool) (byte : ℕ) → IsUtf8 one → IsUtf8 other → Reads one first
-    → Reads other second → IsTrue equal ↔ Same first second → byte ≡ bool_byte equal → Compares one other MIME_OK byte
-compared one other first second true byte u v reads again tells is = rw is (are_read first second true u v reads again tells)
-compared one other first second false byte u v reads again tells is = rw is (are_read first second false u v reads again tells)
+-- Two media types are compared in one way.
+one_comparison : (first second : MediaType) → HasOne (AreCompared first second)
+one_comparison first second =
+    (_, _, (λ same. omega (arith, same)), are_compared (eq_by_cmp media_cmp first second) (eq_by_cmp-tells first second), only)
+  where
+    only : (n equal : ℕ) → n ≢ MIME_NO_MEMORY → AreCompared first second n equal
+        → (n ≡ MIME_OK) × (equal ≡ (if eq_by_cmp media_cmp first second then 1 else 0))
+    only n equal some (are_compared are too) = (refl, ap (λ yes. if yes then 1 else 0) (eq_by_cmp-same first second are too))
 
-module _ {one other : List ℕ} where
-  one_comparison : {n m equal yes : ℕ} → n ≢ MIME_NO_MEMORY → m ≢ MIME_NO_MEMORY → Compares one other n equal → Compares one other m yes
-      → (m ≡ n) × (yes ≡ equal)
-  one_comparison h k (are_read first second is u v reads reads_too tells) (are_read third fourth are w x again again_too too) =
-      let tells_of = subst (λ (it : MediaType). IsTrue are ↔ Same it second) (one_reading one third first again reads)
-      (subst (λ (it : MediaType). IsTrue are ↔ Same third it) (one_reading other fourth second again_too reads_too) too) in
-      (refl, ap (λ yes. if yes then 1 else 0) (eq_by_cmp-same first second are tells_of ∙ sym (eq_by_cmp-same first second is tells)))
-  one_comparison h k (are_read first second is u v reads r t) (first_fails p found why) = absurd (not_both u reads k why)
-  one_comparison h k (are_read first second is u v r reads t) (second_fails media p found w q why) = absurd (not_both v reads k why)
-  one_comparison h k (first_fails p found why) (are_read first second is u v reads r t) = absurd (not_both u reads h why)
-  one_comparison h k (first_fails p found why) (first_fails q another too) = ((one_failure h k why too).0, refl)
-  one_comparison h k (first_fails p found why) (second_fails media q another u reads too) = absurd (not_both u reads h why)
-  one_comparison h k (second_fails media p found w q why) (are_read first second is u v r reads t) = absurd (not_both v reads h why)
-  one_comparison h k (second_fails media p found u reads why) (first_fails q another too) = absurd (not_both u reads k too)
-  one_comparison h k (second_fails media p found u r why) (second_fails again q another v s too) = ((one_failure h k why too).0, refl)
-
+-- `mime_equal` has one outcome.
 pub compares_as_one : ComparesAsOne
 compares_as_one one other =
-    let outcome = is_one (Compares one other) in
-    ⊎_elim
-    (λ it. ⊎_elim
-    (λ too. outcome _ _ (λ same. omega (arith, same))
-    (are_read it.0 too.0 (eq_by_cmp media_cmp it.0 too.0) it.1 too.1 it.2 too.2 (eq_by_cmp-tells it.0 too.0)) (λ m y. one_comparison))
-    (λ too. outcome too.0 0 too.2 (second_fails it.0 too.0 too.1 it.1 it.2 too.3) (λ m y. one_comparison)) (given_or_failed other))
-    (λ it. outcome it.0 0 it.2 (first_fails it.0 it.1 it.3) (λ m y. one_comparison)) (given_or_failed one)
+    one_of_reading (reading_of_text one) (λ first is. one_of_reading (reading_of_text other) (λ second too. one_comparison first second))

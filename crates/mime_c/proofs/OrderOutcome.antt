@@ -1,5 +1,5 @@
 -- `mime_order` has one outcome, unless memory runs out: offers have one order.
-use Rattle.std.proofs.Common.{◌≡◌, ◌≢◌, ℕ, ◌<◌, ◌⊎◌, inl, inr, Bool, true, zero, suc, List, [], ◌∷◌, length, map, refl, sym, ap, ◌∙◌, subst, arith, ⊎_elim, rules}
+use Rattle.std.proofs.Common.{◌≡◌, ◌≢◌, ℕ, ◌<◌, ◌⊎◌, inl, inr, true, zero, suc, List, [], ◌∷◌, length, map, refl, sym, ◌∙◌, subst, arith, ⊎_elim, rules}
 use Rattle.std.specs.Prelude.{Contains, ◌↔◌}
 use Rattle.std.specs.List.{All, AllPairs}
 use Rattle.std.specs.Ordering.{is_gt}
@@ -9,46 +9,53 @@ use Rattle.std.proofs.lemmas.List.{length-map}
 use Rattle.std.proofs.lemmas.List.Elements.{All-contains, All-cons, All-head, All-nil, All-tail, All-weaker, Contains-get_or}
 use Rattle.std.proofs.lemmas.List.Kept.{AllPairs-cons}
 use Rattle.mime.specs.Values.{MediaType}
-use Rattle.mime_http.specs.HttpList.{Header, IsHeader}
 use Rattle.mime_http.specs.Ranges.{Rank, rank_cmp, merit, merit_at, AreInOrder}
 use Rattle.mime_http.proofs.HandedOut.{weighs_within}
 use Rattle.mime_c.specs.Strings.{written}
-use Rattle.mime_c.specs.HeaderAnswers.{lines_of, OrderIs, order_is, none_is_ordered, order_has_no_room, an_ordered_is_bad, order_has_no_memory}
-use Rattle.mime_c.specs.Laws.{OrderIsOne}
-use Rattle.mime_c.specs.declared.TheConstants.{MIME_NO_MEMORY}
-use Rattle.mime_c.proofs.OneOutcome.{is_one}
-use Rattle.mime_c.proofs.HeaderOutcome.{header_of, same_header, empty_or_not}
+use Rattle.mime_c.specs.Answers.{InRoom, Holds}
+use Rattle.mime_c.specs.HeaderAnswers.{IsOrder, order_is, none_is_ordered}
+use Rattle.mime_c.specs.Laws.{HasOne, OrderIsOne}
+use Rattle.mime_c.specs.declared.TheConstants.{MIME_NO_MEMORY, MIME_NOT_ACCEPTABLE}
+use Rattle.mime_c.proofs.OneOutcome.{one_success, one_in_room}
+use Rattle.mime_c.proofs.HeaderOutcome.{one_of_offers, empty_or_not}
 
 -- ---- what a list contains
 
+-- What a list contains is its first element or one of the others.
 one_of : {X : Type 0} (x y : X) (xs : List X) → Contains (x ∷ xs) y → (x ≡ y) ⊎ Contains xs y
 one_of x y xs is = search rules
 
+-- A list contains its first element.
 the_first : {X : Type 0} (x y : X) (xs : List X) → x ≡ y → Contains (x ∷ xs) y
 the_first x y xs is = (0, omega arith, is)
 
+-- A list contains its later elements.
 a_later : {X : Type 0} (x y : X) (xs : List X) → Contains xs y → Contains (x ∷ xs) y
 a_later x y xs (k, within, is) = (suc k, omega (arith, within), is)
 
 -- ---- lists in order, of which the first is before the others, and these are in order
 
+-- The first of a list in order is before all others.
 before_rest : {X : Type 0} (R : X → X → Type 0) (x : X) (xs : List X) → AllPairs R (x ∷ xs) → All (R x) xs
 before_rest R x xs pairs = λ k d within. pairs 0 (suc k) d (omega arith) (omega (arith, within))
 
+-- A list in order is in order without its first element.
 rest_in_order : {X : Type 0} (R : X → X → Type 0) (x : X) (xs : List X) → AllPairs R (x ∷ xs) → AllPairs R xs
 rest_in_order R x xs pairs = λ i j d less within. pairs (suc i) (suc j) d (omega (arith, less)) (omega (arith, within))
 
 -- in a strict order two lists with the same elements are the same
 module _ {X : Type 0} (R : X → X → Type 0) (strict : (x y : X) → R x y → ¬ (R y x)) where
+  -- Two lists in a strict order with the same elements have the same first element.
   same_first : (x y : X) (xs ys : List X) → AllPairs R (x ∷ xs) → AllPairs R (y ∷ ys)
       → ((z : X) → Contains (x ∷ xs) z ↔ Contains (y ∷ ys) z) → x ≡ y
   same_first x y xs ys one other same = ⊎_elim sym
       (λ behind. ⊎_elim (λ is. is)
-      (λ later. absurd (strict x y (All-contains (R x) xs y (before_rest R x xs one) later) (All-contains (R y) ys x (before_rest R y ys other) behind)))
+      (λ later. absurd (strict x y (All-contains (R x) xs y (before_rest R x xs one) later)
+      (All-contains (R y) ys x (before_rest R y ys other) behind)))
       (one_of x y xs ((same y).1 (the_first y y ys refl))))
       (one_of y x ys ((same x).0 (the_first x x xs refl)))
 
-  -- what follows the first of one follows the same first of the other
+  -- What follows the first of one list follows the same first of the other.
   still_there : (x y z : X) (xs ys : List X) → x ≡ y → AllPairs R (x ∷ xs) → ((w : X) → Contains (x ∷ xs) w → Contains (y ∷ ys) w)
       → Contains xs z → Contains ys z
   still_there x y z xs ys first one same is = ⊎_elim
@@ -58,6 +65,7 @@ module _ {X : Type 0} (R : X → X → Type 0) (strict : (x y : X) → R x y →
       (λ there. there)
       (one_of y z ys (same z (a_later x z xs is)))
 
+  -- Two lists in a strict order with the same elements are the same.
   one_order : (xs ys : List X) → AllPairs R xs → AllPairs R ys → ((z : X) → Contains xs z ↔ Contains ys z) → xs ≡ ys
   one_order [] [] one other same = refl
   one_order [] (y ∷ ys) one other same = let is = (same y).1 (the_first y y ys refl) in absurd (omega (arith, is.1))
@@ -70,6 +78,7 @@ module _ {X : Type 0} (R : X → X → Type 0) (strict : (x y : X) → R x y →
 
 -- a list in order with one element more
 module _ {X : Type 0} (R : X → X → Type 0) (goes_on : (x y z : X) → R x y → R y z → R x z) where
+  -- A list in order has a place for one element more.
   placed : (x : X) (xs : List X) → AllPairs R xs → All (λ y. R x y ⊎ R y x) xs
       → (ys : List X) × AllPairs R ys × ((z : X) → Contains ys z ↔ ((x ≡ z) ⊎ Contains xs z))
   placed x [] pairs apart = (
@@ -101,30 +110,34 @@ module _ {X : Type 0} (R : X → X → Type 0) (goes_on : (x y z : X) → R x y 
 
 -- ---- offers
 
--- an offer is before another: it ranks higher, or as high and is offered first
+-- An offer is before another: it ranks higher, or as high and is offered first.
 abbrev Higher : Rank → ℕ → Rank → ℕ → Type 0
 Higher x i y j = (is_gt (rank_cmp x y) ≡ true) ⊎ ((x ≡ y) × (i < j))
 
+-- Of two offers at most one is before the other.
 not_back : (x y : Rank) (i j : ℕ) → Higher x i y j → ¬ (Higher y j x i)
 not_back x y i j (inl above) (inl back) = absurd (grind (arith, nat_tests, above, back))
 not_back x y i j (inl above) (inr (same, less)) = absurd (grind (arith, nat_tests, above, same))
 not_back x y i j (inr (same, less)) (inl back) = absurd (grind (arith, nat_tests, back, same))
 not_back x y i j (inr (same, less)) (inr (again, more)) = absurd (omega (arith, less, more))
 
+-- An offer before another is before all that the other is before.
 goes_on_higher : (x y z : Rank) (i j k : ℕ) → Higher x i y j → Higher y j z k → Higher x i z k
 goes_on_higher x y z i j k (inl above) (inl on) = inl (grind (arith, nat_tests, above, on))
 goes_on_higher x y z i j k (inl above) (inr (same, less)) = inl (subst (λ (r : Rank). is_gt (rank_cmp x r) ≡ true) same above)
 goes_on_higher x y z i j k (inr (same, less)) (inl on) = inl (subst (λ (r : Rank). is_gt (rank_cmp r z) ≡ true) (sym same) on)
 goes_on_higher x y z i j k (inr (same, less)) (inr (again, more)) = inr (same ∙ again, omega (arith, less, more))
 
+-- Of two offers one is before the other.
 one_is_higher : (x y : Rank) (i j : ℕ) → j < i → Higher x i y j ⊎ Higher y j x i
 one_is_higher x y i j less = search rules
 
 module _ (ranges offers : List MediaType) where
+  -- An offer at a position is before another.
   abbrev Before : ℕ → ℕ → Type 0
   Before at other = Higher (merit_at ranges offers at) at (merit_at ranges offers other) other
 
-  -- the first offers that weigh something, in order
+  -- The first offers that weigh something have an order.
   ordered : (n : ℕ) → (order : List ℕ) × AllPairs Before order
       × ((at : ℕ) → Contains order at ↔ ((at < n) × (0 < (merit_at ranges offers at).0)))
   ordered zero = (
@@ -143,7 +156,8 @@ module _ (ranges offers : List MediaType) where
         λ at. (
           λ is. ⊎_elim (λ same. (omega (arith, same), subst (λ it. 0 < (merit_at ranges offers it).0) same weighs))
               (λ there. let before = (so_far.2 at).0 there in (omega (arith, before.0), before.1)) ((more.2 at).0 is),
-          λ is. (more.2 at).1 (⊎_elim (λ less. inr ((so_far.2 at).1 (less, is.1))) (λ past. inl (omega (arith, past, is.0))) (cases_lt at n)),
+          λ is. (more.2 at).1 (⊎_elim (λ less. inr ((so_far.2 at).1 (less, is.1))) (λ past. inl (omega (arith, past, is.0)))
+              (cases_lt at n)),
         ),
       ))
       (λ light. (
@@ -161,7 +175,7 @@ module _ (ranges offers : List MediaType) where
       ))
       (cases_lt 0 (merit_at ranges offers n).0)
 
-  -- offers have an order
+  -- Offers have an order.
   has_order : (order : List ℕ) × AreInOrder ranges offers order
   has_order =
       let all = ordered (length offers) in (
@@ -170,12 +184,20 @@ module _ (ranges offers : List MediaType) where
           best_first = all.1;
           all = λ at. (
             λ is. ((all.2 at).0 is).1,
-            λ weighs. (all.2 at).1 (omega (arith, weighs_within (map (merit ranges) offers) at weighs, length-map offers (merit ranges)), weighs),
+            λ weighs. (all.2 at).1 (
+              omega (
+                arith,
+                weighs_within (map (merit ranges) offers) at weighs,
+                length-map offers
+                    (merit ranges),
+              ),
+              weighs,
+            ),
           );
         },
       )
 
-  -- offers have only one order
+  -- Offers have only one order.
   only_order : (order other : List ℕ) → AreInOrder ranges offers order → AreInOrder ranges offers other → other ≡ order
   only_order order other one two =
       one_order Before (λ x y. not_back _ _ x y) other order two.best_first one.best_first
@@ -183,65 +205,38 @@ module _ (ranges offers : List MediaType) where
 
 -- ---- outcomes
 
--- two outcomes speak of the same order
-same_order : {lines offers : List (List ℕ)} {header offered another others : Header} {order other : List ℕ} → IsHeader lines header
-    → IsHeader offers offered → IsHeader lines another → IsHeader offers others → AreInOrder header.ranges offered.ranges order
-    → AreInOrder another.ranges others.ranges other → other ≡ order
-same_order {header = header} {offered = offered} {another = another} {other = other} is of too again one two =
-    only_order header.ranges offered.ranges _ _ one
-    (subst (λ (it : Header). AreInOrder it.ranges offered.ranges other) (same_header is too)
-    (subst (λ (it : Header). AreInOrder another.ranges it.ranges other) (same_header of again) two))
+module _ (old : List ℕ) (ranges offers : List MediaType) where
+  -- No order is the only outcome if no offer is acceptable.
+  only_unordered : AreInOrder ranges offers [] → (n : ℕ) (held : List ℕ × ℕ) → n ≢ MIME_NO_MEMORY → IsOrder old ranges offers n held
+      → (n ≡ MIME_NOT_ACCEPTABLE) × (held ≡ (old, 0))
+  only_unordered none n held some (order_is order _ _ are more is) = absurd (more (only_order ranges offers [] order none are))
+  only_unordered none n held some (none_is_ordered too) = (refl, refl)
 
--- the offers of one aren't bad
-not_bad : {lines : List (List ℕ)} {one two : Header} → IsHeader lines one → IsHeader lines two → one.bad ≡ [] → ¬ (two.bad ≢ [])
-not_bad is too good bad = bad (ap (λ (it : Header). it.bad) (same_header is too) ∙ good)
+  -- An order is written if there is room for it.
+  abbrev IsPlaced : List ℕ → ℕ → List ℕ × ℕ → Type 0
+  IsPlaced order = InRoom (length order) old (old, 0) (Holds (written order old, length order))
 
-module _ {is_there : Bool} {line offers old : List ℕ} where
-  one_ordering : {n m : ℕ} {new bytes : List ℕ} {size other : ℕ} → n ≢ MIME_NO_MEMORY → m ≢ MIME_NO_MEMORY
-      → OrderIs is_there line offers old n new size → OrderIs is_there line offers old m bytes other
-      → (m ≡ n) × ◌≡◌ {A = List ℕ × ℕ} (bytes, other) (new, size)
-  one_ordering h k (order_has_no_memory none) orders = absurd (h refl)
-  one_ordering h k orders (order_has_no_memory none) = absurd (k refl)
-  one_ordering h k (order_is _ _ order is of good one some room) (order_is _ _ another too again fine two more place) =
-      (refl, ap (λ (it : List ℕ). (written it old, length it)) (same_order is of too again one two))
-  one_ordering h k (order_is _ _ order is of good one some room) (none_is_ordered _ _ too again fine none) =
-      absurd (some (sym (same_order is of too again one none)))
-  one_ordering h k (order_is _ _ order is of good one some room) (order_has_no_room _ _ another too again fine two short) =
-      absurd (omega (arith, room, short, ap length (same_order is of too again one two)))
-  one_ordering h k (order_is _ _ order is of good one some room) (an_ordered_is_bad _ again bad) = absurd (not_bad of again good bad)
-  one_ordering h k (none_is_ordered _ _ is of good none) (order_is _ _ another too again fine two some room) =
-      absurd (some (same_order is of too again none two))
-  one_ordering h k (none_is_ordered _ _ is of good none) (none_is_ordered _ _ too again fine nothing) = (refl, refl)
-  one_ordering h k (none_is_ordered _ _ is of good none) (order_has_no_room _ _ another too again fine two short) =
-      absurd (omega (arith, short, ap length (same_order is of too again none two)))
-  one_ordering h k (none_is_ordered _ _ is of good none) (an_ordered_is_bad _ again bad) = absurd (not_bad of again good bad)
-  one_ordering h k (order_has_no_room _ _ order is of good one short) (order_is _ _ another too again fine two some room) =
-      absurd (omega (arith, room, short, ap length (same_order is of too again one two)))
-  one_ordering h k (order_has_no_room _ _ order is of good one short) (none_is_ordered _ _ too again fine none) =
-      absurd (omega (arith, short, ap length (same_order is of too again one none)))
-  one_ordering h k (order_has_no_room _ _ order is of good one short) (order_has_no_room _ _ another too again fine two less) = (refl, refl)
-  one_ordering h k (order_has_no_room _ _ order is of good one short) (an_ordered_is_bad _ again bad) = absurd (not_bad of again good bad)
-  one_ordering h k (an_ordered_is_bad _ of bad) (order_is _ _ another too again fine two some room) = absurd (not_bad again of fine bad)
-  one_ordering h k (an_ordered_is_bad _ of bad) (none_is_ordered _ _ too again fine none) = absurd (not_bad again of fine bad)
-  one_ordering h k (an_ordered_is_bad _ of bad) (order_has_no_room _ _ another too again fine two short) = absurd (not_bad again of fine bad)
-  one_ordering h k (an_ordered_is_bad _ of bad) (an_ordered_is_bad _ again worse) = (refl, refl)
+  -- An order has one outcome in each buffer.
+  one_place : (order : List ℕ) → HasOne (IsPlaced order)
+  one_place order = one_in_room one_success
 
+  -- An order is the only one.
+  only_some : (order : List ℕ) → AreInOrder ranges offers order → order ≢ [] → (n : ℕ) (held : List ℕ × ℕ) → n ≢ MIME_NO_MEMORY
+      → IsOrder old ranges offers n held → (n ≡ (one_place order).0) × (held ≡ (one_place order).1)
+  only_some order are more n held some (order_is other _ _ too _ is) =
+      (one_place order).4 n held some (subst (λ it. IsPlaced it n held) (only_order ranges offers order other are too) is)
+  only_some order are more n held some (none_is_ordered none) = absurd (more (only_order ranges offers [] order none are))
+
+  -- Ranges and offers have one order, which there is room for or isn't.
+  one_ordering : HasOne (IsOrder old ranges offers)
+  one_ordering =
+      let order = has_order ranges offers in
+      ⊎_elim
+      (λ none. let are = subst (AreInOrder ranges offers) none order.1 in
+      (_, _, (λ same. omega (arith, same)), none_is_ordered are, only_unordered are))
+      (λ more. let has = one_place order.0 in
+      (_, _, has.2, order_is order.0 _ _ order.1 more has.3, only_some order.0 order.1 more)) (empty_or_not order.0)
+
+-- `mime_order` has one outcome.
 pub order_is_one : OrderIsOne
-order_is_one is_there line offers old =
-    let one = is_one (λ n (held : List ℕ × ℕ). OrderIs is_there line offers old n held.0 held.1) in
-    let header = header_of (lines_of is_there line) in
-    let offered = header_of (offers ∷ []) in
-    let order = has_order header.0.ranges offered.0.ranges in
-    ⊎_elim
-    (λ good. ⊎_elim
-    (λ none. one _ _ (λ same. omega (arith, same))
-    (none_is_ordered header.0 offered.0 header.1 offered.1 good (subst (AreInOrder header.0.ranges offered.0.ranges) none order.1)) (λ m y. one_ordering))
-    (λ some. ⊎_elim
-    (λ short. one _ _ (λ same. omega (arith, same))
-    (order_has_no_room header.0 offered.0 order.0 header.1 offered.1 good order.1 short) (λ m y. one_ordering))
-    (λ room. one _ _ (λ same. omega (arith, same))
-    (order_is header.0 offered.0 order.0 header.1 offered.1 good order.1 some room) (λ m y. one_ordering))
-    (cases_lt (length old) (length order.0)))
-    (empty_or_not order.0))
-    (λ bad. one _ _ (λ same. omega (arith, same)) (an_ordered_is_bad offered.0 offered.1 bad) (λ m y. one_ordering))
-    (empty_or_not offered.0.bad)
+order_is_one is_there line offers old = one_of_offers is_there line offers (λ at. (old, at)) (one_ordering old)

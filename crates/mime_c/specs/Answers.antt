@@ -1,17 +1,20 @@
 -- What each call answers, and what the caller's buffer and structs hold then.
-use Rattle.std.specs.Prelude.{ℕ, ◌+◌, ◌*◌, ◌<◌, ◌≤◌, Bool, IsTrue, if◌then◌else◌, List, ◌∷◌, ◌++◌, length, ◌↔◌}
+use Rattle.std.specs.Prelude.{ℕ, ◌+◌, ◌*◌, ◌<◌, ◌≤◌, Bool, IsTrue, if◌then◌else◌, List, length, ◌↔◌, Contains}
 use Rattle.std.specs.Str.{IsUtf8, IsValidUpTo}
 use Rattle.mime.specs.Values.{MediaType, Reads, type_of, subtype_of}
 use Rattle.mime.specs.Comparison.{Same}
 use Rattle.mime.specs.Faults.{Explains}
 use Rattle.mime.specs.Cut.{CutItem, good, Cut}
 use Rattle.mime.specs.declared.scan.fault.ParseError.{ParseError}
-use Rattle.mime.specs.declared.scan.fault.ParseError.TheVariants.{MissingSlash, MissingSubtype, MissingEqual, MissingValue, MissingQuote, InvalidToken, NoMemory}
+use Rattle.mime.specs.declared.scan.fault.ParseError.TheVariants.{MissingSlash, MissingSubtype, MissingEqual, MissingValue, MissingQuote, InvalidToken}
+use Rattle.mime.specs.declared.scan.fault.ParseError.TheVariants as fault
+use Rattle.mime_http.specs.declared.value.FieldError.{FieldError}
+use Rattle.mime_http.specs.declared.value.FieldError.TheVariants.{NotUtf8, Invalid, NoMemory}
 use Rattle.mime_c.specs.Strings.{strings, ComeBack, parts_of, texts_of, item_texts, written}
 use Rattle.mime_c.specs.declared.MimeFound.{MimeFound}
 use Rattle.mime_c.specs.declared.TheConstants.{MIME_OK, MIME_MISSING_SLASH, MIME_MISSING_SUBTYPE, MIME_MISSING_EQUAL, MIME_MISSING_VALUE, MIME_MISSING_QUOTE, MIME_INVALID_BYTE, MIME_NO_MEMORY, MIME_NOT_UTF8, MIME_NO_ROOM}
 
--- the number of a fault
+-- the number of a fault, and of why a text or a value isn't read
 abbrev pub number_of : ParseError → ℕ
 number_of MissingSlash = MIME_MISSING_SLASH
 number_of MissingSubtype = MIME_MISSING_SUBTYPE
@@ -19,70 +22,89 @@ number_of MissingEqual = MIME_MISSING_EQUAL
 number_of MissingValue = MIME_MISSING_VALUE
 number_of MissingQuote = MIME_MISSING_QUOTE
 number_of (InvalidToken pos byte) = MIME_INVALID_BYTE
-number_of NoMemory = MIME_NO_MEMORY
+number_of fault.NoMemory = MIME_NO_MEMORY
 
--- what is found of an invalid byte, or, with 0 for the byte, of a text that isn't UTF-8; nothing else is found of a rejected text
+abbrev pub number_of_error : FieldError → ℕ
+number_of_error (NotUtf8 pos) = MIME_NOT_UTF8
+number_of_error (Invalid fault) = number_of fault
+number_of_error NoMemory = MIME_NO_MEMORY
+
+-- what is found then: the invalid byte and its position, or, with 0 for the byte, how much is UTF-8; and nothing else
 abbrev pub found_at : ℕ → ℕ → MimeFound
 found_at pos byte = record { length = 0; params = 0; printed = 0; slash = 0; subtype_end = 0; pos = pos; byte = byte }
 
 abbrev pub nothing : MimeFound
 nothing = found_at 0 0
 
-abbrev pub found_of_fault : ParseError → MimeFound
-found_of_fault (InvalidToken pos byte) = found_at pos byte
-found_of_fault other = nothing
+abbrev pub found_of_error : FieldError → MimeFound
+found_of_error (NotUtf8 pos) = found_at pos 0
+found_of_error (Invalid (InvalidToken pos byte)) = found_at pos byte
+found_of_error other = nothing
 
 -- what is found of a media type: how many bytes its strings are, how many parameters there are, where the string begins that it is
 -- printed as, and where in the essence, which begins with type, slash and subtype, the slash is and the subtype ends
 abbrev pub found_of : MediaType → MimeFound
-found_of media = record {
+found_of media = record nothing {
   length = length (strings (texts_of media));
   params = length media.pairs;
   printed = length (strings (parts_of media));
   slash = length (type_of media);
   subtype_end = length (type_of media) + 1 + length (subtype_of media);
-  pos = 0;
-  byte = 0;
 }
 
--- why a text isn't read as a media type: the answer, and what is found
-pub data Fails (text : List ℕ) : ℕ → MimeFound → Type 0 where
-  is_rejected : (fault : ParseError) → IsUtf8 text → Explains text fault → Fails text (number_of fault) (found_of_fault fault)
-  is_not_text : (pos : ℕ) → ¬ (IsUtf8 text) → IsValidUpTo text pos → Fails text MIME_NOT_UTF8 (found_at pos 0)
+-- ---- In the following, `Held` is what the caller's buffer and structs hold after a call.
 
--- `mime_read` of a text, with the caller's buffer: the answer, what the buffer holds then, and what is found
-pub data ReadsTo (text old : List ℕ) : ℕ → List ℕ → MimeFound → Type 0 where
-  is_read : (media : MediaType) → 2 * length text + 2 ≤ length old → IsUtf8 text → Reads text media → ComeBack (texts_of media)
-      → ReadsTo text old MIME_OK (written (strings (texts_of media)) old) (found_of media)
-  fails : (answer : ℕ) (found : MimeFound) → 2 * length text + 2 ≤ length old → Fails text answer found
-      → ReadsTo text old answer old found
-  has_no_room : length old < 2 * length text + 2 → ReadsTo text old MIME_NO_ROOM old nothing
+-- a call needs a buffer of so many bytes: in a shorter one it finds no room, and the buffer and the structs are as `untouched` says
+pub data InRoom {Held : Type 0} (least : ℕ) (old : List ℕ) (untouched : Held) (Is : ℕ → Held → Type 0) : ℕ → Held → Type 0 where
+  has_room : (answer : ℕ) (held : Held) → least ≤ length old → Is answer held → InRoom least old untouched Is answer held
+  has_no_room : length old < least → InRoom least old untouched Is MIME_NO_ROOM untouched
 
--- an item of the text's cut is a media type of more than 40 bytes
-pub record NeedsMemory (text : List ℕ) : Type 0 where
-  pub before : List CutItem
-  pub piece : List ℕ
-  pub media : MediaType
-  pub after : List CutItem
-  pub rest : List ℕ
-  pub cut : Cut text (before ++ good piece media ∷ after) rest
-  pub long : 40 < length piece
+-- a call succeeds, and this is held then
+pub data Holds {Held : Type 0} (wanted : Held) : ℕ → Held → Type 0 where
+  holds : Holds wanted MIME_OK wanted
 
--- `mime_list` of a text, with the caller's buffer: the answer, what the buffer holds then, and how many bytes were written
-pub data ListsTo (text old : List ℕ) : ℕ → List ℕ → ℕ → Type 0 where
-  is_listed : (items : List CutItem) (rest : List ℕ) → 2 * length text ≤ length old → IsUtf8 text → Cut text items rest
-      → ComeBack (item_texts items)
-      → ListsTo text old MIME_OK (written (strings (item_texts items)) old) (length (strings (item_texts items)))
-  has_no_memory : (new : List ℕ) → 2 * length text ≤ length old → IsUtf8 text → NeedsMemory text
-      → ListsTo text old MIME_NO_MEMORY new 0
-  is_not_text : 2 * length text ≤ length old → ¬ (IsUtf8 text) → ListsTo text old MIME_NOT_UTF8 old 0
-  has_no_room : length old < 2 * length text → ListsTo text old MIME_NO_ROOM old 0
+-- a call reads a media type first: it goes on with that, or says why there is none, and `failed` says what is held with what is found then
+pub data Of {Held : Type 0} (IsRead : MediaType → Type 0) (Explained : FieldError → Type 0) (failed : MimeFound → Held)
+    (Is : MediaType → ℕ → Held → Type 0) : ℕ → Held → Type 0 where
+  is_read : (media : MediaType) (answer : ℕ) (held : Held) → IsRead media → Is media answer held → Of IsRead Explained failed Is answer held
+  fails : (error : FieldError) → Explained error → Of IsRead Explained failed Is (number_of_error error) (failed (found_of_error error))
+
+-- why a text isn't read as a media type; that memory runs out is a fault of `mime`
+abbrev pub TextExplains : List ℕ → FieldError → Type 0
+TextExplains text (NotUtf8 pos) = ¬ (IsUtf8 text) × IsValidUpTo text pos
+TextExplains text (Invalid fault) = IsUtf8 text × Explains text fault
+TextExplains text NoMemory = ⊥
+
+-- a call reads a whole text as a media type of `mime`
+abbrev pub OfText : {Held : Type 0} → List ℕ → (MimeFound → Held) → (MediaType → ℕ → Held → Type 0) → ℕ → Held → Type 0
+OfText text failed Is = Of (λ media. IsUtf8 text × Reads text media) (TextExplains text) failed Is
+
+-- a call writes the strings of a media type, and finds what `found_of` says
+pub data AreWritten (old : List ℕ) (media : MediaType) : ℕ → List ℕ × MimeFound → Type 0 where
+  are_written : ComeBack (texts_of media) → AreWritten old media MIME_OK (written (strings (texts_of media)) old, found_of media)
+
+-- `mime_read` of a text, with the caller's buffer: the answer, and what the buffer holds then and what is found
+abbrev pub ReadsTo : List ℕ → List ℕ → ℕ → List ℕ × MimeFound → Type 0
+ReadsTo text old = InRoom (2 * length text + 2) old (old, nothing) (OfText text (λ found. (old, found)) (AreWritten old))
+
+-- an item of the text's cut is a media type of which more than 40 bytes are kept
+abbrev pub NeedsMemory : List ℕ → Type 0
+NeedsMemory text = (items : List CutItem) × (rest piece : List ℕ) × (media : MediaType) × Cut text items rest
+    × Contains items (good piece media) × (40 < length media.kept)
+
+-- `mime_list` of a text, with the caller's buffer: the answer, and what the buffer holds then and how many bytes were written
+pub data AreListed (text old : List ℕ) : ℕ → List ℕ × ℕ → Type 0 where
+  is_listed : (items : List CutItem) (rest : List ℕ) → IsUtf8 text → Cut text items rest → ComeBack (item_texts items)
+      → AreListed text old MIME_OK (written (strings (item_texts items)) old, length (strings (item_texts items)))
+  has_no_memory : (new : List ℕ) → IsUtf8 text → NeedsMemory text → AreListed text old MIME_NO_MEMORY (new, 0)
+  is_not_text : ¬ (IsUtf8 text) → AreListed text old MIME_NOT_UTF8 (old, 0)
+
+abbrev pub ListsTo : List ℕ → List ℕ → ℕ → List ℕ × ℕ → Type 0
+ListsTo text old = InRoom (2 * length text) old (old, 0) (AreListed text old)
 
 -- `mime_equal` of two texts: the answer, and 1 if both are read as equal media types, else 0
-pub data Compares (one other : List ℕ) : ℕ → ℕ → Type 0 where
-  are_read : (first second : MediaType) (equal : Bool) → IsUtf8 one → IsUtf8 other → Reads one first → Reads other second
-      → IsTrue equal ↔ Same first second
-      → Compares one other MIME_OK (if equal then 1 else 0)
-  first_fails : (answer : ℕ) (found : MimeFound) → Fails one answer found → Compares one other answer 0
-  second_fails : (media : MediaType) (answer : ℕ) (found : MimeFound) → IsUtf8 one → Reads one media → Fails other answer found
-      → Compares one other answer 0
+pub data AreCompared (first second : MediaType) : ℕ → ℕ → Type 0 where
+  are_compared : (equal : Bool) → IsTrue equal ↔ Same first second → AreCompared first second MIME_OK (if equal then 1 else 0)
+
+abbrev pub Compares : List ℕ → List ℕ → ℕ → ℕ → Type 0
+Compares one other = OfText one (λ found. 0) (λ first. OfText other (λ found. 0) (AreCompared first))

@@ -11,10 +11,10 @@ ghost use Rattle.mime.specs.Values.{Reads};
 ghost use Rattle.mime.specs.CutLaws.{IsRead};
 ghost use Rattle.mime_c.specs.Strings.{string_of, strings, parts_of, texts_of, written};
 ghost use Rattle.mime_c.specs.Writing.{Writes};
-ghost use Rattle.mime_c.specs.Answers.{number_of, found_at, found_of_fault, found_of, Fails, ReadsTo, ListsTo, Compares};
+ghost use Rattle.mime_c.specs.Answers.{number_of, number_of_error, found_of_error, found_of, TextExplains, ReadsTo, ListsTo, Compares};
 ghost use Rattle.mime_http.specs.HttpList.{Header, IsHeader};
 ghost use Rattle.mime_http.specs.Ranges.{weight_of};
-ghost use Rattle.mime_c.specs.HeaderAnswers.{number_of_error, found_of_error, HeaderReadsTo, four_digits, range_texts, AcceptsTo, lines_of, HaveNoEntry, BestIs, OrderIs};
+ghost use Rattle.mime_c.specs.HeaderAnswers.{HeaderReadsTo, four_digits, range_texts, AcceptsTo, lines_of, HaveNoEntry, BestIs, OrderIs};
 
 pub mod laws;
 mod parameter;
@@ -105,27 +105,6 @@ fn number_of(fault: &ParseError) -> u32
     }
 }
 
-/// Returns what is found in a text that isn't UTF-8. `pos` is the position after its longest valid prefix.
-fn found_at(pos: usize) -> MimeFound
-    ensures { result ≡ found_at pos 0 }
-{
-    MimeFound { pos, ..NOTHING }
-}
-
-/// Returns what is found for a fault: the invalid byte and its position, if the fault has one.
-fn found_of_fault(fault: &ParseError) -> MimeFound
-    ensures { result ≡ found_of_fault fault.now }
-{
-    match fault {
-        ParseError::InvalidToken { pos, byte } => MimeFound {
-            pos: *pos,
-            byte: *byte,
-            ..NOTHING
-        },
-        _ => NOTHING,
-    }
-}
-
 /// Converts bytes to a string as `str::from_utf8` does, but faster for ASCII, which most texts are.
 #[inline(never)]
 fn text_of(bytes: &[u8]) -> Result<&str, Utf8Error>
@@ -150,22 +129,28 @@ fn number_of_error(error: &FieldError) -> u32
     }
 }
 
-/// Returns what is found for an error in reading a text or a header's value.
+/// Returns what is found for an error in reading a text or a header's value: how much is UTF-8, or the invalid byte and its position.
 fn found_of_error(error: &FieldError) -> MimeFound
     ensures { result ≡ found_of_error error.now }
 {
     match error {
-        FieldError::NotUtf8 { pos } => found_at(*pos),
-        FieldError::Invalid(fault) => found_of_fault(fault),
-        FieldError::NoMemory => NOTHING,
+        FieldError::NotUtf8 { pos } => MimeFound {
+            pos: *pos,
+            ..NOTHING
+        },
+        FieldError::Invalid(ParseError::InvalidToken { pos, byte }) => MimeFound {
+            pos: *pos,
+            byte: *byte,
+            ..NOTHING
+        },
+        FieldError::Invalid(_) | FieldError::NoMemory => NOTHING,
     }
 }
 
 /// Reads the whole of a text as one media type.
-#[tactic(auto, using(crate::specs::Answers::is_not_text))]
 fn read(alloc: Global, text: &[u8]) -> Result<Mime, FieldError>
     ensures read { IfOk result (λ mime. IsUtf8 text.now × Reads text.now mime.media) }
-    ensures fails { IfErr result (λ error. Fails text.now (number_of_error error) (found_of_error error)) }
+    ensures explained { IfErr result (λ error. TextExplains text.now error) }
 {
     let text = match text_of(text) {
         Ok(text) => text,
@@ -247,7 +232,7 @@ pub extern "C" fn mime_read(
     out: &mut [u8],
     found: &mut MimeFound,
 ) -> u32
-    ensures { ReadsTo text.now out.old result out.new found.new }
+    ensures { ReadsTo text.now out.old result (out.new, found.new) }
 {
     if out.len() / 2 <= text.len() {
         *found = NOTHING;
@@ -275,7 +260,7 @@ pub extern "C" fn mime_content_type(
     out: &mut [u8],
     found: &mut MimeFound,
 ) -> u32
-    ensures { HeaderReadsTo value.now out.old result out.new found.new }
+    ensures { HeaderReadsTo value.now out.old result (out.new, found.new) }
 {
     if (out.len() + 1) / 3 <= value.len() {
         *found = NOTHING;
@@ -307,9 +292,9 @@ fn put_item(out: &mut [u8], at: usize, mark: u8, text: &str) -> usize
 /// least `2 * text.len()` bytes, and sets `length` to the number of bytes written. Returns `MIME_OK`, or sets `length` to 0 and returns
 /// another answer of include/mime.h. For an `Accept` header, use `mime_accept`.
 #[unsafe(no_mangle)]
-#[tactic(auto, using(crate::specs::Answers::has_no_room, crate::specs::Answers::is_not_text))]
+#[tactic(auto, using(crate::specs::Answers::has_no_room, crate::specs::Answers::has_room, crate::specs::Answers::is_not_text))]
 pub extern "C" fn mime_list(alloc: Global, text: &[u8], out: &mut [u8], length: &mut usize) -> u32
-    ensures { ListsTo text.now out.old result out.new length.new }
+    ensures { ListsTo text.now out.old result (out.new, length.new) }
 {
     *length = 0;
     if out.len() / 2 < text.len() {
@@ -333,7 +318,6 @@ pub extern "C" fn mime_list(alloc: Global, text: &[u8], out: &mut [u8], length: 
 /// Sets `equal` to 1 if two texts are read as equal media types (RFC 7231, 3.1.1.1), and otherwise to 0. Returns `MIME_OK`, or the reason
 /// why a text isn't read. `Text/Plain;charset="UTF-8"` and `text/plain; charset=utf-8` are equal.
 #[unsafe(no_mangle)]
-#[tactic(auto, using(crate::specs::Answers::first_fails, crate::specs::Answers::second_fails))]
 pub extern "C" fn mime_equal(alloc: Global, one: &[u8], other: &[u8], equal: &mut u8) -> u32
     ensures { Compares one.now other.now result equal.new }
 {
@@ -385,14 +369,14 @@ pub extern "C" fn mime_accept(
     length: &mut usize,
     bad: &mut usize,
 ) -> u32
-    ensures { AcceptsTo text.now out.old result out.new length.new bad.new }
+    ensures { AcceptsTo text.now out.old result (out.new, length.new, bad.new) }
 {
     *length = 0;
     *bad = 0;
     if out.len() / 3 <= text.len() {
         return MIME_NO_ROOM;
     }
-    let Ok(accept) = Accept::from_lines(alloc, &[text]) else {
+    let Ok((accept, entries)) = Accept::from_line_counting_bad(alloc, text) else {
         return MIME_NO_MEMORY;
     };
     let mut at = 0;
@@ -400,7 +384,7 @@ pub extern "C" fn mime_accept(
         at = put_range(out, at, range);
     }
     *length = at;
-    *bad = accept.bad().len();
+    *bad = entries.count;
     MIME_OK
 }
 
@@ -414,17 +398,10 @@ fn accepted(alloc: Global, is_there: bool, line: &[u8]) -> Result<Accept, AllocE
     Accept::from_lines_without_bad(alloc, &lines[..usize::from(is_there)])
 }
 
-/// Returns `true` if an entry of a list of offers isn't a media type.
-fn has_bad(offered: &Accept) -> bool
-    ensures bad { result ≡ true → offered.now.bad ≢ [] }
-    ensures good { result ≡ false → offered.now.bad ≡ [] }
-{
-    !offered.bad().is_empty()
-}
-
 /// Chooses the best offer of a list, such as `text/html, application/json`, for an `Accept` header (RFC 9110, 12.5.1). Sets `best` to the
 /// offer's position in the list, from 0. If `is_there` is false, the request has no such header, and accepts everything. Returns `MIME_OK`,
-/// `MIME_BAD_OFFER`, `MIME_NOT_ACCEPTABLE` or `MIME_NO_MEMORY`.
+/// `MIME_NOT_ACCEPTABLE`, `MIME_NO_MEMORY`, or `MIME_BAD_OFFER`. With `MIME_BAD_OFFER`, `best` is the position of the first offer that isn't
+/// a media type.
 #[unsafe(no_mangle)]
 pub extern "C" fn mime_best(
     alloc: Global,
@@ -436,10 +413,11 @@ pub extern "C" fn mime_best(
     ensures { BestIs is_there accept.now offers.now result best.new }
 {
     *best = 0;
-    let Ok(offered) = Accept::from_lines(alloc, &[offers]) else {
+    let Ok((offered, entries)) = Accept::from_line_counting_bad(alloc, offers) else {
         return MIME_NO_MEMORY;
     };
-    if has_bad(&offered) {
+    if let Some(at) = entries.first {
+        *best = at;
         return MIME_BAD_OFFER;
     }
     let Ok(header) = accepted(alloc, is_there, accept) else {
@@ -455,7 +433,8 @@ pub extern "C" fn mime_best(
 }
 
 /// Writes the positions of the acceptable offers of a list to the start of `order`, the best first (RFC 9110, 12.5.1). Sets `count` to
-/// their number. Compares offers as `mime_best` does. Returns `MIME_OK`, or sets `count` to 0 and returns another answer of include/mime.h.
+/// their number. Compares offers as `mime_best` does. Returns `MIME_OK`, or another answer of include/mime.h if it wrote nothing: with
+/// `MIME_BAD_OFFER`, `count` is the position of the first offer that isn't a media type, and with any other it is 0.
 #[unsafe(no_mangle)]
 pub extern "C" fn mime_order(
     alloc: Global,
@@ -465,13 +444,14 @@ pub extern "C" fn mime_order(
     order: &mut [usize],
     count: &mut usize,
 ) -> u32
-    ensures { OrderIs is_there accept.now offers.now order.old result order.new count.new }
+    ensures { OrderIs is_there accept.now offers.now order.old result (order.new, count.new) }
 {
     *count = 0;
-    let Ok(offered) = Accept::from_lines(alloc, &[offers]) else {
+    let Ok((offered, entries)) = Accept::from_line_counting_bad(alloc, offers) else {
         return MIME_NO_MEMORY;
     };
-    if has_bad(&offered) {
+    if let Some(at) = entries.first {
+        *count = at;
         return MIME_BAD_OFFER;
     }
     let Ok(header) = accepted(alloc, is_there, accept) else {

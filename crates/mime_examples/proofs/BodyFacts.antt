@@ -7,19 +7,22 @@ use Rattle.std.proofs.lemmas.Option.{same_Some}
 use Rattle.mime.proofs.HandedOut.{length-lowered}
 use Rattle.mime_examples.specs.Multipart.{IsLine, IsEmptyLine, EndsLine, HasNoDelimiter, IsCut, IsPart, no_line, with_return, without_return, Closes, closed, cut_off, a_part, IsBody, no_delimiter, after_preamble, IsField, IsFirstField, in_line, after_line, empty_line, no_line_end}
 
+-- This is the delimiter of the examples.
 abbrev mark : List ℕ
 mark = codes "--x"
 
--- the first byte of a text, if there is one
+-- This is the first byte of a text, or 0 of none.
 abbrev byte_of : List ℕ → ℕ
 byte_of [] = 0
 byte_of (b ∷ text) = b
 
+-- A text with a first byte isn't empty.
 some_byte : (b : ℕ) (text : List ℕ) → b ∷ text ≢ []
 some_byte b text none = omega (arith, ap length none)
 
 -- ---- lines
 
+-- A line has no line feed, and an empty one at most a carriage return.
 lines : IsLine (codes "a\r") × ¬ (IsLine (codes "a\nb")) × IsEmptyLine [] × IsEmptyLine (codes "\r") × ¬ (IsEmptyLine (codes "a"))
 lines = (
   refl,
@@ -29,6 +32,7 @@ lines = (
   λ is. ⊎_elim (λ none. omega (arith, ap length none)) (λ same. let byte : 97 ≡ 13 = ap byte_of same in omega (arith, byte)) is,
 )
 
+-- A line begins at the start and after a line feed, and nowhere else.
 line_ends : EndsLine [] × EndsLine (codes "a\n") × ¬ (EndsLine (codes "\na"))
 line_ends = (
   (λ some. absurd (some refl)),
@@ -38,26 +42,28 @@ line_ends = (
 
 -- ---- cuts
 
--- a delimiter within a line is none
+-- A delimiter within a line is none.
 none_inside : HasNoDelimiter mark (codes "a--x")
 none_inside [] after ends is = let byte : 97 ≡ 45 = ap byte_of is in omega (arith, byte)
 none_inside (b ∷ []) after ends is =
     let byte : 97 ≡ b = ap byte_of is in omega (arith, byte, same_Some b 10 (ends (some_byte b [])))
 none_inside (b ∷ c ∷ before) after ends is = omega (arith, simp length-append at (ap length is))
 
+-- A delimiter after a line feed is one.
 one_after_a_line : ¬ (HasNoDelimiter mark (codes "a\n--x"))
 one_after_a_line none = none (codes "a\n") [] line_ends.1 refl
 
--- the first that begins a line cuts a text
+-- No delimiter begins a line before the second byte.
 none_before : (earlier later : List ℕ) → EndsLine earlier → codes "a\n--x--" ≡ earlier ++ (mark ++ later) → 2 ≤ length earlier
 none_before [] later ends is = let byte : 97 ≡ 45 = ap byte_of is in absurd (omega (arith, byte))
 none_before (b ∷ []) later ends is = let byte : 10 ≡ 45 = ap (λ it. byte_of (drop 1 it)) is in absurd (omega (arith, byte))
 none_before (b ∷ c ∷ earlier) later ends is = omega arith
 
+-- A text is cut at the first delimiter that begins a line.
 cut_after_a_line : IsCut mark (codes "a\n--x--") (codes "a\n") (codes "--")
 cut_after_a_line = record { whole = refl; line = line_ends.1; first = none_before }
 
--- and neither a later one, nor one within a line, nor other bytes
+-- A text is cut neither at a later delimiter, nor at one within a line, nor at other bytes.
 no_cuts :
     ¬ (IsCut mark (codes "--x\n--x") (codes "--x\n") []) × ¬ (IsCut mark (codes "a--x") (codes "a") [])
     × ¬ (IsCut mark (codes "a\n--x--") (codes "a\n") [])
@@ -69,14 +75,16 @@ no_cuts = (
 
 -- ---- parts
 
+-- The text `a` doesn't end with a carriage return.
 no_return : (line : List ℕ) → codes "a" ≢ line ++ codes "\r"
 no_return [] is = let byte : 97 ≡ 13 = ap byte_of is in omega (arith, byte)
 no_return (b ∷ line) is = omega (arith, simp length-append at (ap length is))
 
+-- A part ends before a line feed, and before the carriage return in front of it.
 parts_of_lines : IsPart [] [] × IsPart (codes "a\r\n") (codes "a") × IsPart (codes "a\n") (codes "a")
 parts_of_lines = (no_line, with_return (codes "a"), without_return (codes "a") no_return)
 
--- the carriage return isn't the part's
+-- The carriage return before a line feed isn't the part's.
 whole_line_end : (before part : List ℕ) → IsPart before part → before ≡ codes "a\r\n" → part ≢ codes "a\r"
 whole_line_end before part no_line is same = omega (arith, ap length is)
 whole_line_end before part (with_return _) is same = omega (arith, simp length-append at (ap length is), ap length same)
@@ -84,16 +92,19 @@ whole_line_end before part (without_return _ none) is same = none (codes "a") sa
 
 -- ---- bodies
 
+-- A body is cut at a delimiter that it begins with.
 at_start : (rest : List ℕ) → IsCut mark (mark ++ rest) [] rest
 at_start rest = record { whole = refl; line = line_ends.0; first = λ earlier later ends is. omega arith }
 
+-- A delimiter that a line feed follows doesn't close a body.
 open_line : (text : List ℕ) → ¬ (Closes (10 ∷ text))
 open_line text closes = let byte : 10 ≡ 45 = ap byte_of closes.1 in omega (arith, byte)
 
+-- The text `a` has no delimiter.
 none_in_a : HasNoDelimiter mark (codes "a")
 none_in_a before after ends is = omega (arith, simp length-append at (ap length is))
 
--- one with a part, one that is cut off in its part, and one without a delimiter
+-- A body that a delimiter closes is whole, and has a part.
 whole_body : IsBody mark (codes "--x\na\n--x--") (codes "a" ∷ []) true
 whole_body =
     after_preamble _ [] (codes "\na\n--x--") (codes "a" ∷ []) true (at_start (codes "\na\n--x--"))
@@ -110,20 +121,22 @@ whole_body =
     })
     (closed (codes "--") ([], refl)))
 
+-- A body that is cut off in its part has none, and isn't whole.
 cut_off_body : IsBody mark (codes "--x\na") [] false
 cut_off_body =
     after_preamble _ [] (codes "\na") [] false (at_start (codes "\na"))
     (cut_off (codes "\na") (record { is_open = open_line (codes "a"); alone = inr ([], codes "a", refl, refl, none_in_a) }))
 
+-- A body without a delimiter has no part, and isn't whole.
 body_without_delimiter : IsBody mark (codes "a") [] false
 body_without_delimiter = no_delimiter (codes "a") none_in_a
 
--- what follows a delimiter at the start of a body
+-- What follows a delimiter at the start of a body is known.
 after_start : (body before after rest : List ℕ) → body ≡ mark ++ rest → IsCut mark body before after → after ≡ rest
 after_start body [] after rest is cut = ap (drop 3) (sym cut.whole ∙ is)
 after_start body (b ∷ before) after rest is cut = absurd (omega (arith, cut.first [] rest line_ends.0 is))
 
--- `--x--` is whole and has no part,
+-- The body `--x--` is whole, and has no part.
 closed_at_once : (parts : List (List ℕ)) (is_whole : Bool) → IsBody mark (codes "--x--") parts is_whole → (parts ≡ []) × (is_whole ≡ true)
 closed_at_once parts is_whole (no_delimiter _ none) = absurd (none [] (codes "--") line_ends.0 refl)
 closed_at_once parts is_whole (after_preamble _ before after _ _ cut (closed _ closes)) = (refl, refl)
@@ -132,7 +145,7 @@ closed_at_once parts is_whole (after_preamble _ before after _ _ cut (cut_off _ 
 closed_at_once parts is_whole (after_preamble _ before after _ _ cut (a_part _ part _ more _ next are)) =
     absurd (next.is_open ([], after_start _ before after (codes "--") refl cut))
 
--- and `--x` with a line after it isn't, and has none
+-- The body `--x` with a line after it isn't whole, and has no part.
 cut_off_at_once : (parts : List (List ℕ)) (is_whole : Bool) → IsBody mark (codes "--x\na") parts is_whole
     → (parts ≡ []) × (is_whole ≡ false)
 cut_off_at_once parts is_whole (no_delimiter _ none) = absurd (none [] (codes "\na") line_ends.0 refl)
@@ -146,7 +159,7 @@ cut_off_at_once parts is_whole (after_preamble _ before after _ _ cut (a_part _ 
 
 -- ---- fields
 
--- a name in any case, and a value between white space
+-- A field's name is found in any case, and its value lies between white space.
 field : IsField (codes "a") (codes "A: b ") (codes "b")
 field = record {
   written = codes "A";
@@ -163,32 +176,36 @@ field = record {
   );
 }
 
--- a name that goes on is another, and a line without a colon is no field
+-- A name that goes on is another.
 longer_name : (written rest : List ℕ) → codes "ab:c" ≡ written ++ (codes ":" ++ rest) → length written ≢ 1
 longer_name [] rest is one = omega (arith, one)
 longer_name (b ∷ []) rest is one = let byte : 98 ≡ 58 = ap (λ it. byte_of (drop 1 it)) is in omega (arith, byte)
 longer_name (b ∷ c ∷ written) rest is one = omega (arith, one)
 
+-- A line with a longer name isn't the field.
 no_field : (value : List ℕ) → ¬ (IsField (codes "a") (codes "ab:c") value)
 no_field value is = longer_name is.written is.rest is.spelled (sym (length-lowered is.written) ∙ ap length is.named)
 
+-- A line without a colon is no field.
 no_colon : (written rest : List ℕ) → codes "c" ≢ written ++ (codes ":" ++ rest)
 no_colon [] rest is = let byte : 99 ≡ 58 = ap byte_of is in omega (arith, byte)
 no_colon (b ∷ written) rest is = omega (arith, simp length-append at (ap length is))
 
--- the first field of a header, and none after it
+-- The first field of a header is found.
 first_field : IsFirstField (codes "a") (codes "c\nA: b \na:d\n") (Some (codes "b"))
 first_field =
     after_line (codes "c") (codes "A: b \na:d\n") (Some (codes "b")) refl (λ value is. no_colon is.written is.rest is.spelled)
     (λ is. ⊎_elim (λ none. omega (arith, ap length none)) (λ same. let byte : 99 ≡ 13 = ap byte_of same in omega (arith, byte)) is)
     (in_line (codes "A: b ") (codes "a:d\n") (codes "b") refl field)
 
+-- The first line of a text that begins with a line feed is empty.
 begins_with_feed : (line more : List ℕ) → IsLine line → line ++ (10 ∷ more) ≡ codes "\nA: b\n" → line ≡ []
 begins_with_feed [] more is same = refl
 begins_with_feed (b ∷ line) more is same =
     let feed : b ≡ 10 = ap byte_of same in
     let isnt : list_all (λ b. not (b == 10)) (b ∷ line) ≡ false = rw feed refl in absurd (true≢false (sym is ∙ isnt))
 
+-- No field is found after the empty line that ends a header.
 none_after_header : (text : List ℕ) (found : Option (List ℕ)) → IsFirstField (codes "a") text found → text ≡ codes "\nA: b\n" → found ≡ None
 none_after_header text found (in_line line more value is_line is) same =
     absurd (omega (arith, simp length-append at (ap length (sym (begins_with_feed line more is_line same) ∙ is.spelled))))

@@ -1,5 +1,5 @@
 -- Values of Content-Disposition for which the words of the recipe hold, and others for which they don't.
-use Rattle.std.proofs.Common.{◌≡◌, ◌∙◌, ◌++◌, ◌∷◌, [], ℕ, List, Option, Some, None, false, length, length-append, refl, sym, ap, arith, codes}
+use Rattle.std.proofs.Common.{◌≡◌, ◌∙◌, ◌++◌, ◌∷◌, [], ℕ, List, Option, Some, None, false, length, map, length-append, refl, sym, ap, arith, codes}
 use Rattle.std.specs.Option.{option_map}
 use Rattle.std.specs.Str.{IsUtf8}
 use Rattle.std.proofs.lemmas.Option.{same_Some, none-some}
@@ -7,14 +7,19 @@ use Rattle.mime.specs.Bytes.{is_token_byte, is_quoted_byte}
 use Rattle.mime.specs.Values.{MediaType}
 use Rattle.mime.proofs.HandedOut.{IsContent-taken, length-lowered}
 use Rattle.mime_http.specs.HttpMediaType.{HttpReads, with_token, with_string, no_more, semicolon_and}
-use Rattle.mime_http.specs.Unescaped.{unescaped}
-use Rattle.mime_examples.specs.Disposition.{FirstMeans, IsDisposition}
+use Rattle.mime_examples.specs.Disposition.{FirstMeans, IsDisposition, unescaped_name}
 
--- a name with a quote in it, and a file's name
+-- A backslash before a quote or a backslash escapes it, and before another byte, or at the end, it stands for itself.
+names_meant :
+    map unescaped_name (codes "a\\\"b\\\\c" ∷ codes "C:\\tmp\\x.c" ∷ codes "\\\\\\x\\" ∷ [])
+    ≡ codes "a\"b\\c" ∷ codes "C:\\tmp\\x.c" ∷ codes "\\\\x\\" ∷ []
+names_meant = refl
+
+-- These are a field's name with a quote in it, and a file's name.
 abbrev pairs : List (List ℕ × List ℕ)
 pairs = (codes "name", codes "a\\\"b") ∷ (codes "filename", codes "c") ∷ []
 
--- what parameters mean, by their names in any case, and that there is none
+-- A parameter is found by its name in any case, and none by another name.
 meanings :
     FirstMeans pairs (codes "name") (Some (codes "a\"b")) × FirstMeans pairs (codes "FILENAME") (Some (codes "c"))
     × FirstMeans pairs (codes "nam") None
@@ -31,20 +36,22 @@ meanings = (
   ),
 )
 
--- of what is there, not that there is none, and not with its backslash
+-- The name is found, and means this.
 meant : (meaning : Option (List ℕ)) → FirstMeans pairs (codes "name") meaning → Some (codes "a\"b") ≡ meaning
-meant meaning is = sym (ap (option_map (λ value. unescaped value.0)) (is.1.0 refl)) ∙ is.2
+meant meaning is = sym (ap (option_map (λ value. unescaped_name value.0)) (is.1.0 refl)) ∙ is.2
 
+-- The name isn't missing, and doesn't mean its backslash.
 no_other_meaning : ¬ (FirstMeans pairs (codes "name") None) × ¬ (FirstMeans pairs (codes "name") (Some (codes "a\\\"b")))
 no_other_meaning = (
   (λ is. none-some _ (sym (meant None is))),
   λ is. omega (arith, ap length (same_Some _ _ (meant (Some (codes "a\\\"b")) is))),
 )
 
--- a disposition with both
+-- This is a disposition with both names.
 media : MediaType
 media = record { essence = codes "x/form-data"; slash = 1; plus = None; pairs = pairs; kept = [] }
 
+-- HTTP reads the text as this disposition.
 read : HttpReads (codes "x/form-data; name=\"a\\\"b\";FileName=c") media
 unfolding media is_token_byte is_quoted_byte
 read = record {
@@ -68,6 +75,7 @@ read = record {
   plus = refl;
 }
 
+-- The text is a form's disposition, with what both names mean.
 disposition : IsUtf8 (codes "x/form-data; name=\"a\\\"b\";FileName=c")
     → IsDisposition (codes "form-data; name=\"a\\\"b\";FileName=c") (codes "a\"b") (Some (codes "c"))
 unfolding media
@@ -84,13 +92,14 @@ disposition utf8 = record {
   );
 }
 
--- another disposition is none of a form, and neither is what isn't UTF-8
+-- Another disposition isn't a form's.
 not_a_forms : (name : List ℕ) (file_name : Option (List ℕ)) → ¬ (IsDisposition (codes "file") name file_name)
 not_a_forms name file_name is =
     let said = simp (length-append, length-lowered) at (ap length (sym is.form_data ∙ is.read.essence)) in
     let spelled = simp length-append at (ap length is.read.spelled) in
     omega (arith, said, spelled)
 
+-- Bytes that aren't UTF-8 are no disposition.
 not_utf8 : ¬ (IsUtf8 (codes "x/" ++ (255 ∷ []))) → (name : List ℕ) (file_name : Option (List ℕ))
     → ¬ (IsDisposition (255 ∷ []) name file_name)
 not_utf8 isnt name file_name is = isnt is.utf8

@@ -8,7 +8,7 @@ use Rattle.mime.specs.Names.{NameIs}
 use Rattle.mime.specs.Items.{items_of, IsFirstAccepted}
 use Rattle.mime_http.specs.Written.{others}
 
--- what is found is the last pair, whether a pair before it is of another name and stays, or not
+-- The last pair is found after a pair of another name, which stays, and after one of its name, which goes.
 step : (name content n v : List ℕ) (found : Option (List ℕ × Bool)) (rest : List (List ℕ × List ℕ)) (keep : Bool)
     → not (bytes_eq (lowered n) (lowered name)) ≡ keep
     → (IsFirstAccepted (λ it flag. NameIs it flag name) (items_of (rest ++ ((name, content) ∷ []))) found
@@ -19,7 +19,7 @@ step name content n v found rest true is next first =
     next (first.1 (λ same. true≢false (sym is ∙ ap not ((bytes_eq-Decides (lowered n) (lowered name)).1 same))))
 step name content n v found rest false is next first = next first
 
--- among the pairs of other names and a last one, that one is found
+-- A last pair is found after pairs of other names.
 pub found_last : (name content : List ℕ) (pairs : List (List ℕ × List ℕ)) (found : Option (List ℕ × Bool))
     → IsFirstAccepted (λ it flag. NameIs it flag name) (items_of (others name pairs ++ ((name, content) ∷ []))) found
     → found ≡ Some (content, bytes_eq name (codes "charset"))

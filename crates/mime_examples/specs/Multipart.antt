@@ -1,5 +1,5 @@
--- The parts of a multipart body (RFC 2046, 5.1.1). A line ends with a line feed, with or without a carriage return before it. A delimiter is
--- two hyphens and the boundary at the start of a line, and what follows it in its line counts for nothing.
+-- The parts of a multipart body (RFC 2046, 5.1.1). A line ends with a line feed, with or without a carriage return before it. A delimiter
+-- is two hyphens and the boundary at the start of a line, and what follows it in its line counts for nothing.
 use Rattle.std.specs.Prelude.{◌≡◌, ◌≢◌, ◌⊎◌, ◌≤◌, ℕ, ◌-◌, Bool, true, false, List, [], ◌∷◌, ◌++◌, ◌==◌, Option, Some, None, IsTrue, not, codes, length, slice_get}
 use Rattle.std.specs.List.{list_all}
 use Rattle.std.specs.Str.{IsTrimAscii}

@@ -9,8 +9,8 @@ use mime_http::laws::one_http_reading;
 use mime_http::{FieldError, content_type};
 use std::alloc::Global;
 
-/// Returns the status for a `Content-Type` with this error: 400 if the value isn't a media type (RFC 9110, 15.5.1), and 503 if memory ran
-/// out (15.6.4).
+/// Returns the status for a `Content-Type` with this error: 400 if the value isn't a media type in valid UTF-8 (RFC 9110, 15.5.1), and 503
+/// if memory ran out (15.6.4).
 pub fn status_of(error: &FieldError) -> u16
     ensures malformed { (result ≡ 400) ↔ (error.now ≢ FieldError.NoMemory) }
     ensures memory { (result ≡ 503) ↔ (error.now ≡ FieldError.NoMemory) }
@@ -27,7 +27,7 @@ pub fn refusal(alloc: Global, value: &[u8]) -> Option<u16>
     // Only JSON is accepted.
     ensures taken { result ≡ None
         → (media : MediaType) × HttpReads value.now media × (media.essence ≡ codes "application/json") }
-    // A media type never has the status 400.
+    // A media type in valid UTF-8 never has the status 400.
     ensures malformed { result ≡ Some 400 → ¬ (IsUtf8 value.now × IsHttpMediaType value.now) }
     // Only a media type other than JSON has the status 415.
     ensures unsupported { result ≡ Some 415

@@ -13,7 +13,8 @@ pub fn refusal(alloc: Global, value: &[u8]) -> Option<u16> {
     }
 }
 
-/// Returns the offer to send for the lines of an `Accept` header, or 406 if no offer is acceptable, or 503 if memory runs out.
+/// Returns the offer to send for the lines of an `Accept` header, or 406 if no offer is acceptable, or 503 if memory runs out. Send
+/// `Vary: Accept` with an offer and with 406: caches need it.
 pub fn chosen<'o>(alloc: Global, lines: &[&[u8]], offers: &'o [Mime]) -> Result<&'o Mime, u16> {
     let accept = Accept::from_lines(alloc, lines).map_err(|_| 503_u16)?;
     let best = accept.best(offers).ok_or(406_u16)?;

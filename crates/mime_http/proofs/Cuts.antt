@@ -1,5 +1,5 @@
 -- Lines are cut in one way, and each line is; and how far a line's first piece goes.
-use Rattle.mime_http.proofs.Common.{drop_of_length-le, AreBetweenCommas, At, BeginsPiece, IsInString, IsPiece, List, OneCut, Outside, [], after, ap, append-nil, append_assoc, arith, nat_tests, comma, cond_both, cut, cut_from, ends, eqb-true, false, flat_map, line_end, no_line, opens_string, piece_byte, piece_end, piece_string, refl, string_byte, string_end, string_pair, subst, sym, true, ℕ, ⊤, ◌++◌, ◌==◌, ◌∙◌, ◌∷◌, ◌≡◌, Equals, Paired, before_mark, Bool, cond, cut_after, drop, drop-drop, drop_more, get_or, get_or-drop, is_mark, length, length-drop, min, not, prefix_len, prefix_len-le-length, suc, take, zero, ◌&&◌, ◌+◌, ◌-◌, ◌<◌, ◌≤◌, IsNextOutside, piece_len, passes_at_first, true≢false, cases_Bool, ⊎_elim, take-append-drop, take_all, cases_lt}
+use Rattle.mime_http.proofs.Common.{drop_of_length-le, AreBetweenCommas, At, BeginsPiece, IsInString, IsPiece, List, OneCut, Outside, [], after, ap, append-nil, append_assoc, arith, nat_tests, comma, cond_both, cut, cut_from, ends_piece, eqb-true, false, flat_map, line_end, no_line, opens_string, piece_byte, piece_end, piece_string, refl, string_byte, string_end, string_pair, subst, sym, true, ℕ, ⊤, ◌++◌, ◌==◌, ◌∙◌, ◌∷◌, ◌≡◌, Equals, Paired, before_mark, Bool, cond, cut_after, drop, drop-drop, drop_more, get_or, get_or-drop, is_mark, length, length-drop, min, not, prefix_len, prefix_len-le-length, suc, take, zero, ◌&&◌, ◌+◌, ◌-◌, ◌<◌, ◌≤◌, IsNextOutside, piece_len, passes_at_first, true≢false, cases_Bool, ⊎_elim, take-append-drop, take_all, cases_lt}
 use Rattle.mime_http.specs.LineCut.{Quoted}
 use Rattle.mime_search.{specs.Classes.is_stop, specs.Classes.end_of_run, specs.Quoted.awaits_next, specs.Quoted.len_from, specs.declared.class.Class.Class}
 
@@ -14,7 +14,7 @@ IsOutside place = ⊥
 -- from a place on, no byte ends a piece, and they lead to a place outside strings
 abbrev pub IsWhole : At → List ℕ → Type 0
 IsWhole place [] = IsOutside place
-IsWhole place (b ∷ bytes) = (ends place b ≡ false) × IsWhole (after place b) bytes
+IsWhole place (b ∷ bytes) = (ends_piece place b ≡ false) × IsWhole (after place b) bytes
 
 -- another byte than an equals sign opens no string
 pub opens_none : (b : ℕ) (bytes : List ℕ) → (b == 61) ≡ false → opens_string (b ∷ bytes) ≡ false
@@ -61,7 +61,7 @@ byte_before b bytes on = cond_both (b == 61) _ _ (λ place. Continues place byte
     (λ equals. subst (λ c. IsPiece (c ∷ bytes)) (sym (eqb-true b 61 equals))) (λ other. piece_byte b bytes on (opens_none b bytes other))
 
 -- and so may the byte at each place
-further : (place : At) (b : ℕ) (bytes : List ℕ) → ends place b ≡ false → Continues (after place b) bytes → Continues place (b ∷ bytes)
+further : (place : At) (b : ℕ) (bytes : List ℕ) → ends_piece place b ≡ false → Continues (after place b) bytes → Continues place (b ∷ bytes)
 further Outside b bytes on = byte_before b bytes on
 further Equals b bytes on = cond_both (b == 34) _ _ (λ place. Continues place bytes → IsPiece (61 ∷ b ∷ bytes))
     (λ quote. subst (λ c. IsPiece (61 ∷ c ∷ bytes)) (sym (eqb-true b 34 quote)))
@@ -230,10 +230,11 @@ ended Quoted = (34 ∷ [], (refl, tt))
 ended Paired = (0 ∷ 34 ∷ [], (refl, (refl, tt)))
 
 -- also after bytes that have no such comma
-goes_on : (place : At) (bytes : List ℕ) → length bytes ≤ piece_len place bytes → (more : List ℕ) × IsWhole place (bytes ++ more)
-goes_on place [] past = ended place
-goes_on place (b ∷ bytes) past = ⊎_elim (λ (end : ends place b ≡ true). absurd (grind (arith, past, end))) (λ (on : ends place b ≡ false).
-    let rest = goes_on (after place b) bytes (grind (arith, past, on)) in (rest.0, (on, rest.1))) (cases_Bool (ends place b))
+more_to_whole : (place : At) (bytes : List ℕ) → length bytes ≤ piece_len place bytes → (more : List ℕ) × IsWhole place (bytes ++ more)
+more_to_whole place [] past = ended place
+more_to_whole place (b ∷ bytes) past = ⊎_elim (λ (end : ends_piece place b ≡ true). absurd (grind (arith, past, end)))
+    (λ (on : ends_piece place b ≡ false).
+    let rest = more_to_whole (after place b) bytes (grind (arith, past, on)) in (rest.0, (on, rest.1))) (cases_Bool (ends_piece place b))
 
 module _ (line : List ℕ) {end : ℕ} (is : end ≡ piece_len Outside line) where
   pub first_entry : end < length line → (line ≡ take end line ++ (44 ∷ drop (end + 1) line)) × IsPiece (take end line)
@@ -244,7 +245,7 @@ module _ (line : List ℕ) {end : ℕ} (is : end ≡ piece_len Outside line) whe
       )
 
   pub last_entry : length line ≤ end → BeginsPiece line
-  last_entry past = let more = goes_on Outside line (omega (arith, is, past)) in (more.0, is_piece Outside _ more.1)
+  last_entry past = let more = more_to_whole Outside line (omega (arith, is, past)) in (more.0, is_piece Outside _ more.1)
 
 -- ---- each line has a cut
 

@@ -8,8 +8,8 @@ pub use Rattle.mime_http.proofs.Cuts.{one_cut, only_cut, mark_found}
 pub use Rattle.mime_http.specs.LineCut.{is_mark}
 -- The laws of a header's value: it is one media type, of which one text is printed, which is read as it, also what is written anew.
 pub use Rattle.mime_http.proofs.HttpLaws.{one_printed_text, printed_is_read, same_anew, written_reads}
--- Lists as HTTP writes them are read as their elements, and what is read with nothing bad are such lists.
-pub use Rattle.mime_http.proofs.Lists.{one_header, http_is_not_blank}
+-- A text is a media type or isn't, and so each line has one header, with one first bad entry if an entry is bad.
+pub use Rattle.mime_http.proofs.Lists.{utf8_or_not, read_or_not, header_of, one_header, one_first_bad, http_is_not_blank}
 -- The offers that weigh more than 0, sorted, are in order.
 pub use Rattle.mime_http.proofs.Order.{weighs_within}
 -- What the library reads is what HTTP writes there.

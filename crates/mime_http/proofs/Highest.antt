@@ -1,5 +1,5 @@
 -- The highest of ranks: which one a fold keeps, as the closest range's, and where it stands first, as the best offer's.
-use Rattle.mime_http.proofs.Common.{All, All-contains, AllPass-from_list_all, list_any, list_any_at, cases_Bool, suc, Bool, ClosestIsClosest, Contains, Contains-append_right, Equal, IsTotalOrder, List, MediaType, None, Option, Ordering, Rank, Some, [], and_from, ap, arith, by_option, cases_lt, closeness, closest, enumerate_from, false, filter_map, find, fold, get_or, get_or-map, get_or_default, get_or_past, inl, inr, is_gt, is_le, is_lt, length, length-map, list_all, list_all-from_AllPass, map, nat_cmp_total, nat_lt, nat_tests, on_total, option_cmp, ord_max, position, position_or_len, position_or_len_is, rank_cmp, refl, same_Some, subst, sym, then_total, true, true≢false, ℕ, ⊎_elim, ◌&&◌, ◌+◌, ◌<◌, ◌∙◌, ◌∷◌, ◌≡◌, ◌≤◌, ◌⊎◌}
+use Rattle.mime_http.proofs.Common.{All, All-contains, AllPass-from_list_all, list_any, list_any_at, cases_Bool, suc, Bool, ClosestIsClosest, Contains, Contains-append_right, Equal, IsTotalOrder, List, MediaType, None, Option, Ordering, Rank, Some, [], and_from, ap, arith, by_option, cases_lt, closeness, closest, enumerate_from, false, filter_map, find, fold, get_or, get_or-map, get_or_default, get_or_past, inl, inr, is_gt, is_le, is_lt, length, length-map, list_all, list_all-from_AllPass, map, nat_cmp_total, nat_lt, nat_tests, none-some, on_total, option_cmp, ord_max, position, position_or_len, position_or_len_is, rank_cmp, refl, same_Some, subst, sym, then_total, true, true≢false, zero, ℕ, ⊎_elim, ◌&&◌, ◌+◌, ◌<◌, ◌∙◌, ◌∷◌, ◌≡◌, ◌≤◌, ◌⊎◌}
 use Rattle.std.{proofs.lemmas.Cmp.upto, proofs.lemmas.List.Elements.All-cons, proofs.lemmas.List.Elements.All-nil, proofs.lemmas.List.Folds.list_all_at, proofs.lemmas.Bool.and_right, proofs.lemmas.Bool.and_left, proofs.lemmas.Bool.cases_cond, specs.Cmp.Lexicographic.options_total}
 use borrow.Author.Count.{below_more}
 
@@ -190,3 +190,35 @@ best_is_found {all} {at} {most} {best} is past =
     let found = position_or_len_is (is_best all) all (length all) lowest (omega arith)
     (λ j less. light j (grind (arith, nat_tests, is.above j (omega (arith, past, less)), none))) (λ less. absurd (omega (arith, less))) in
     grind (arith, nat_tests, found, is.none (omega (arith, none)))) (cases_lt 0 most.0)
+
+-- ---- no best offer
+
+-- the ranks before a position have a highest
+abbrev HasHighest : List Rank → ℕ → Type 0
+HasHighest ranks at = (most : Rank) × (best : Option ℕ) × IsHighest ranks at most best
+
+-- The ranks before each position have a highest.
+highest_of : (ranks : List Rank) (at : ℕ) → HasHighest ranks at
+highest_of ranks zero = (
+  lowest,
+  None,
+  record { above = λ j less. absurd (omega (arith, less)); first = λ some. absurd (omega (arith, some)); none = λ _. refl },
+)
+highest_of ranks (suc at) =
+    let (most, best, was) = highest_of ranks at in
+    let x = rank_at ranks at in
+    let raised_or_not : HasHighest ranks (at + 1) =
+    ⊎_elim (λ heavy. ⊎_elim (λ higher. (x, Some at, highest_raised x was refl heavy higher))
+    (λ low. (most, best, highest_stays x was refl (λ _. low))) (cases_Bool (beats x most)))
+    (λ light. (most, best, highest_stays x was refl (λ heavy. absurd (omega (arith, heavy, light))))) (cases_lt 0 x.0) in
+    subst (HasHighest ranks) (omega arith) raised_or_not
+
+-- Each rank weighs 0 if none is the best.
+pub all_weigh_0 : (all : List Rank) → position (is_best all) all ≡ None → (at : ℕ) → (rank_at all at).0 ≡ 0
+all_weigh_0 all none at =
+    let (most, best, is) = highest_of all (length all) in
+    let same = best_is_found is (omega arith) in
+    let light : most.0 ≡ 0 = ⊎_elim (λ some. let found = is.first some in absurd (none-some found.0 (sym none ∙ (same ∙ found.1))))
+    (λ zero. omega (arith, zero)) (cases_lt 0 most.0) in
+    ⊎_elim (λ within. grind (arith, nat_tests, light, is.above at within)) (λ past. grind (arith, get_or_past all at lowest, past))
+    (cases_lt at (length all))

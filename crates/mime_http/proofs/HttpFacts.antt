@@ -1,8 +1,9 @@
 -- Worked facts of the pages `HttpMediaType`, `HttpFaults` and `HttpList`, and of `Unescaped`, `Written` and `Boundary`: values that are
 -- media types, values that aren't, their faults, and what is printed of a value.
-use Rattle.mime_http.proofs.Common.{Parameter, SyntaxTree, IsUtf8-nil, HttpExplains, HttpReads, InvalidToken, IsBoundary, IsBoundaryOf, IsContent-taken, IsHttpFault, IsHttpMediaType, IsPrinted, List, MediaType, MissingQuote, MissingSubtype, MissingValue, NeedsMemory, None, Parts, [], anew, ap, arith, as_it_stands, bytes_eq, bytes_eq-Decides, codes, escaped, false, final, is_quoted_byte, is_token_byte, is_token_value, length, listed, others, quoted, refl, same_Some, stopped-from_walk, sym, text_of_pair, text_of_pairs, trimmed, true, true≢false, unescaped, with_pair, with_pairs, ℕ, ◌++◌, ◌∙◌, ◌∷◌, ◌≡◌, ◌≢◌}
-use Rattle.mime_http.specs.declared.value.FieldError.TheVariants.{Invalid, NoMemory as OutOfMemory}
-use Rattle.mime_http.proofs.{Around.white_more, Around.put_ascii, HttpLaws.one_printed_text, HttpLaws.short_needs_none, HttpLaws.anew_needs, HttpLaws.printed_anew as anew_printed, ReadBack.answered_is_http, ReadFaults.answered_fault, ReadFaults.fault_answered, ReadFaults.rejected_is_none as none}
+use Rattle.mime_http.proofs.Common.{Parameter, SyntaxTree, IsUtf8-nil, HttpExplains, HttpReads, InvalidToken, IsBoundary, IsBoundaryOf, IsContent-taken, IsHttpFault, IsHttpMediaType, IsPrinted, List, MediaType, media_of, MissingQuote, MissingSubtype, MissingValue, NeedsMemory, None, Parts, [], anew, ap, arith, as_it_stands, bytes_eq, bytes_eq-Decides, codes, escaped, false, final, is_quoted_byte, is_token_byte, is_token_value, length, listed, others, quoted, refl, same_Some, stopped-from_walk, sym, text_of_pair, text_of_pairs, trimmed, true, true≢false, unescaped, with_pair, with_pairs, ℕ, ◌++◌, ◌∙◌, ◌∷◌, ◌≡◌, ◌≢◌}
+use Rattle.mime_http.specs.declared.value.FieldError.TheVariants.{Invalid, NotUtf8, NoMemory as OutOfMemory}
+use Rattle.mime_http.specs.HttpFaults.{fault_position}
+use Rattle.mime_http.proofs.{Around.white_more, Around.put_ascii, HttpLaws.one_printed_text, HttpLaws.short_needs_none, HttpLaws.anew_needs, HttpLaws.anew_is, HttpLaws.written_reads, ReadBack.answered_is_http, ReadFaults.answered_fault, ReadFaults.fault_answered, ReadFaults.rejected_is_none as none}
 
 -- ` text/HTML ;; charset="UTF-8" `
 abbrev value : List ℕ
@@ -52,6 +53,11 @@ faults = (
   λ fault. absurd (cc (fault_answered (codes " text/") MissingQuote fault)),
 )
 
+-- A value fails at its fault, or at its end if something is missing or memory ran out.
+positions : (fault_position (codes "a b") (NotUtf8 1) ≡ 1) × (fault_position (codes "a b") (Invalid (InvalidToken 1 32)) ≡ 1)
+    × (fault_position (codes " text/") (Invalid MissingSubtype) ≡ 6) × (fault_position (codes "a/b") OutOfMemory ≡ 3)
+positions = (refl, refl, refl, refl)
+
 -- ---- what is printed
 
 -- of a value that is printed with one text no other is printed
@@ -100,10 +106,12 @@ memory : NeedsMemory (lettered (codes "abcdefghijklmnopqrstuvwxyzabcdefgh"))
     × ¬ (NeedsMemory (lettered (codes "abcdefghijklmnopqrstuvwxyzabcdefg"))) × ¬ (NeedsMemory (codes "a b"))
 unfolding is_token_byte is_quoted_byte
 memory =
-    let (reads, printed) = anew_printed (letter_parts (codes "abcdefghijklmnopqrstuvwxyzabcdefg")) refl refl
-    (stopped-from_walk (codes "a/b;;p=abcdefghijklmnopqrstuvwxyzabcdefg") refl) refl in (
-      anew_needs (letter_parts (codes "abcdefghijklmnopqrstuvwxyzabcdefgh")) refl refl
-          (stopped-from_walk (codes "a/b;;p=abcdefghijklmnopqrstuvwxyzabcdefgh") refl) (omega arith),
+    let value : List ℕ = lettered (codes "abcdefghijklmnopqrstuvwxyzabcdefg") in
+    let parts = letter_parts (codes "abcdefghijklmnopqrstuvwxyzabcdefg") in
+    let isnt = stopped-from_walk (codes "a/b;;p=abcdefghijklmnopqrstuvwxyzabcdefg") refl in
+    let (reads, printed) = anew_is {value = value} parts isnt refl refl (media_of parts) (written_reads value parts refl) in (
+      anew_needs (letter_parts (codes "abcdefghijklmnopqrstuvwxyzabcdefgh"))
+          (stopped-from_walk (codes "a/b;;p=abcdefghijklmnopqrstuvwxyzabcdefgh") refl) refl refl (omega arith),
       short_needs_none _ _ reads printed (omega arith),
       λ needs. none (codes "a b") _ refl (needs.media, needs.is),
     )

@@ -6,27 +6,27 @@ use Rattle.mime_http.specs.declared.value.FieldError.TheVariants as field
 
 -- ---- what is written anew
 
--- what is found of the parts
+-- The parts that are read of a value are found in it.
 are_found : (value : List ℕ) (parts : Parts) → answer_of value ≡ read parts → AreFound value parts
 are_found value parts is = grind (arith, http_is_answered value (media_of parts) (answered_is_http value parts is))
 
--- What is written is read,
+-- What is written of the parts of a value is read as their media type.
 pub written_reads : (value : List ℕ) (parts : Parts) → answer_of value ≡ read parts → Reads (text_of_parts parts) (media_of parts)
 written_reads value parts is = grind (arith, are_found, parts_are_read)
 
--- is in UTF-8,
+-- What is written of the parts of a value in UTF-8 is in UTF-8.
 pub written_is_utf8 : (value : List ℕ) (parts : Parts) → IsUtf8 value → answer_of value ≡ read parts → IsUtf8 (text_of_parts parts)
 written_is_utf8 value parts utf8 is =
     let found = are_found value parts is in
     put_token parts.top _ found.is_top (put_one 47 _ (omega arith) (put_token parts.sub _ found.is_sub (found.utf8 utf8)))
 
--- and takes as many bytes as are kept.
+-- As many bytes are written of parts as are kept of their media type.
 pub written_length : (parts : Parts) → length (media_of parts).kept ≡ length (text_of_parts parts)
 written_length parts = grind (arith, lengths, length-pairs)
 
 -- ---- the laws
 
--- two media types of a value, written anew, are the same
+-- Two media types of a value, written anew, are the same.
 pub same_anew : (value : List ℕ) (first second : MediaType) → HttpReads value first → HttpReads value second
     → with_pairs first first.pairs ≡ with_pairs second second.pairs
 same_anew value first second one other =
@@ -34,13 +34,13 @@ same_anew value first second one other =
     let there = http_is_answered value second other in
     cc (here.1, there.1, here.2, there.2)
 
--- so a value is one media type,
+-- A value is one media type.
 pub one_http_reading : OneHttpReading
 one_http_reading value first second one other =
     let same = same_anew value first second one other in
     (ap (λ (media : MediaType). media.essence) same, ap (λ (media : MediaType). media.pairs) same)
 
--- and one text is printed of it,
+-- One text is printed of a value.
 pub one_printed_text : OnePrintedText
 one_printed_text value first second one (as_it_stands _ _ reads) other (as_it_stands _ _ again) =
     one_reading (trimmed value) first second reads again
@@ -49,7 +49,7 @@ one_printed_text value first second one (anew _ _ isnt is) other (as_it_stands _
 one_printed_text value first second one (anew _ _ isnt is) other (anew _ _ not same) =
     is ∙ same_anew value first second one other ∙ sym same
 
--- which the library reads as it, and so HTTP
+-- What is printed of a value is read as the same media type, by the library and as HTTP defines it.
 pub printed_is_read : PrintedIsRead
 printed_is_read value media is (as_it_stands _ _ reads) =
     let kept = kept_is_read (trimmed value) media reads in (kept, plain_is_http media.kept media kept)
@@ -58,89 +58,53 @@ printed_is_read value media is (anew _ _ isnt same) =
     let kept = kept_is_read (text_of_parts parts) media (grind (arith, media_is, same, written_reads value parts answered)) in
     (kept, plain_is_http media.kept media kept)
 
--- ---- what the library keeps
+-- ---- what is read of a value
 
--- in lowercase a list takes as many bytes
-length_list : (list : Parameters) → length (text_of_list (lowered_list list)) ≡ length (text_of_list list)
-length_list (blank n) = refl
-length_list (final n (plain name value)) = grind (arith, lengths)
-length_list (final n (quoted name content m)) = grind (arith, lengths)
-length_list (more n (plain name value) rest) = grind (arith, lengths, length_list rest)
-length_list (more n (quoted name content m) rest) = grind (arith, lengths, length_list rest)
-
--- what the library reads without the white space around it is read and printed as it stands,
+-- What the library reads without the white space around it is read and printed as it stands.
 pub stands : (value : List ℕ) (media : MediaType) → Reads (trimmed value) media → HttpReads value media × IsPrinted value media
 stands value media reads = (reads_around value media (plain_is_http (trimmed value) media reads), as_it_stands value media reads)
 
-module _ (value : List ℕ) (media : MediaType) (parts : Parts) (reads : Reads (trimmed value) media)
-    (answered : answer_of value ≡ read parts) where
-  -- and is written anew as the same, but for the kept text,
-  anew_is : media_of parts ≡ with_pairs media media.pairs
-  anew_is =
-      let found = http_is_answered value media (stands value media reads).0 in
-      subst (λ parts. media_of parts ≡ with_pairs media media.pairs) (cc (found.1, answered)) found.2
+-- A value that the library reads without the white space around it needs memory if more than 40 bytes of it are kept.
+pub stands_needs : (value : List ℕ) → Explains (trimmed value) NoMemory → NeedsMemory value
+stands_needs value (media, reads, long) =
+    let (is, printed) = stands value media reads in record { media = media; is = is; printed = printed; long = long }
 
-  -- which takes the bytes of the essence and of the pairs
-  length-anew : length (text_of_parts parts) ≡ length media.essence + length (text_of_pairs media.pairs)
-  length-anew = grind (arith, written_length parts, anew_is, length-append media.essence)
+module _ {value text : List ℕ} (parts : Parts) (isnt : ¬ (IsAccepted (trimmed value))) (answered : answer_of value ≡ read parts)
+    (same : text ≡ text_of_parts parts) where
+  -- What is written anew of a value that the library rejects is read as the value, which is printed so.
+  pub anew_is : (media : MediaType) → Reads text media → HttpReads value media × IsPrinted value media
+  anew_is media reads =
+      let is = one_reading (text_of_parts parts) media (media_of parts) (rw same at reads) (written_reads value parts answered) in
+      rw is (answered_is_http value parts answered, anew value (media_of parts) isnt refl)
 
-  -- If that is the essence alone, it is the same,
-  essence_alone : length (text_of_parts parts) ≤ length media.essence → media_of parts ≡ media
-  essence_alone all = grind (arith, nil_from_length, length-anew, pairs_within_text, anew_is, append-nil)
+  -- The value needs memory if that is long.
+  pub anew_needs : 40 < length text → NeedsMemory value
+  anew_needs long =
+      let (is, printed) = anew_is (media_of parts) (rw same (written_reads value parts answered)) in
+      record { media = media_of parts; is = is; printed = printed; long = omega (arith, long, ap length same, written_length parts) }
 
-  -- and if it is more, or is long, a long value is printed with many bytes.
-  many_kept : 40 < length (trimmed value) → (40 < length (text_of_parts parts)) ⊎ (length media.essence < length (text_of_parts parts))
-      → 40 < length media.kept
-  many_kept long either = grind (arith, length-anew, lengths, length_list, reads.valued, reads.spelled)
-
--- ---- what is read of it
-
-module _ {value bytes : List ℕ} (parts : Parts) (same : bytes ≡ value) (answered : answer_of bytes ≡ read parts) where
-  -- the value is answered as its bytes
-  here : answer_of value ≡ read parts
-  here = ap answer_of (sym same) ∙ answered
-
-  -- that is printed of a value that the library rejects without the white space around it
-  pub printed_anew : {media : MediaType} → ¬ (IsAccepted (trimmed value)) → media ≡ media_of parts
-      → HttpReads value media × IsPrinted value media
-  printed_anew isnt is = rw is (answered_is_http value parts here, anew value (media_of parts) isnt refl)
-
-  pub anew_needs : ¬ (IsAccepted (trimmed value)) → 40 < length (text_of_parts parts) → NeedsMemory value
-  anew_needs isnt long =
-      let (is, printed) = printed_anew {media = media_of parts} isnt refl in
-      record { media = media_of parts; is = is; printed = printed; long = omega (arith, long, written_length parts) }
-
-  -- and of one that it accepts what it keeps
-  pub stands_needs : IsAccepted (trimmed value) → 40 < length (trimmed value)
-      → (40 < length (text_of_parts parts)) ⊎ (length (media_of parts).essence < length (text_of_parts parts)) → NeedsMemory value
-  stands_needs (media, reads) long either =
-      let (is, printed) = stands value media reads in
-      let long : 40 < length media.kept = grind (arith, anew_is value media parts reads here, many_kept value media parts reads here) in
-      record { media = media; is = is; printed = printed; long = long }
-
-  pub stands_printed : {media : MediaType} → IsAccepted (trimmed value) → media ≡ media_of parts
-      → length (text_of_parts parts) ≤ length media.essence → HttpReads value media × IsPrinted value media
-  stands_printed {media} (found, reads) is few =
-      let essence = ap (λ (it : MediaType). length it.essence) (is ∙ anew_is value found parts reads here) in
-      rw (is, essence_alone value found parts reads here (omega (arith, few, essence))) (stands value found reads)
+  -- It does if reading what is written does.
+  pub reading_needs : Explains text NoMemory → NeedsMemory value
+  reading_needs (media, reads, long) =
+      let (is, printed) = anew_is media reads in record { media = media; is = is; printed = printed; long = long }
 
 -- ---- errors
 
--- Of a media type the error is want of memory,
+-- The error for a media type is that memory ran out.
 pub error_is_memory : (value : List ℕ) (error : FieldError) → IsUtf8 value → IsHttpMediaType value → HttpExplains value error
     → error ≡ field.NoMemory
 error_is_memory value (NotUtf8 pos) utf8 is why = absurd (why.0 utf8)
 error_is_memory value (Invalid fault) utf8 is why = absurd (no_fault value fault is why.1)
 error_is_memory value field.NoMemory utf8 is why = refl
 
--- which isn't needed if at most 40 bytes of it are printed,
+-- A media type of which at most 40 bytes are printed needs no memory.
 pub short_needs_none : (value : List ℕ) (media : MediaType) → HttpReads value media → IsPrinted value media → length media.kept ≤ 40
     → ¬ (NeedsMemory value)
 short_needs_none value media reads printed few needs =
     let same = one_printed_text value media needs.media reads printed needs.is needs.printed in
     absurd (omega (arith, few, needs.long, ap (λ (it : MediaType). length it.kept) same))
 
--- so then there is none.
+-- A media type of which at most 40 bytes are printed has no error.
 pub short_has_none : {T : Type 0} (value : List ℕ) (media : MediaType) → IsUtf8 value → HttpReads value media → IsPrinted value media
     → length media.kept ≤ 40 → (result : Result T FieldError) → IfErr result (HttpExplains value) → IsOk result
 short_has_none value media utf8 reads printed few (Ok mime) explained = refl
@@ -158,23 +122,8 @@ star_has_none {T} value is =
     let (reads, printed) = stands star _ (parts_are_read (record { top = codes "*"; sub = codes "*"; pairs = [] }) refl refl tt) in
     rw is (utf8, short_has_none star _ utf8 reads printed (omega arith))
 
--- a text that has a fault isn't accepted
+-- A text that has a fault isn't accepted.
 pub not_accepted : (text : List ℕ) (fault : ParseError) → fault ≢ NoMemory → Explains text fault → ¬ (IsAccepted text)
 not_accepted text NoMemory other why = absurd (other refl)
 not_accepted text (InvalidToken pos byte) other why = rejected-from_fault text (InvalidToken pos byte) why
 not_accepted text fault other why = rejected-from_fault text fault why
-
--- a value that `mime` didn't read is printed as it is written anew: or, if memory ran out, if that is its essence
-pub printed_other : {value bytes : List ℕ} {media : MediaType} (accepted : Bool) (parts : Parts) → bytes ≡ value
-    → answer_of bytes ≡ read parts → (IsTrue accepted → IsAccepted (trimmed value) × (40 < length (trimmed value)))
-    → (IsFalse accepted → ¬ (IsAccepted (trimmed value))) → media ≡ media_of parts
-    → (IsTrue accepted → length (text_of_parts parts) ≤ length media.essence) → HttpReads value media × IsPrinted value media
-printed_other true parts same answered kept isnt is few = stands_printed parts same answered (kept refl).0 is (few refl)
-printed_other false parts same answered kept isnt is few = printed_anew parts same answered (isnt refl) is
-
--- and needs memory if that is long
-pub other_needs : {value bytes : List ℕ} (accepted : Bool) (parts : Parts) → bytes ≡ value → answer_of bytes ≡ read parts
-    → (IsTrue accepted → IsAccepted (trimmed value) × (40 < length (trimmed value))) → (IsFalse accepted → ¬ (IsAccepted (trimmed value)))
-    → 40 < length (text_of_parts parts) → NeedsMemory value
-other_needs true parts same answered kept isnt long = stands_needs parts same answered (kept refl).0 (kept refl).1 (inl long)
-other_needs false parts same answered kept isnt long = anew_needs parts same answered (isnt refl) long

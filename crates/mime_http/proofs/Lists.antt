@@ -1,6 +1,8 @@
 -- Lists as HTTP writes them are read as their elements, and what is read with nothing bad are such lists.
-use Rattle.mime_http.proofs.Common.{At, Outside, State, Parts, MatchOption, MatchOption-at_some, MissingSlash, by_option, next, ends, after, answer_of, answer_from, answer_at_end, read, before_type, in_subtype, in_value, in_string, is_quoted_byte, ◌+◌, AreBetweenCommas, AreElements, AreSame, AreSorted, AreSpaces, BadIsAlone, BeginsPiece, HttpListsAreRead, HttpReads, IsAccepted, IsHttpMediaType, IsPiece, IsPrinted, List, MediaType, OneHeader, ReadAreHttpLists, [], a_bad, a_range, accepted_or_rejected, and_parts, anew, ap, append-nil, arith, as_it_stands, comma, element, false, is_space, is_token_byte, line_end, nat_tests, no_line, no_text, nothing, piece_byte, piece_end, refl, sym, trimmed, with_pairs, without_kept, ℕ, ⊎_elim, ⊤, ◌++◌, ◌∙◌, ◌∷◌, ◌≡◌, Equals, Paired, awaits_after, awaits_after-append, cases_Bool, if◌then◌else◌}
-use Rattle.mime_http.{specs.HttpList.blank, specs.LineCut.Quoted, proofs.Around.reads_around, proofs.Around.white_more, proofs.HttpLaws.one_printed_text, proofs.HttpLaws.same_anew, proofs.PlainIsHttp.plain_is_http, proofs.Takes.sorted_both, proofs.Cuts.IsOutside, proofs.Cuts.IsWhole, proofs.Cuts.is_piece, proofs.Cuts.only_cut, proofs.Cuts.opens_none, proofs.ReadFaults.rejected_is_none, proofs.ReadForth.http_is_answered, proofs.Runs.keeps_before, proofs.Runs.over_white}
+use Rattle.std.specs.Str.{is_utf8}
+use Rattle.std.proofs.lemmas.Str.{IsUtf8-from_is_utf8, is_utf8-from_IsUtf8}
+use Rattle.mime_http.proofs.Common.{Answer, FirstBad, Header, IsHeader, IsUtf8, OneFirstBad, after_blank, after_range, arith, bad_here, inl, inr, length, lines_or_any, list_all, media_of, rejected, suc, true≢false, ◌⊎◌, ◌≢◌, At, Outside, State, Parts, MatchOption, MatchOption-at_some, MissingSlash, by_option, next, ends_piece, after, answer_of, answer_from, answer_at_end, read, before_type, in_subtype, in_value, in_string, is_quoted_byte, ◌+◌, AreBetweenCommas, AreElements, AreSame, AreSorted, AreSpaces, BadIsAlone, BeginsPiece, HttpListsAreRead, HttpReads, IsAccepted, IsHttpMediaType, IsPiece, IsPrinted, List, MediaType, OneHeader, ReadAreHttpLists, [], a_bad, a_range, accepted_or_rejected, and_parts, anew, ap, append-nil, arith, as_it_stands, comma, element, false, is_space, is_token_byte, line_end, nat_tests, no_line, no_text, nothing, piece_byte, piece_end, refl, sym, trimmed, with_pairs, without_kept, ℕ, ⊎_elim, ⊤, ◌++◌, ◌∙◌, ◌∷◌, ◌≡◌, Equals, Paired, awaits_after, awaits_after-append, cases_Bool, if◌then◌else◌}
+use Rattle.mime_http.{specs.HttpList.blank, specs.LineCut.Quoted, proofs.Around.reads_around, proofs.Around.white_more, proofs.HttpLaws.one_printed_text, proofs.HttpLaws.same_anew, proofs.PlainIsHttp.plain_is_http, proofs.Takes.sorted_both, proofs.Cuts.IsOutside, proofs.Cuts.IsWhole, proofs.Cuts.is_piece, proofs.Cuts.one_cut, proofs.Cuts.only_cut, proofs.Cuts.opens_none, proofs.ReadBack.answered_is_http, proofs.ReadFaults.rejected_is_none, proofs.ReadForth.http_is_answered, proofs.Runs.keeps_before, proofs.Runs.over_white}
 use Rattle.mime_http.specs.ListLaws.{no_text as no_element}
 
 -- ---- what HTTP writes has no comma outside strings
@@ -13,7 +15,7 @@ place_of state = Outside
 
 -- a byte that reading goes on with ends no piece, and leads to the place of the next state
 follows : (state : State) (b : ℕ)
-    → MatchOption (next state b) ⊤ (λ next. (ends (place_of state) b ≡ false) × (after (place_of state) b ≡ place_of next))
+    → MatchOption (next state b) ⊤ (λ next. (ends_piece (place_of state) b ≡ false) × (after (place_of state) b ≡ place_of next))
 unfolding is_token_byte is_quoted_byte
 follows (in_subtype top []) b = grind (arith, nat_tests)
 follows (in_subtype top (s ∷ sub)) b = grind (arith, nat_tests)
@@ -33,7 +35,7 @@ whole_from [] state at parts is = ended state is
     ended (in_string _ name content) is = absurd cc
     ended state is = tt
 whole_from (b ∷ bytes) state at parts is = by_option (next state b) (λ stops. absurd (cc (rw stops at is))) (λ next goes.
-    let Leads = λ (next : State). (ends (place_of state) b ≡ false) × (after (place_of state) b ≡ place_of next) in
+    let Leads = λ (next : State). (ends_piece (place_of state) b ≡ false) × (after (place_of state) b ≡ place_of next) in
     let it = MatchOption-at_some ⊤ Leads next goes (follows state b) in
     (it.0, rw it.1 (whole_from bytes next (at + 1) parts (rw goes at is))))
 
@@ -145,6 +147,99 @@ pub one_header : OneHeader
 one_header lines header other first second =
     let is = one_sorting (rw (only_cut first.cut, sym (only_cut second.cut)) at first.sorted) second.sorted in
     λ i. record { ranges = is.0 i; bad = is.1 i }
+
+-- ---- each line has a header
+
+-- A text is UTF-8 or isn't.
+pub utf8_or_not : (text : List ℕ) → IsUtf8 text ⊎ ¬ (IsUtf8 text)
+utf8_or_not text =
+    ⊎_elim (λ is. inl (IsUtf8-from_is_utf8 text is)) (λ isnt. inr (λ utf8. true≢false (sym (is_utf8-from_IsUtf8 text utf8) ∙ isnt)))
+    (cases_Bool (is_utf8 text))
+
+-- A value is a media type as HTTP writes it, and is printed in some way, or it isn't one.
+pub read_or_not : (value : List ℕ) → ((media : MediaType) × HttpReads value media × IsPrinted value media) ⊎ ¬ (IsHttpMediaType value)
+read_or_not value = by_answer (answer_of value) refl
+  where
+    by_answer : (answer : Answer) → answer_of value ≡ answer
+        → ((media : MediaType) × HttpReads value media × IsPrinted value media) ⊎ ¬ (IsHttpMediaType value)
+    by_answer (read parts) is = let it = printed value (media_of parts) (answered_is_http value parts is) in inl (it.0, it.1, it.2)
+    by_answer (rejected fault) is = inr (rejected_is_none value fault is)
+
+-- what texts are sorted as
+abbrev Sorting : List (List ℕ) → Type 0
+Sorting texts = (ranges : List MediaType) × (bad : List (List ℕ)) × AreSorted texts ranges bad
+
+module _ (text : List ℕ) {texts : List (List ℕ)} (rest : Sorting texts) (some : ¬ (AreSpaces text)) where
+  -- A text that is no media type, nor only white space, is sorted as bad.
+  with_bad_text : ¬ (IsUtf8 text × IsHttpMediaType text) → Sorting (text ∷ texts)
+  with_bad_text isnt = (rest.0, trimmed text ∷ rest.1, a_bad text texts rest.0 rest.1 some isnt rest.2)
+
+  -- A text that isn't only white space is sorted as a range or as bad.
+  with_text : Sorting (text ∷ texts)
+  with_text = ⊎_elim (λ utf8.
+      ⊎_elim (λ is. (is.0 ∷ rest.0, rest.1, a_range text is.0 texts rest.0 rest.1 utf8 is.1 is.2 rest.2))
+      (λ isnt. with_bad_text (λ both. isnt both.1)) (read_or_not text)) (λ isnt. with_bad_text (λ both. isnt both.0)) (utf8_or_not text)
+
+-- Texts are sorted in some way.
+sorting : (texts : List (List ℕ)) → Sorting texts
+sorting [] = ([], [], no_text)
+sorting (text ∷ texts) =
+    let rest = sorting texts in
+    ⊎_elim (λ white. (rest.0, rest.1, blank text texts rest.0 rest.1 white rest.2))
+    (λ some. with_text text rest (λ white. true≢false (sym white ∙ some))) (cases_Bool (list_all is_space text))
+
+-- Lines have a header.
+pub header_of : (lines : List (List ℕ)) → (header : Header) × IsHeader lines header
+header_of lines =
+    let cut = one_cut (lines_or_any lines) in
+    let sorted = sorting cut.0 in
+    (record { ranges = sorted.0; bad = sorted.1 }, record { pieces = cut.0; cut = cut.1; sorted = sorted.2 })
+
+-- ---- the first bad entry
+
+-- Texts have at most one first bad text.
+one_first : {texts : List (List ℕ)} {at other : ℕ} → FirstBad texts at → FirstBad texts other → other ≡ at
+one_first (bad_here _ _ _ _) (bad_here _ _ _ _) = refl
+one_first (bad_here _ _ some _) (after_blank _ _ _ white _) = absurd (some white)
+one_first (bad_here _ _ _ isnt) (after_range _ _ _ utf8 is _) = absurd (isnt (utf8, is))
+one_first (after_blank _ _ _ white _) (bad_here _ _ some _) = absurd (some white)
+one_first (after_blank _ _ _ _ rest) (after_blank _ _ _ _ more) = one_first rest more
+one_first (after_blank _ _ _ white _) (after_range _ _ _ _ is _) = absurd (http_is_not_blank white is)
+one_first (after_range _ _ _ utf8 is _) (bad_here _ _ _ isnt) = absurd (isnt (utf8, is))
+one_first (after_range _ _ _ _ is _) (after_blank _ _ _ white _) = absurd (http_is_not_blank white is)
+one_first (after_range _ _ _ _ _ rest) (after_range _ _ _ _ _ more) = ap suc (one_first rest more)
+
+-- Sorted texts have a first bad text exactly if one of them is bad.
+first_if_bad : {texts : List (List ℕ)} {ranges : List MediaType} {bad : List (List ℕ)} → AreSorted texts ranges bad → bad ≢ []
+    → (at : ℕ) × FirstBad texts at
+first_if_bad no_text some = absurd (some refl)
+first_if_bad (blank text texts _ _ white rest) some = let it = first_if_bad rest some in (it.0, after_blank text texts it.0 white it.1)
+first_if_bad (a_range text range texts _ _ utf8 reads _ rest) some =
+    let it = first_if_bad rest some in (suc it.0, after_range text texts it.0 utf8 (range, reads) it.1)
+first_if_bad (a_bad text texts _ _ not_blank isnt rest) some = (0, bad_here text texts not_blank isnt)
+
+-- Texts with a first bad text are sorted with a bad text.
+bad_if_first : {texts : List (List ℕ)} {ranges : List MediaType} {bad : List (List ℕ)} {at : ℕ} → AreSorted texts ranges bad
+    → FirstBad texts at → bad ≢ []
+bad_if_first {at = at} no_text first = elim first [ ]
+bad_if_first (blank _ _ _ _ white _) (bad_here _ _ some _) = absurd (some white)
+bad_if_first (blank _ _ _ _ _ rest) (after_blank _ _ _ _ first) = bad_if_first rest first
+bad_if_first (blank _ _ _ _ white _) (after_range _ _ _ _ is _) = absurd (http_is_not_blank white is)
+bad_if_first (a_range _ media _ _ _ utf8 reads _ _) (bad_here _ _ _ isnt) = absurd (isnt (utf8, (media, reads)))
+bad_if_first (a_range _ media _ _ _ _ reads _ _) (after_blank _ _ _ white _) = absurd (http_is_not_blank white (media, reads))
+bad_if_first (a_range _ _ _ _ _ _ _ _ rest) (after_range _ _ _ _ _ first) = bad_if_first rest first
+bad_if_first (a_bad _ _ _ _ _ _ _) first = λ none. absurd (omega (arith, ap length none))
+
+-- A header has one first bad entry if an entry is bad, and otherwise none.
+pub one_first_bad : OneFirstBad
+one_first_bad lines header is = (
+  λ some. let it = first_if_bad is.sorted some in (it.0, record { pieces = is.pieces; cut = is.cut; first = it.1 }),
+  λ at first.
+      let same = only_cut first.cut ∙ sym (only_cut is.cut) in (
+        bad_if_first is.sorted (rw same at first.first),
+        λ other too. one_first first.first (rw (only_cut too.cut, sym (only_cut first.cut)) at too.first),
+      ),
+)
 
 -- a bad piece changes nothing of those before it and after it
 pub bad_is_alone : BadIsAlone

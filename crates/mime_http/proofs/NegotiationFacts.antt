@@ -1,6 +1,6 @@
 -- Worked facts of the pages `HttpList` and `Weight`: what is true of a text, and what is false.
-use Rattle.mime_http.proofs.Common.{IsUtf8-nil, append-nil, text_of_parts, AreHttpLists, AreSorted, Header, IsHeader, IsHttpMediaType, IsPiece, IsQvalue, List, MediaType, Parts, [], a_range, answer_of, ap, arith, as_it_stands, codes, cut, get_or, is_token_byte, length, map, media_of, no_text, read, refl, sym, thousandths_of, trimmed, true≢false, two_digits, ℕ, ◌∷◌, ◌≡◌}
-use Rattle.mime_http.{specs.HttpList.blank, proofs.Around.AreAscii, proofs.Around.put_ascii, proofs.Numbers.weight_is_number, proofs.Cuts.cut_of_piece, proofs.Cuts.are_cut, proofs.Lists.one_header, proofs.Lists.http_lists_are_read, proofs.Lists.read_are_http_lists, proofs.Lists.bad_is_alone, proofs.HttpLaws.written_reads, proofs.ReadBack.answered_is_http, proofs.ReadFaults.rejected_is_none}
+use Rattle.mime_http.proofs.Common.{IsUtf8-nil, append-nil, text_of_parts, AreHttpLists, AreSorted, Header, IsFirstBad, IsHeader, IsHttpMediaType, IsPiece, IsQvalue, List, MediaType, Parts, [], a_range, after_range, answer_of, ap, arith, as_it_stands, bad_here, codes, cut, get_or, is_token_byte, length, map, media_of, no_text, read, refl, sym, thousandths_of, trimmed, true≢false, two_digits, ℕ, ◌∷◌, ◌≡◌}
+use Rattle.mime_http.{specs.HttpList.blank, proofs.Around.AreAscii, proofs.Around.put_ascii, proofs.Numbers.weight_is_number, proofs.Cuts.cut_of_piece, proofs.Cuts.are_cut, proofs.Lists.one_first_bad, proofs.Lists.one_header, proofs.Lists.http_lists_are_read, proofs.Lists.read_are_http_lists, proofs.Lists.bad_is_alone, proofs.HttpLaws.written_reads, proofs.ReadBack.answered_is_http, proofs.ReadFaults.rejected_is_none}
 
 -- ---- weights (RFC 9110, 12.4.2)
 
@@ -88,3 +88,34 @@ other_text : ¬ (IsHeader (codes "c/d, a b" ∷ codes "a/b " ∷ [])
 other_text is =
     let kept = λ (header : Header). get_or (get_or (map (λ (range : MediaType). range.kept) header.ranges) 0 []) 0 0 in
     absurd (omega (arith, ap kept (one_header _ _ _ bad_between is)))
+
+-- The first bad entry is the second of three entries.
+first_bad : IsFirstBad (codes "c/d, a b" ∷ codes "a/b " ∷ []) 1
+unfolding is_token_byte
+first_bad = record {
+  pieces = _;
+  cut = are_cut _;
+  first = after_range (codes "c/d") _ 0 (rw (append-nil (codes "c/d")) at (put_ascii (codes "c/d") [] (omega arith) IsUtf8-nil))
+      (media_of c_d, answered_is_http (codes "c/d") c_d refl)
+      (bad_here (codes " a b") _ (λ blank. true≢false (sym blank)) (λ is. not_media_type is.1));
+}
+
+-- It isn't the first.
+not_first_bad : ¬ (IsFirstBad (codes "c/d, a b" ∷ codes "a/b " ∷ []) 0)
+not_first_bad is = let only = ((one_first_bad _ _ bad_between).1 1 first_bad).1 0 is in absurd (omega (arith, only))
+
+-- ---- no line
+
+-- `*/*`
+any : Parts
+any = record { top = codes "*"; sub = codes "*"; pairs = [] }
+
+-- A request without the header accepts everything.
+no_line_accepts : IsHeader [] (record { ranges = media_of any ∷ []; bad = [] })
+unfolding any is_token_byte
+no_line_accepts = record { pieces = _; cut = are_cut _; sorted = as_range (codes "*/*") any (omega arith) refl refl no_text }
+
+-- It doesn't accept nothing.
+accepts_something : ¬ (IsHeader [] (record { ranges = []; bad = [] }))
+accepts_something is =
+    absurd (omega (arith, ap (λ (header : Header). length header.ranges) (one_header [] _ _ no_line_accepts is)))

@@ -1,8 +1,8 @@
 -- Offers that are sorted by their ranks are in order, of which the first is the best.
-use Rattle.mime_http.proofs.Common.{AllPairs, All-contains, Option, best_offer, if◌then◌else◌, position, slice_get, AreInOrder, Contains, IsDistinct, IsTotalOrder, List, MediaType, Ordering, Rank, Reverse, [], ap, arith, back_total, false, flip_args, get_or, get_or_past, cases_Bool, inl, inr, is_gt, is_lt, length, length-map, map, map-append, merit, nat_cmp, nat_cmp_total, nat_tests, ne_eqb, on, on_total, ordering_then, rank_cmp, subst, sym, then_cmp, true, then_total, ℕ, ⊎_elim, ◌++◌, ◌+◌, ◌<◌, ◌==◌, ◌∙◌, ◌∷◌, ◌≡◌, ◌≤◌, ◌⊎◌, All, cases_lt, All-map, All-push, Contains-append_left, Contains-append_right, BestIsAcceptable, BestIsFirst, None, Some, and_parts, get_or-map, nat_lt, refl, slice_get-get_or, suc, zero}
+use Rattle.mime_http.proofs.Common.{BestIsRankedFirst, NoneIsBest, OneOrder, OneRanking, by_option, get_or_from_slice_get, option_map, slice_get_within, unwrap_or, AllPairs, All-contains, Option, best_offer, if◌then◌else◌, position, slice_get, AreInOrder, Contains, IsDistinct, IsTotalOrder, List, MediaType, Ordering, Rank, Reverse, [], ap, arith, back_total, false, flip_args, get_or, get_or_past, cases_Bool, inl, inr, is_gt, is_lt, length, length-map, map, map-append, merit, nat_cmp, nat_cmp_total, nat_tests, ne_eqb, on, on_total, ordering_then, rank_cmp, subst, sym, then_cmp, true, then_total, ℕ, ⊎_elim, ◌++◌, ◌+◌, ◌<◌, ◌==◌, ◌∙◌, ◌∷◌, ◌≡◌, ◌≤◌, ◌⊎◌, All, cases_lt, All-map, All-push, Contains-append_left, Contains-append_right, BestIsAcceptable, BestIsFirst, None, Some, and_parts, get_or-map, nat_lt, refl, slice_get-get_or, suc, zero}
 use Rattle.std.{specs.List.Sorted.IsPermutation, specs.List.Sorted.IsSorted, proofs.lemmas.List.Quantifiers.all_pairs_push, proofs.lemmas.List.Sorted.ranks_by, proofs.lemmas.List.Sorted.sorted_far, proofs.lemmas.List.Sorted.All-permutation, proofs.lemmas.List.Sorted.IsPermutation-map, proofs.lemmas.List.Sorted.Contains-permutation, proofs.lemmas.Map.Keys.IsDistinct-IsPermutation, proofs.lemmas.Map.Keys.IsDistinct-from_apart, proofs.lemmas.Map.Keys.apart_from_distinct, proofs.Math.ListN.get_or-map as get_or-map_at, proofs.lemmas.List.Quantifiers.position-Some}
 use Rattle.mime_http.specs.{Ranges.ComesBefore, Ranges.merit_at, Ranking.IsRanking, Ranking.ranked_as, Sorted.AreRanked, declared.ranking.RankedOffer.RankedOffer}
-use Rattle.mime_http.proofs.Highest.{best_is_found, is_best, lowest, one_rank, rank_at, ranks_total}
+use Rattle.mime_http.proofs.Highest.{all_weigh_0, best_is_found, is_best, lowest, one_rank, rank_at, ranks_total}
 
 -- what weighs something is an offer's
 pub weighs_within : (ranks : List Rank) (at : ℕ) → 0 < (rank_at ranks at).0 → at < length ranks
@@ -173,11 +173,17 @@ best_is_first ranges offers order are =
     weighs [] all = refl
     weighs (best ∷ others) all = grind (arith, nat_tests, all best (0, omega arith, refl))
 
--- so is the first of a ranking, unless it weighs nothing
-begins_with_best : (ranges offers : List MediaType) (ranking : List RankedOffer) (is : IsRanking ranges offers ranking)
-    → best_offer ranges offers ≡ first_weighs (map (merit ranges) offers) is.order
-begins_with_best ranges offers ranking is = best_by_order (map (merit ranges) offers) is.order is.best_first (λ at weighs. (is.all at).1
-    (omega (arith, weighs_within (map (merit ranges) offers) at weighs, length-map offers (merit ranges))))
+-- The first of a ranking is the best, unless it weighs 0.
+pub best_is_ranked_first : BestIsRankedFirst
+best_is_ranked_first ranges offers ranking is =
+    best_by_order (map (merit ranges) offers) is.order is.best_first (λ at weighs. (is.all at).1
+    (omega (arith, weighs_within (map (merit ranges) offers) at weighs, length-map offers (merit ranges)))) ∙ rw is.given (said is.order)
+  where
+    said : (order : List ℕ) → first_weighs (map (merit ranges) offers) order ≡ unwrap_or (option_map
+        (λ first. if nat_lt 0 first.weight then Some first.offer else None)
+        (slice_get (map (λ at. ranked_as (length ranges) (merit_at ranges offers at) at) order) 0)) None
+    said [] = refl
+    said (at ∷ order) = refl
 
 -- the best offer passes the test of the best: it weighs more than 0
 pub best_is_acceptable : BestIsAcceptable
@@ -191,3 +197,67 @@ best_is_acceptable ranges offers at is =
       slice_get-get_or offers at no_offer within,
       grind (arith, nat_tests, get_or-map (merit ranges) offers at no_offer lowest within, weighs),
     )
+
+-- No offer is the best exactly if every offer weighs 0.
+pub none_is_best : NoneIsBest
+none_is_best ranges offers = (
+  λ none offer there.
+      let weighs = all_weigh_0 (map (merit ranges) offers) none there.0 in
+      let rank = get_or-map (merit ranges) offers there.0 offer lowest there.1 in grind (arith, rank, weighs, there.2),
+  λ all. by_option (best_offer ranges offers) (λ none. none) (λ at found.
+      let (offer, is, some) = best_is_acceptable ranges offers at found in
+      let there : Contains offers offer = (at, slice_get_within offers at offer is, get_or_from_slice_get offers at offer offer is) in
+      absurd (omega (arith, some, all offer there))),
+)
+
+-- ---- one order
+
+module _ (Before : ℕ → ℕ → Type 0) (one_way : (x y : ℕ) → Before x y → ¬ (Before y x)) where
+  -- Lists in such an order that have the same members begin alike.
+  same_first : (x y : ℕ) (order other : List ℕ) → AllPairs Before (x ∷ order) → AllPairs Before (y ∷ other) → Contains (y ∷ other) x
+      → Contains (x ∷ order) y → x ≡ y
+  same_first x y order other first second (zero, within, is) there = sym is
+  same_first x y order other first second (suc k, within, is) (zero, inside, same) = same
+  same_first x y order other first second (suc k, within, is) (suc j, inside, same) =
+      absurd (one_way x y (subst (Before x) same (first 0 (suc j) y (omega arith) inside))
+      (subst (Before y) is (second 0 (suc k) x (omega arith) within)))
+
+  -- What follows the first of such a list isn't the first again.
+  after_first : (x : ℕ) (order other : List ℕ) → AllPairs Before (x ∷ order) → (at : ℕ) → Contains order at → Contains (x ∷ other) at
+      → Contains other at
+  after_first x order other first at (k, within, is) (zero, inside, same) =
+      let before : Before x at = subst (Before x) is (first 0 (suc k) at (omega arith) (omega (arith, within))) in
+      let itself = subst (Before x) (sym same) before in absurd (one_way x x itself itself)
+  after_first x order other first at there (suc j, inside, same) = (j, omega (arith, inside), same)
+
+  -- Lists in such an order that have the same members are the same.
+  same_members : (order other : List ℕ) → AllPairs Before order → AllPairs Before other
+      → ((at : ℕ) → Contains order at → Contains other at) → ((at : ℕ) → Contains other at → Contains order at) → order ≡ other
+  same_members [] [] first second here there = refl
+  same_members [] (y ∷ other) first second here there = absurd (omega (arith, (there y (0, omega arith, refl)).1))
+  same_members (x ∷ order) [] first second here there = absurd (omega (arith, (here x (0, omega arith, refl)).1))
+  same_members (x ∷ order) (y ∷ other) first second here there =
+      let same = same_first x y order other first second (here x (0, omega arith, refl)) (there y (0, omega arith, refl)) in
+      let third : AllPairs Before (x ∷ other) = rw same second in
+      let rest = same_members order other (λ i j d before below. first (suc i) (suc j) d (omega (arith, before)) (omega (arith, below)))
+      (λ i j d before below. second (suc i) (suc j) d (omega (arith, before)) (omega (arith, below)))
+      (λ at is. after_first x order other first at is (rw same (here at (suc is.0, omega (arith, is.1), is.2))))
+      (λ at is. after_first x other order third at is (there at (suc is.0, omega (arith, is.1), is.2))) in
+      λ i. same i ∷ rest i
+
+-- Of two offers, at most one comes before the other.
+one_comes_first : (rank : ℕ → Rank) (x y : ℕ) → ComesBefore rank x y → ¬ (ComesBefore rank y x)
+one_comes_first rank x y before after = grind (arith, nat_tests, before, after)
+
+-- The offers that weigh more than 0 have at most one order.
+pub one_order : OneOrder
+one_order ranges offers order other are too =
+    same_members (ComesBefore (merit_at ranges offers)) (one_comes_first (merit_at ranges offers)) order other are.best_first too.best_first
+    (λ at is. (too.all at).1 ((are.all at).0 is)) (λ at is. (are.all at).1 ((too.all at).0 is))
+
+-- All offers have at most one ranking.
+pub one_ranking : OneRanking
+one_ranking ranges offers ranking other is too =
+    let same = same_members (ComesBefore (merit_at ranges offers)) (one_comes_first (merit_at ranges offers)) is.order too.order
+    is.best_first too.best_first (λ at there. (too.all at).1 ((is.all at).0 there)) (λ at there. (is.all at).1 ((too.all at).0 there)) in
+    is.given ∙ (ap (map (λ at. ranked_as (length ranges) (merit_at ranges offers at) at)) same ∙ sym too.given)

@@ -1,9 +1,9 @@
 -- Worked facts of the pages `Ranges`, `Ranking` and `Unescaped`: what covers an offer, which is the best, and why; with the examples of
 -- RFC 9110 (12.5.1) and of RFC 7231 (5.3.2). Ranges and offers are given by their texts.
-use Rattle.mime_http.proofs.Common.{All-contains, AreInOrder, Bool, Contains, List, MeanTheSame, MediaType, None, Option, Some, [], ap, arith, best_offer, closeness, codes, drop, false, get_or, given_weight, is_some, map, not, prefix_len, refl, same_Some, slice_get, subst, suc, sym, true, unwrap_or, zero, ℕ, ◌<◌, ◌==◌, ◌∷◌, ◌≡◌, length, length-map, list_all, list_any}
+use Rattle.mime_http.proofs.Common.{All-contains, AllPairs, AreInOrder, Bool, Contains, List, MeanTheSame, MediaType, None, Option, Some, [], ap, arith, best_offer, closeness, codes, drop, false, get_or, given_weight, is_some, map, not, prefix_len, refl, same_Some, slice_get, subst, suc, sym, true, unwrap_or, zero, ℕ, ◌<◌, ◌==◌, ◌∷◌, ◌≡◌, inl, length, length-map, list_all, list_any, merit}
 use Rattle.std.specs.List.{slice_split}
 use Prim.Native.String.{String}
-use Rattle.mime_http.{specs.Ranking.IsRanking, specs.Ranking.is_lacking, specs.Ranking.is_qvalue, specs.Ranking.ranked_as, proofs.Order.best_is_acceptable, proofs.Order.best_is_first, proofs.Demanded.covers_itself, proofs.Demanded.meaning_counts, proofs.Strangers.stranger_changes_nothing}
+use Rattle.mime_http.{specs.Ranking.IsRanking, specs.Ranking.is_lacking, specs.Ranking.is_qvalue, specs.Ranking.ranked_as, specs.Ranges.ComesBefore, specs.Ranges.merit_at, specs.declared.ranking.RankedOffer.RankedOffer, proofs.Order.best_is_acceptable, proofs.Order.best_is_first, proofs.Order.best_is_ranked_first, proofs.Order.one_ranking, proofs.Order.weighs_within, proofs.Demanded.covers_itself, proofs.Demanded.meaning_counts, proofs.Strangers.stranger_changes_nothing}
 
 -- the parts of a text between marks
 abbrev parts_at : ℕ → List ℕ → List (List ℕ)
@@ -163,3 +163,66 @@ no_offer : ¬ (IsRanking (all "a/b,c/d;q=0.5") (all "c/d") [])
 no_offer is =
     let inside = (is.all 0).1 (omega arith) in
     absurd (omega (arith, inside.1, simp length-map at (ap length is.given)))
+
+-- ---- two offers
+
+-- `a/b` is better than `c/d`, which is offered first
+abbrev better : List MediaType
+better = all "a/b,c/d;q=0.5"
+
+abbrev offered : List MediaType
+offered = all "c/d,a/b"
+
+-- Two numbers are in order if the first comes before the second.
+two_ordered : (Before : ℕ → ℕ → Type 0) (x y : ℕ) → Before x y → AllPairs Before (x ∷ y ∷ [])
+two_ordered Before x y is zero (suc zero) d before within = is
+two_ordered Before x y is zero zero d before within = absurd (omega (arith, before))
+two_ordered Before x y is zero (suc (suc j)) d before within = absurd (omega (arith, within))
+two_ordered Before x y is (suc i) j d before within = absurd (omega (arith, before, within))
+
+-- Each of two positions is one of them.
+both : (at : ℕ) → at < 2 → Contains (1 ∷ 0 ∷ []) at
+both zero within = (1, omega arith, refl)
+both (suc zero) within = (0, omega arith, refl)
+both (suc (suc at)) within = absurd (omega (arith, within))
+
+-- Both offers weigh more than 0.
+both_weigh : (at : ℕ) → Contains (1 ∷ 0 ∷ []) at → 0 < (merit_at better offered at).0
+both_weigh at (zero, within, is) = rw (sym is) (omega arith)
+both_weigh at (suc zero, within, is) = rw (sym is) (omega arith)
+both_weigh at (suc (suc k), within, is) = absurd (omega (arith, within))
+
+-- A ranking has both, the better one first.
+two_ranked : IsRanking better offered
+    (record { offer = 1; weight = 1000; range = Some 0 } ∷ record { offer = 0; weight = 500; range = Some 1 } ∷ [])
+two_ranked = record {
+  order = 1 ∷ 0 ∷ [];
+  best_first = two_ordered (ComesBefore (merit_at better offered)) 1 0 (inl refl);
+  all = λ at. (All-contains (λ n. n < 2) (1 ∷ 0 ∷ []) at (λ k d within. grind (arith, within)), both at);
+  given = refl;
+}
+
+-- No ranking has the other first.
+not_ranked : ¬ (IsRanking better offered
+    (record { offer = 0; weight = 500; range = Some 1 } ∷ record { offer = 1; weight = 1000; range = Some 0 } ∷ []))
+not_ranked is =
+    let first = λ (ranking : List RankedOffer). get_or (map (λ one. one.offer) ranking) 0 0 in
+    absurd (omega (arith, ap first (one_ranking better offered _ _ two_ranked is)))
+
+-- Both are in order.
+two_in_order : AreInOrder better offered (1 ∷ 0 ∷ [])
+unfolding two_ranked
+two_in_order = record {
+  best_first = two_ranked.best_first;
+  all = λ at. (both_weigh at, λ weighs. both at (weighs_within (map (merit better) offered) at weighs));
+}
+
+-- An order with one of them alone isn't one.
+one_left_out : ¬ (AreInOrder better offered (1 ∷ []))
+one_left_out are =
+    let some = All-contains (λ n. 0 < n) (1 ∷ []) 0 (λ k d within. grind (arith, within)) ((are.all 0).1 (omega arith)) in
+    absurd (omega (arith, some))
+
+-- The first of both is the best.
+best_of_two : best "a/b,c/d;q=0.5" "c/d,a/b" ≡ Some 1
+best_of_two = best_is_ranked_first better offered _ two_ranked

@@ -67,13 +67,13 @@ module _ (offer : MediaType) (k : ℕ) where
       ∙ moved_first range at (at + 1) _ (grind (arith, nat_tests))
 
   -- and with one that covers nothing before them
-  one_more : (range : MediaType) (after : List MediaType) → closeness offer (0, range) ≡ None
+  one_range_more : (range : MediaType) (after : List MediaType) → closeness offer (0, range) ≡ None
       → (at : ℕ) (before : List MediaType) → k ≡ at + length before
       → ranks_from offer at (before ++ (range ∷ after)) ≡ map (moved (shifted k)) (ranks_from offer at (before ++ after))
-  one_more range after none at [] long = ap (λ first. cons_option first (ranks_from offer (at + 1) after))
+  one_range_more range after none at [] long = ap (λ first. cons_option first (ranks_from offer (at + 1) after))
       (covers_so offer range (λ _. at) 0 ∙ ap (option_map (moved (λ _. at))) none) ∙ later at after (omega (arith, long))
-  one_more range after none at (other ∷ before) long =
-      ap (cons_option (closeness offer (at, other))) (one_more range after none (at + 1) before (omega (arith, long)))
+  one_range_more range after none at (other ∷ before) long =
+      ap (cons_option (closeness offer (at, other))) (one_range_more range after none (at + 1) before (omega (arith, long)))
       ∙ moved_first other at at _ (grind (arith, nat_tests, long))
 
 module _ (before after : List MediaType) (range : MediaType) where
@@ -91,7 +91,7 @@ module _ (before after : List MediaType) (range : MediaType) where
   merit_so offer none =
       let g = shifted (length before) in
       let old = ranks_from offer 0 (before ++ after) in
-      let kept = ap (λ all. find (is_top all) all) (one_more offer (length before) range after none 0 before (omega arith))
+      let kept = ap (λ all. find (is_top all) all) (one_range_more offer (length before) range after none 0 before (omega arith))
       ∙ same_found g (λ x y. grind (arith, nat_tests)) old old in
       rw kept (grind (arith, nat_tests, length-append before after, length-append before (range ∷ after)))
 

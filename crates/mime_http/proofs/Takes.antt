@@ -1,8 +1,8 @@
 -- What is taken of lines, piece by piece.
-use Rattle.mime_http.proofs.Common.{AreSorted, AreSpaces, Bool, Header, HttpReads, IsHeader, IsHttpMediaType, IsPrinted, IsUtf8, List, MediaType, OnOk, Outside, Result, Takes, [], a_bad, a_range, append-nil, append_assoc, cut, cut_after, arith, drop, drop_more, drop_of_length-le, flat_map, get_or, if◌then◌else◌, length, lines_or_any, no_text, on_ok_weaker, refl, sym, take, trimmed, ℕ, ◌++◌, ◌+◌, ◌-◌, ◌<◌, ◌∷◌, ◌≡◌, ◌≤◌}
+use Rattle.mime_http.proofs.Common.{AreHeld, At, FirstBad, Held, IsFirstBad, MatchOption, None, Option, Some, after_blank, after_range, bad_here, cut_from, after, false, length-append, nothing_held, ap, option_or, pieces_of, with_bad, with_range, ◌∙◌, ◌^◌, AreSorted, AreSpaces, Bool, Header, HttpReads, IsHeader, IsHttpMediaType, IsPrinted, IsUtf8, List, MediaType, OnOk, Outside, Result, Takes, [], a_bad, a_range, append-nil, append_assoc, cut, cut_after, arith, drop, drop_more, drop_of_length-le, get_or, if◌then◌else◌, length, lines_or_any, no_text, on_ok_weaker, refl, sym, take, trimmed, ℕ, ◌++◌, ◌+◌, ◌-◌, ◌<◌, ◌∷◌, ◌≡◌, ◌≤◌}
 use Rattle.mime_http.{specs.HttpList.blank, proofs.Cuts.are_cut, proofs.Cuts.only_cut, proofs.Cuts.cut_at_end, proofs.Cuts.end_on, proofs.Around.trimmed_from_blank}
 
--- two runs of texts are sorted one after the other
+-- Two runs of texts are sorted one after the other.
 pub sorted_both : {texts more : List (List ℕ)} {ranges others : List MediaType} {bad poor : List (List ℕ)} → AreSorted texts ranges bad
     → AreSorted more others poor → AreSorted (texts ++ more) (ranges ++ others) (bad ++ poor)
 sorted_both no_text second = second
@@ -12,72 +12,112 @@ sorted_both (a_bad text texts ranges bad some isnt rest) second = a_bad text _ _
 
 -- ---- a piece
 
-module _ (keeps_bad : Bool) (piece : List ℕ) (old : Header) where
-  -- white space alone is nothing,
+-- The first bad text stays the first with more texts after it.
+first_stays : {texts : List (List ℕ)} {at : ℕ} (more : List (List ℕ)) → FirstBad texts at → FirstBad (texts ++ more) at
+first_stays more (bad_here text texts some isnt) = bad_here text _ some isnt
+first_stays more (after_blank text texts at white rest) = after_blank text _ at white (first_stays more rest)
+first_stays more (after_range text texts at utf8 is rest) = after_range text _ at utf8 is (first_stays more rest)
+
+-- A bad text after texts of which none is bad is the first, at the number of ranges.
+first_after : {texts : List (List ℕ)} {ranges : List MediaType} {text : List ℕ} → ¬ (AreSpaces text)
+    → ¬ (IsUtf8 text × IsHttpMediaType text) → AreSorted texts ranges [] → FirstBad (texts ++ (text ∷ [])) (length ranges)
+first_after some isnt no_text = bad_here _ [] some isnt
+first_after some isnt (blank text texts ranges _ white rest) = after_blank text _ _ white (first_after some isnt rest)
+first_after some isnt (a_range text range texts ranges _ utf8 reads printed rest) =
+    after_range text _ _ utf8 (range, reads) (first_after some isnt rest)
+
+-- The first bad text of held pieces stays the first, or there is still none, with a piece that isn't bad after them.
+first_still : (first : Option ℕ) (pieces bad : List (List ℕ)) (piece : List ℕ) → MatchOption first (bad ≡ []) (FirstBad pieces)
+    → MatchOption first (bad ++ [] ≡ []) (FirstBad (pieces ++ (piece ∷ [])))
+first_still None pieces bad piece none = append-nil bad ∙ none
+first_still (Some at) pieces bad piece is = first_stays (piece ∷ []) is
+
+-- ---- a piece
+
+module _ (keeps_bad : Bool) (piece : List ℕ) (old : Held) where
+  -- A piece of white space adds nothing.
   pub takes_blank : AreSpaces piece → Takes keeps_bad (piece ∷ []) old old
-  takes_blank white = λ before held.
-      (held.0, rw (append-nil old.ranges, append-nil held.0) at (sorted_both held.1 (blank piece [] [] [] white no_text)), held.2)
+  takes_blank white = λ before held. record {
+    bad = held.bad ++ [];
+    sorted = rw (append-nil old.kept.ranges) at (sorted_both held.sorted (blank piece [] [] [] white no_text));
+    kept = rw (append-nil held.bad) held.kept;
+    count = rw (append-nil held.bad) held.count;
+    first = first_still old.first before held.bad piece held.first;
+  }
 
-  -- a media type is a range if it was taken,
-  pub takes_range : {range : MediaType} (new : Header) {X E : Type 0} (result : Result X E) → IsUtf8 piece → HttpReads piece range
-      → IsPrinted piece range → OnOk result (new ≡ record old { ranges = old.ranges ++ (range ∷ []) })
-      → OnOk result (Takes keeps_bad (piece ∷ []) old new)
-  takes_range {range} new result utf8 reads printed = on_ok_weaker result (λ is before held.
-      rw is (held.0, rw (append-nil held.0) at (sorted_both held.1 (a_range piece range [] [] [] utf8 reads printed no_text)), held.2))
+  -- A media type that was added is a range.
+  pub takes_range : {range : MediaType} (new : Held) {X E : Type 0} (result : Result X E) → IsUtf8 piece → HttpReads piece range
+      → IsPrinted piece range → OnOk result (new ≡ with_range range old) → OnOk result (Takes keeps_bad (piece ∷ []) old new)
+  takes_range {range} new result utf8 reads printed = on_ok_weaker result (λ is before held. rw is (record {
+    bad = held.bad ++ [];
+    sorted = sorted_both held.sorted (a_range piece range [] [] [] utf8 reads printed no_text);
+    kept = rw (append-nil held.bad) held.kept;
+    count = rw (append-nil held.bad) held.count;
+    first = first_still old.first before held.bad piece held.first;
+  }))
 
-  -- and any other is bad
-  pub takes_bad : {entry : List ℕ} (new : Header) {X E : Type 0} (result : Result X E) → entry ≡ trimmed piece → ¬ (trimmed piece ≡ [])
-      → ¬ (IsUtf8 piece × IsHttpMediaType piece)
-      → OnOk result (new ≡ record old { bad = if keeps_bad then old.bad ++ (entry ∷ []) else old.bad })
+  -- The first of a bad piece and of those before it is theirs, or else this piece.
+  first_of_bad : (first : Option ℕ) {pieces bad : List (List ℕ)} {ranges : List MediaType} (entry : List ℕ) → ¬ (AreSpaces piece)
+      → ¬ (IsUtf8 piece × IsHttpMediaType piece) → AreSorted pieces ranges bad → MatchOption first (bad ≡ []) (FirstBad pieces)
+      → MatchOption (option_or first (Some (length ranges))) (bad ++ (entry ∷ []) ≡ []) (FirstBad (pieces ++ (piece ∷ [])))
+  first_of_bad None entry some isnt sorted none = first_after some isnt (rw none at sorted)
+  first_of_bad (Some at) entry some isnt sorted is = first_stays (piece ∷ []) is
+
+  -- Any other piece is bad.
+  pub takes_bad : {entry : List ℕ} (new : Held) {X E : Type 0} (result : Result X E) → entry ≡ trimmed piece → ¬ (trimmed piece ≡ [])
+      → ¬ (IsUtf8 piece × IsHttpMediaType piece) → OnOk result (new ≡ with_bad keeps_bad entry old)
       → OnOk result (Takes keeps_bad (piece ∷ []) old new)
   takes_bad {entry} new result trim some isnt = on_ok_weaker result (λ is before held.
-      let sorted = sorted_both held.1 (a_bad piece [] [] [] (λ white. some (trimmed_from_blank piece white)) isnt no_text) in
-      rw is (held.0 ++ (entry ∷ []), rw (append-nil old.ranges, sym trim) at sorted, grind (arith, held.2)))
+      let not_blank : ¬ (AreSpaces piece) = λ white. some (trimmed_from_blank piece white) in
+      rw is (record {
+        bad = held.bad ++ (entry ∷ []);
+        sorted = rw (append-nil old.kept.ranges, sym trim) at (sorted_both held.sorted (a_bad piece [] [] [] not_blank isnt no_text));
+        kept = grind (arith, held.kept);
+        count = grind (arith, held.count, length-append held.bad (entry ∷ []));
+        first = first_of_bad old.first entry not_blank isnt held.sorted held.first;
+      }))
 
 -- ---- texts of which nothing is read
 
--- a header without ranges and bad entries
-abbrev pub nothing : Header
-nothing = record { ranges = []; bad = [] }
-
--- the pieces of lines
-abbrev pub pieces_of : List (List ℕ) → List (List ℕ)
-pieces_of lines = flat_map cut lines
-
--- lines that are there are the lines of a header
-pub or_any : (lines : List (List ℕ)) → 0 < length lines → lines_or_any lines ≡ lines
-or_any [] some = absurd (omega (arith, some))
-or_any (line ∷ lines) some = refl
-
--- nothing is read of the pieces of lines that hold nothing,
-pub pieces_of_nothing : {lines : List (List ℕ)} → IsHeader lines nothing → AreSorted (flat_map cut (lines_or_any lines)) [] []
+-- Nothing is read of the pieces of lines that have no entry.
+pub pieces_of_nothing : {lines : List (List ℕ)} → IsHeader lines nothing_held.kept → AreSorted (pieces_of (lines_or_any lines)) [] []
 pieces_of_nothing holds = rw (only_cut holds.cut) at holds.sorted
 
--- of texts of which nothing is read, nothing is read of the first and of the rest,
+-- Of texts of which nothing is read, nothing is read of the first and of the rest.
 pub both_are_nothing : (first : List (List ℕ)) {rest : List (List ℕ)} → AreSorted (first ++ rest) [] []
     → AreSorted first [] [] × AreSorted rest [] []
 both_are_nothing [] sorted = (no_text, sorted)
 both_are_nothing (text ∷ first) (blank _ _ _ _ white others) =
     let both = both_are_nothing first others in (blank text first [] [] white both.0, both.1)
 
--- and one of them is white space
+-- A text of which nothing is read is white space.
 pub is_blank : {piece : List ℕ} {rest : List (List ℕ)} → AreSorted (piece ∷ rest) [] [] → trimmed piece ≡ []
 is_blank (blank piece _ _ _ white others) = trimmed_from_blank piece white
 
 -- ---- piece by piece
 
--- these pieces are left of all: if they are taken, all are, and if nothing is read of all, nothing is read of them
-pub record AreLeft (keeps_bad : Bool) (old now : Header) (all rest : List (List ℕ)) : Type 0 where
-  pub takes : (new : Header) → Takes keeps_bad rest now new → Takes keeps_bad all old new
+-- These pieces are left of all: if they are taken, all are, and if nothing is read of all, nothing is read of them.
+pub record AreLeft (keeps_bad : Bool) (old now : Held) (all rest : List (List ℕ)) : Type 0 where
+  pub takes : (new : Held) → Takes keeps_bad rest now new → Takes keeps_bad all old new
   pub nothing : AreSorted all [] [] → AreSorted rest [] []
 
-module _ {keeps_bad : Bool} where
-  -- at first all are left,
-  pub all_left : {old : Header} {all : List (List ℕ)} → AreLeft keeps_bad old old all all
-  all_left = record { takes = λ new taken. taken; nothing = λ sorted. sorted }
+-- No more texts are sorted as bad than there are texts.
+bad_within : {texts : List (List ℕ)} {ranges : List MediaType} {bad : List (List ℕ)} → AreSorted texts ranges bad
+    → length bad ≤ length texts
+bad_within no_text = omega arith
+bad_within (blank _ _ _ _ _ rest) = omega (arith, bad_within rest)
+bad_within (a_range _ _ _ _ _ _ _ _ rest) = omega (arith, bad_within rest)
+bad_within (a_bad _ _ _ _ _ _ rest) = omega (arith, bad_within rest)
 
-  -- after some those behind them,
-  pub rest_left : (some : List (List ℕ)) {old now new : Header} {all rest : List (List ℕ)} → AreLeft keeps_bad old now all (some ++ rest)
+-- A line has at most one piece more than bytes.
+pieces_within : (place : At) (piece bytes : List ℕ) → length (cut_from place piece bytes) ≤ length bytes + 1
+pieces_within place piece [] = omega arith
+pieces_within place piece (b ∷ bytes) =
+    grind (arith, pieces_within Outside [] bytes, pieces_within (after place b) (piece ++ (b ∷ [])) bytes)
+
+module _ {keeps_bad : Bool} where
+  -- After some are taken, those behind them are left.
+  pub rest_left : (some : List (List ℕ)) {old now new : Held} {all rest : List (List ℕ)} → AreLeft keeps_bad old now all (some ++ rest)
       → Takes keeps_bad some now new → AreLeft keeps_bad old new all rest
   rest_left some {rest = rest} left taken = record {
     takes = λ last others.
@@ -85,40 +125,69 @@ module _ {keeps_bad : Bool} where
     nothing = λ sorted. (both_are_nothing some (left.nothing sorted)).1;
   }
 
-  -- and at last none
-  pub all_taken : {old now : Header} {all : List (List ℕ)} → AreLeft keeps_bad old now all [] → Takes keeps_bad all old now
+  -- All are taken if none is left.
+  pub all_taken : {old now : Held} {all : List (List ℕ)} → AreLeft keeps_bad old now all [] → Takes keeps_bad all old now
   all_taken {now = now} left = left.takes now (λ before held. rw (append-nil before) held)
 
-  -- what is kept if all pieces of the lines were taken is their header
-  pub header_taken : (lines : List (List ℕ)) {now : Header} → AreLeft keeps_bad nothing now (flat_map cut (lines_or_any lines)) []
-      → (header : Header) × IsHeader lines header × (now ≡ record header { bad = if keeps_bad then header.bad else [] })
-  header_taken lines {now} left =
-      let held = all_taken left [] ([], no_text, grind arith) in (
-        record { ranges = now.ranges; bad = held.0 },
-        record { pieces = flat_map cut (lines_or_any lines); cut = are_cut (lines_or_any lines); sorted = held.1 },
-        λ i. record { ranges = now.ranges; bad = held.2 i },
+  -- All are held that are taken after nothing.
+  held_of : {pieces : List (List ℕ)} {now : Held} → Takes keeps_bad pieces nothing_held now → AreHeld keeps_bad pieces now
+  held_of taken = taken [] (record { bad = []; sorted = no_text; kept = grind arith; count = omega arith; first = refl })
+
+  -- What is kept of all pieces of the lines is of their header.
+  pub header_taken : (lines : List (List ℕ)) {now : Held} → Takes keeps_bad (pieces_of (lines_or_any lines)) nothing_held now
+      → (header : Header) × IsHeader lines header × (now.kept ≡ record header { bad = if keeps_bad then header.bad else [] })
+  header_taken lines {now} taken =
+      let held = held_of taken in (
+        record { ranges = now.kept.ranges; bad = held.bad },
+        record { pieces = pieces_of (lines_or_any lines); cut = are_cut (lines_or_any lines); sorted = held.sorted },
+        λ i. record { ranges = now.kept.ranges; bad = held.kept i },
       )
 
-  module _ (line : List ℕ) (from : ℕ) {old now : Header} (left : AreLeft keeps_bad old now (cut line) (cut (drop from line))) where
-    -- after an empty piece of a line those behind it are left,
+  module _ (line : List ℕ) (from : ℕ) {old now : Held} (left : AreLeft keeps_bad old now (cut line) (cut (drop from line))) where
+    -- After an empty piece of a line those behind it are left.
     pub past_empty : from < length line → get_or line from 0 ≡ 44 → AreLeft keeps_bad old now (cut line) (cut (drop (from + 1) line))
     past_empty within comma = rest_left ([] ∷ []) (rw (drop_more line from 0 within, comma) at left) (takes_blank keeps_bad [] now refl)
 
-    module _ (end : ℕ) (is : end ≡ end_on Outside line from) {new : Header}
+    module _ (end : ℕ) (is : end ≡ end_on Outside line from) {new : Held}
         (taken : Takes keeps_bad (take (end - from) (drop from line) ∷ []) now new) where
-      -- after one that ends at a position, too,
+      -- After a piece that ends at a position those behind it are left.
       passed : AreLeft keeps_bad old new (cut line) (cut_after (drop end line))
       passed = rest_left (take (end - from) (drop from line) ∷ []) (rw (cut_at_end line from end is) at left) taken
 
-      -- after its comma,
+      -- Those after the comma that ends the piece are left.
       pub past_piece : end < length line → AreLeft keeps_bad old new (cut line) (cut (drop (end + 1) line))
       past_piece more = rw (drop_more line end 0 more) at passed
 
-      -- and at the line's end all are taken
+      -- At the line's end all are taken.
       pub past_last : length line ≤ end → Takes keeps_bad (cut line) old new
       past_last past = all_taken (rw (drop_of_length-le line past) at passed)
 
-    -- the first piece is white space if nothing is read of the line
+    -- The first piece is white space if nothing is read of the line.
     pub blank_there : (end : ℕ) → end ≡ end_on Outside line from → AreSorted (cut line) [] []
         → trimmed (take (end - from) (drop from line)) ≡ []
     blank_there end is sorted = is_blank (rw (cut_at_end line from end is) at (left.nothing sorted))
+
+-- ---- a line whose bad entries are counted
+
+-- What is known of the first bad piece is known of the line's first bad entry.
+entry_first : (line : List ℕ) (count : ℕ) (bad : List (List ℕ)) (first : Option ℕ) → count ≡ length bad
+    → MatchOption first (bad ≡ []) (FirstBad (cut line)) → MatchOption first (count ≡ 0) (IsFirstBad (line ∷ []))
+entry_first line count bad None counted none = counted ∙ ap length none
+entry_first line count bad (Some at) counted first =
+    record { pieces = cut line; cut = rw (append-nil (cut line)) at (are_cut (line ∷ [])); first = first }
+
+-- What is held of a line's pieces is its header, with the number of bad entries and the first one's position.
+pub line_counted : (line : List ℕ) {now : Held} → length line < 2 ^ 63 → Takes false (cut line) nothing_held now
+    → ((header : Header) × IsHeader (line ∷ []) header × (now.kept ≡ record header { bad = [] }) × (now.count ≡ length header.bad))
+    × MatchOption now.first (now.count ≡ 0) (IsFirstBad (line ∷ []))
+line_counted line {now} short taken =
+    let held = held_of taken in
+    let fits : now.count ≡ length held.bad = omega (arith, held.count, bad_within held.sorted, pieces_within Outside [] line, short) in (
+      (
+        record { ranges = now.kept.ranges; bad = held.bad },
+        record { pieces = cut line; cut = rw (append-nil (cut line)) at (are_cut (line ∷ [])); sorted = held.sorted },
+        λ i. record { ranges = now.kept.ranges; bad = held.kept i },
+        fits,
+      ),
+      entry_first line now.count held.bad now.first fits held.first,
+    )

@@ -50,3 +50,9 @@ abbrev pub HttpExplains : List ℕ → FieldError → Type 0
 HttpExplains value (NotUtf8 pos) = ¬ (IsUtf8 value) × IsValidUpTo value pos
 HttpExplains value (Invalid fault) = IsUtf8 value × IsHttpFault value fault
 HttpExplains value NoMemory = IsUtf8 value × NeedsMemory value
+
+-- the position at which a value fails: of the byte at fault, or the value's length if something is missing at its end or memory ran out
+abbrev pub fault_position : List ℕ → FieldError → ℕ
+fault_position value (NotUtf8 pos) = pos
+fault_position value (Invalid (InvalidToken pos byte)) = pos
+fault_position value error = length value

@@ -1,6 +1,6 @@
 -- The ranges and the bad entries of a header's lines, which are lists of media types (RFC 9110, 5.6.1.2 and 12.5.1) or any others; and what
 -- is printed for a media type. OWS (5.6.3) is the `AreSpaces` of `mime`.
-use Rattle.std.specs.Prelude.{◌≡◌, ℕ, Bool, false, List, [], ◌∷◌, ◌++◌, ◌==◌, ◌&&◌, IsFalse, if◌then◌else◌, codes}
+use Rattle.std.specs.Prelude.{◌≡◌, ℕ, suc, Bool, false, List, [], ◌∷◌, ◌++◌, ◌==◌, ◌&&◌, IsFalse, if◌then◌else◌, codes}
 use Rattle.std.specs.{List.list_all, Str.IsUtf8}
 use Rattle.mime.specs.{Bytes.comma_byte, Bytes.equals_byte, Bytes.quote_byte, Bytes.backslash_byte, Grammar.is_space, Grammar.AreSpaces, Values.MediaType, Values.Reads, Values.IsAccepted}
 use Rattle.mime_http.specs.{HttpMediaType.HttpReads, HttpMediaType.IsHttpMediaType, Written.with_pairs}
@@ -80,3 +80,17 @@ pub record IsHeader (lines : List (List ℕ)) (header : Header) : Type 0 where
   pub pieces : List (List ℕ)
   pub cut : AreBetweenCommas IsPiece BeginsPiece (lines_or_any lines) pieces
   pub sorted : AreSorted pieces header.ranges header.bad
+
+-- the position of the first bad text among the ranges and the bad texts, from 0: only white space and ranges come before it
+pub data FirstBad : List (List ℕ) → ℕ → Type 0 where
+  bad_here : (text : List ℕ) (texts : List (List ℕ)) → ¬ (AreSpaces text) → ¬ (IsUtf8 text × IsHttpMediaType text)
+      → FirstBad (text ∷ texts) 0
+  after_blank : (text : List ℕ) (texts : List (List ℕ)) (at : ℕ) → AreSpaces text → FirstBad texts at → FirstBad (text ∷ texts) at
+  after_range : (text : List ℕ) (texts : List (List ℕ)) (at : ℕ) → IsUtf8 text → IsHttpMediaType text → FirstBad texts at
+      → FirstBad (text ∷ texts) (suc at)
+
+-- the position of a header's first bad entry among its entries, from 0
+pub record IsFirstBad (lines : List (List ℕ)) (at : ℕ) : Type 0 where
+  pub pieces : List (List ℕ)
+  pub cut : AreBetweenCommas IsPiece BeginsPiece (lines_or_any lines) pieces
+  pub first : FirstBad pieces at

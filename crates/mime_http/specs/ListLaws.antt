@@ -1,8 +1,8 @@
 -- The laws of a header whose lines are lists.
-use Rattle.std.specs.Prelude.{◌≡◌, ℕ, List, [], ◌∷◌, ◌++◌, map, ⊤}
+use Rattle.std.specs.Prelude.{◌≡◌, ◌≢◌, ℕ, List, [], ◌∷◌, ◌++◌, map, ⊤}
 use Rattle.std.specs.Str.{IsUtf8}
 use Rattle.mime.specs.{Grammar.AreSpaces, Values.MediaType}
-use Rattle.mime_http.specs.{HttpMediaType.HttpReads, HttpMediaType.IsHttpMediaType, HttpList.lines_or_any, HttpList.AreBetweenCommas, HttpList.trimmed, HttpList.AreSorted, HttpList.IsPiece, HttpList.BeginsPiece, HttpList.Header, HttpList.IsHeader}
+use Rattle.mime_http.specs.{HttpMediaType.HttpReads, HttpMediaType.IsHttpMediaType, HttpList.lines_or_any, HttpList.AreBetweenCommas, HttpList.trimmed, HttpList.AreSorted, HttpList.IsPiece, HttpList.BeginsPiece, HttpList.Header, HttpList.IsHeader, HttpList.IsFirstBad}
 
 -- Lines have exactly one cut into pieces.
 abbrev pub OneCut : Type 0
@@ -44,8 +44,13 @@ ReadAreHttpLists = (lines : List (List ℕ)) (header : Header) → IsHeader line
 abbrev pub OneHeader : Type 0
 OneHeader = (lines : List (List ℕ)) (header other : Header) → IsHeader lines header → IsHeader lines other → header ≡ other
 
--- A bad entry changes no other entry, wherever it is: lines with it, and lines without it, have the same ranges, so that each offer weighs the
--- same, and the same bad entries before it and after it.
+-- Lines have a first bad entry exactly if an entry is bad, and only one.
+abbrev pub OneFirstBad : Type 0
+OneFirstBad = (lines : List (List ℕ)) (header : Header) → IsHeader lines header → (header.bad ≢ [] → (at : ℕ) × IsFirstBad lines at)
+    × ((at : ℕ) → IsFirstBad lines at → (header.bad ≢ []) × ((other : ℕ) → IsFirstBad lines other → other ≡ at))
+
+-- A bad entry changes no other entry, wherever it is: lines with it, and lines without it, have the same ranges, so that each offer weighs
+-- the same, and the same bad entries before it and after it.
 abbrev pub BadIsAlone : Type 0
 BadIsAlone = (lines others before after : List (List ℕ)) (entry : List ℕ) (ranges more : List MediaType) (bad worse : List (List ℕ))
     → AreSorted before ranges bad → AreSorted after more worse → ¬ (AreSpaces entry) → ¬ (IsUtf8 entry × IsHttpMediaType entry)

@@ -1,8 +1,8 @@
 -- The laws of the file Ranges (RFC 9110, 12.5.1).
-use Rattle.std.specs.Prelude.{◌≡◌, ◌⊎◌, ◌<◌, ◌≤◌, ℕ, ◌+◌, ◌*◌, List, [], ◌∷◌, ◌++◌, codes, replicate, Some, None, IsTrue, Contains, MatchOption, is_some, map, slice_get}
+use Rattle.std.specs.Prelude.{◌≡◌, ◌⊎◌, ◌↔◌, ◌<◌, ◌≤◌, ℕ, ◌+◌, ◌*◌, List, [], ◌∷◌, ◌++◌, codes, replicate, Some, None, IsTrue, Contains, MatchOption, is_some, map, option_map, unwrap_or, nat_lt, slice_get, if◌then◌else◌}
 use Rattle.std.specs.List.{enumerate_from}
 use Rattle.mime.specs.Values.{MediaType, type_of}
-use Rattle.mime_http.specs.{Ranges.Rank, Ranges.weight_of, Ranges.closeness, Ranges.closest, Ranges.given_weight, Ranges.best_offer, Ranges.AreInOrder, Unescaped.unescaped, Weight.thousandths_of}
+use Rattle.mime_http.specs.{Ranges.Rank, Ranges.weight_of, Ranges.closeness, Ranges.closest, Ranges.given_weight, Ranges.best_offer, Ranges.AreInOrder, Ranking.IsRanking, Ranking.is_qvalue, Unescaped.unescaped, Weight.thousandths_of, declared.ranking.RankedOffer.RankedOffer}
 
 -- qvalue = ( "0" [ "." 0*3DIGIT ] ) / ( "1" [ "." 0*3("0") ] ), and how many thousandths it is (12.4.2)
 pub data IsQvalue : List ℕ → ℕ → Type 0 where
@@ -13,6 +13,10 @@ pub data IsQvalue : List ℕ → ℕ → Type 0 where
   three_digits : (a b c : ℕ) → a ≤ 9 → b ≤ 9 → c ≤ 9 → IsQvalue (codes "0." ++ ((48 + a) ∷ (48 + b) ∷ (48 + c) ∷ [])) (100 * a + 10 * b + c)
   one : IsQvalue (codes "1") 1000
   one_dot : (zeros : ℕ) → zeros ≤ 3 → IsQvalue (codes "1." ++ replicate zeros 48) 1000
+
+-- The qvalues are the texts of which `is_qvalue` is true.
+abbrev pub QvaluesAre : Type 0
+QvaluesAre = (text : List ℕ) → IsTrue (is_qvalue text) ↔ ((thousandths : ℕ) × IsQvalue text thousandths)
 
 -- A weight that RFC 9110 allows counts as its number.
 abbrev pub WeightIsNumber : Type 0
@@ -33,12 +37,33 @@ ClosestIsClosest = (ranges : List MediaType) (offer : MediaType) → MatchOption
 
 -- The best offer is the first in the order of all that weigh more than 0.
 abbrev pub BestIsFirst : Type 0
-BestIsFirst = (ranges offers : List MediaType) (order : List ℕ) → AreInOrder ranges offers order → best_offer ranges offers ≡ slice_get order 0
+BestIsFirst = (ranges offers : List MediaType) (order : List ℕ) → AreInOrder ranges offers order
+    → best_offer ranges offers ≡ slice_get order 0
 
 -- The best offer weighs more than 0.
 abbrev pub BestIsAcceptable : Type 0
 BestIsAcceptable = (ranges offers : List MediaType) (at : ℕ) → best_offer ranges offers ≡ Some at
     → (offer : MediaType) × (slice_get offers at ≡ Some offer) × (0 < given_weight ranges offer)
+
+-- No offer is the best exactly if every offer weighs 0.
+abbrev pub NoneIsBest : Type 0
+NoneIsBest = (ranges offers : List MediaType)
+    → (best_offer ranges offers ≡ None) ↔ ((offer : MediaType) → Contains offers offer → given_weight ranges offer ≡ 0)
+
+-- The offers that weigh more than 0 have at most one order, and all offers have at most one ranking.
+abbrev pub OneOrder : Type 0
+OneOrder = (ranges offers : List MediaType) (order other : List ℕ) → AreInOrder ranges offers order → AreInOrder ranges offers other
+    → order ≡ other
+
+abbrev pub OneRanking : Type 0
+OneRanking = (ranges offers : List MediaType) (ranking other : List RankedOffer) → IsRanking ranges offers ranking
+    → IsRanking ranges offers other → ranking ≡ other
+
+-- The first offer of a ranking is the best, unless it weighs 0. Then no offer is the best.
+abbrev pub BestIsRankedFirst : Type 0
+BestIsRankedFirst = (ranges offers : List MediaType) (ranking : List RankedOffer) → IsRanking ranges offers ranking
+    → best_offer ranges offers
+    ≡ unwrap_or (option_map (λ first. if nat_lt 0 first.weight then Some first.offer else None) (slice_get ranking 0)) None
 
 -- Each media type covers itself.
 abbrev pub CoversItself : Type 0
@@ -57,14 +82,15 @@ pub record MeanTheSame (media other : MediaType) : Type 0 where
 -- is read as it is written.
 abbrev pub MeaningCounts : Type 0
 MeaningCounts =
-    (range other offer offered : MediaType) (at : ℕ) → MeanTheSame range other → MeanTheSame offer offered → weight_of range ≡ weight_of other
-    → closeness offer (at, range) ≡ closeness offered (at, other)
+    (range other offer offered : MediaType) (at : ℕ) → MeanTheSame range other → MeanTheSame offer offered
+    → weight_of range ≡ weight_of other → closeness offer (at, range) ≡ closeness offered (at, other)
 
 -- A range that covers none of the offers changes neither their weights nor which is the best nor their order, wherever it is and
 -- whatever it weighs.
 abbrev pub StrangerChangesNothing : Type 0
 StrangerChangesNothing =
-    (before after offers : List MediaType) (range : MediaType) → ((offer : MediaType) → Contains offers offer → closeness offer (0, range) ≡ None)
+    (before after offers : List MediaType) (range : MediaType)
+    → ((offer : MediaType) → Contains offers offer → closeness offer (0, range) ≡ None)
     → ((offer : MediaType) → Contains offers offer → given_weight (before ++ (range ∷ after)) offer ≡ given_weight (before ++ after) offer)
     × (best_offer (before ++ (range ∷ after)) offers ≡ best_offer (before ++ after) offers)
     × ((order : List ℕ) → AreInOrder (before ++ after) offers order → AreInOrder (before ++ (range ∷ after)) offers order)

@@ -1,9 +1,9 @@
 //! Reads an `Accept` header, and chooses among a server's offers.
 
-ghost use Rattle.std.specs.Prelude.{◌≡◌, ◌≢◌, ◌<◌, [], ◌∷◌, ◌++◌, map, length, if◌then◌else◌, IfSome, IsOk, IfOk, OnOk};
+ghost use Rattle.std.specs.Prelude.{◌≡◌, ◌≢◌, ◌<◌, [], ◌∷◌, map, length, IfSome, IsOk, IfOk, OnOk, MatchOption};
 ghost use Rattle.std.specs.{Str.IsUtf8, Vec.vec_items};
 ghost use Rattle.mime.specs.Faults.{Explains};
-ghost use Rattle.mime_http.specs.{HttpList.trimmed, HttpList.AreSorted, HttpList.Header, HttpList.IsHeader, Ranges.given_weight, Ranges.best_offer, Ranges.AreInOrder, LineCut.cut, LineCut.Takes};
+ghost use Rattle.mime_http.specs.{HttpList.trimmed, HttpList.lines_or_any, HttpList.AreSorted, HttpList.Header, HttpList.IsHeader, HttpList.IsFirstBad, Ranges.given_weight, Ranges.best_offer, Ranges.AreInOrder, LineCut.cut, LineCut.pieces_of, LineCut.Takes, LineCut.nothing_held, LineCut.with_range, LineCut.with_bad};
 
 use crate::list::{piece_end, trimmed};
 use crate::offers::{best_of, merit, order_of};
@@ -32,27 +32,72 @@ impl Model for Accept {
     ghost view = { λ accept. record { ranges = map (λ range. range.media) (vec_items accept.ranges); bad = map vec_items (vec_items accept.bad) } };
 }
 
-impl Accept {
+/// The bad entries of a line.
+#[derive(Clone, Copy, PartialEq, Eq, Debug)]
+pub struct BadEntries {
+    /// The number of bad entries.
+    pub count: usize,
+    /// The position of the first bad entry among the line's entries, from 0, or `None` if no entry is bad.
+    pub first: Option<usize>,
+}
+
+/// What is read so far of a header's lines. `bad` counts the bad entries, even if `accept` keeps none.
+#[derive(Drop)]
+struct Reading {
+    accept: Accept,
+    bad: BadEntries,
+}
+
+impl Model for Reading {
+    ghost use Rattle.mime_http.specs.LineCut.{Held};
+
+    ghost Value = { Held };
+
+    ghost view = { λ reading. record { kept = reading.accept; count = reading.bad.count; first = reading.bad.first } };
+}
+
+impl Reading {
+    /// Begins to read lines.
+    #[inline(always)]
+    fn new(alloc: Global) -> Reading
+        ensures { result ≡ nothing_held }
+    {
+        Reading {
+            accept: Accept {
+                ranges: Vec::new(alloc),
+                bad: Vec::new(alloc),
+            },
+            bad: BadEntries {
+                count: 0,
+                first: None,
+            },
+        }
+    }
+
     /// Adds a range. The first call allocates space for `FIRST_RANGES` ranges, and a full list doubles its capacity.
     #[inline(always)]
     fn take(&mut self, range: Mime) -> Result<(), AllocError>
-        ensures { OnOk result (self.new ≡ record self.old { ranges = self.old.ranges ++ (range.media ∷ []) }) }
+        ensures { OnOk result (self.new ≡ with_range range.media self.old) }
     {
-        if self.ranges.len() == self.ranges.capacity() {
-            self.ranges.reserve(FIRST_RANGES)?;
+        let ranges = &mut self.accept.ranges;
+        if ranges.len() == ranges.capacity() {
+            ranges.reserve(FIRST_RANGES)?;
         }
-        self.ranges.push_reserved(range);
+        ranges.push_reserved(range);
         Ok(())
     }
 
-    /// Adds a bad entry if `keeps_bad` is `true`. This function isn't inlined, since few entries are bad.
+    /// Counts a bad entry, and keeps it if `keeps_bad` is `true`. This function isn't inlined, since few entries are bad.
     #[inline(never)]
     fn take_bad(&mut self, alloc: Global, keeps_bad: bool, entry: &[u8]) -> Result<(), AllocError>
-        ensures { OnOk result (self.new
-            ≡ record self.old { bad = if keeps_bad then self.old.bad ++ (entry.now ∷ []) else self.old.bad }) }
+        ensures { OnOk result (self.new ≡ with_bad keeps_bad entry.now self.old) }
     {
+        if self.bad.first.is_none() {
+            self.bad.first = Some(self.accept.ranges.len());
+        }
+        self.bad.count = self.bad.count.saturating_add(1);
         if keeps_bad {
-            self.bad.push(entry.to_vec(alloc)?)?;
+            self.accept.bad.push(entry.to_vec(alloc)?)?;
         }
         Ok(())
     }
@@ -125,27 +170,28 @@ impl Accept {
         }
     }
 
-    /// Reads a header's lines. Keeps the bad entries if `keeps_bad` is `true`. This function isn't inlined, so that its two callers share
-    /// one copy of the loop.
+    /// Adds the ranges and the bad entries of a header's lines. This function isn't inlined, so that its callers share one copy of the loop.
     #[inline(never)]
-    fn read(alloc: Global, lines: &[&[u8]], keeps_bad: bool) -> Result<Accept, AllocError>
-        ensures header { IfOk result (λ accept. (header : Header) × IsHeader (map (λ line. line.now) lines.now) header
-            × (accept ≡ record header { bad = if keeps_bad then header.bad else [] })) }
-        ensures nothing { IsHeader (map (λ line. line.now) lines.now) (record { ranges = []; bad = [] }) → IsOk result }
+    fn take_lines(
+        &mut self,
+        alloc: Global,
+        keeps_bad: bool,
+        lines: &[&[u8]],
+    ) -> Result<(), AllocError>
+        ensures taken { OnOk result (Takes keeps_bad (pieces_of (lines_or_any (map (λ line. line.now) lines.now))) self.old self.new) }
+        ensures nothing { AreSorted (pieces_of (lines_or_any (map (λ line. line.now) lines.now))) [] [] → IsOk result }
     {
-        let mut accept = Accept {
-            ranges: Vec::new(alloc),
-            bad: Vec::new(alloc),
-        };
         if lines.is_empty() {
-            accept.take_line(alloc, keeps_bad, b"*/*")?;
+            return self.take_line(alloc, keeps_bad, b"*/*");
         }
         for line in lines {
-            accept.take_line(alloc, keeps_bad, line)?;
+            self.take_line(alloc, keeps_bad, line)?;
         }
-        Ok(accept)
+        Ok(())
     }
+}
 
+impl Accept {
     /// Reads the lines of a header as one list (RFC 9110, 5.3 and 12.5.1). A request without the header has no lines, `&[]`, and accepts
     /// everything. Lines without a range, such as an empty line or `invalid`, accept nothing. Each line is cut at its commas outside quoted
     /// strings. A quoted string that isn't closed ends with its line.
@@ -154,24 +200,47 @@ impl Accept {
     /// for each range.
     ///
     /// # Errors
-    /// Returns `AllocError` if memory runs out, which never happens for lines of only commas and white space.
+    /// Returns `AllocError` if memory runs out, which never happens for one line or more of only commas and white space.
     pub fn from_lines(alloc: Global, lines: &[&[u8]]) -> Result<Accept, AllocError>
         ensures header { IfOk result (λ accept. IsHeader (map (λ line. line.now) lines.now) accept) }
         ensures nothing { IsHeader (map (λ line. line.now) lines.now) (record { ranges = []; bad = [] }) → IsOk result }
     {
-        Accept::read(alloc, lines, true)
+        let mut reading = Reading::new(alloc);
+        reading.take_lines(alloc, true, lines)?;
+        Ok(reading.accept)
     }
 
     /// Reads the lines of a header as [`Accept::from_lines`] does, but doesn't keep the bad entries.
     ///
     /// # Errors
-    /// Returns `AllocError` if memory runs out, which never happens for lines of only commas and white space.
+    /// Returns `AllocError` if memory runs out, which never happens for one line or more of only commas and white space.
     pub fn from_lines_without_bad(alloc: Global, lines: &[&[u8]]) -> Result<Accept, AllocError>
         ensures header { IfOk result (λ accept. (header : Header) × IsHeader (map (λ line. line.now) lines.now) header
             × (accept ≡ record header { bad = [] })) }
         ensures nothing { IsHeader (map (λ line. line.now) lines.now) (record { ranges = []; bad = [] }) → IsOk result }
     {
-        Accept::read(alloc, lines, false)
+        let mut reading = Reading::new(alloc);
+        reading.take_lines(alloc, false, lines)?;
+        Ok(reading.accept)
+    }
+
+    /// Reads one line as [`Accept::from_lines`] does, but counts its bad entries and doesn't keep them. A line can also be a list of offers,
+    /// such as `text/html, application/json`, which [`Accept::ranges`] then returns.
+    ///
+    /// # Errors
+    /// Returns `AllocError` if memory runs out, which never happens for a line of only commas and white space.
+    pub fn from_line_counting_bad(
+        alloc: Global,
+        line: &[u8],
+    ) -> Result<(Accept, BadEntries), AllocError>
+        ensures header { IfOk result (λ read. (header : Header) × IsHeader (line.now ∷ []) header × (read.0 ≡ record header { bad = [] })
+            × (read.1.count ≡ length header.bad)) }
+        ensures first { IfOk result (λ read. MatchOption read.1.first (read.1.count ≡ 0) (IsFirstBad (line.now ∷ []))) }
+        ensures nothing { IsHeader (line.now ∷ []) (record { ranges = []; bad = [] }) → IsOk result }
+    {
+        let mut reading = Reading::new(alloc);
+        reading.take_line(alloc, false, line)?;
+        Ok((reading.accept, reading.bad))
     }
 
     /// Returns the ranges, in the header's order. Each is the media type that [`content_type`](crate::content_type) returns for its entry.

@@ -1,8 +1,10 @@
 //! The laws of the definitions and of `FieldError`, as functions. A caller of such a function can use the law in its own proof.
 
 ghost use Rattle.std.specs.Prelude.{◌≡◌};
-ghost use Rattle.mime_http.specs.{HeaderLaws.PlainIsHttp, HeaderLaws.OneHttpReading, HeaderLaws.OnePrintedText, HeaderLaws.PrintedIsRead, HeaderLaws.OneHttpFault, ListLaws.OneCut, ListLaws.HttpListsAreRead, ListLaws.ReadAreHttpLists, ListLaws.OneHeader, ListLaws.BadIsAlone, Written.WrittenIsMeant, RangesLaws.ClosestIsClosest, RangesLaws.BestIsAcceptable, RangesLaws.BestIsFirst, RangesLaws.CoversItself, RangesLaws.MeaningCounts, RangesLaws.StrangerChangesNothing, RangesLaws.WeightIsNumber};
+ghost use Rattle.mime_http.specs.{HeaderLaws.PlainIsHttp, HeaderLaws.OneHttpReading, HeaderLaws.OnePrintedText, HeaderLaws.PrintedIsRead, HeaderLaws.OneHttpFault, ListLaws.OneCut, ListLaws.HttpListsAreRead, ListLaws.ReadAreHttpLists, ListLaws.OneHeader, ListLaws.OneFirstBad, ListLaws.BadIsAlone, Written.WrittenIsMeant, RangesLaws.ClosestIsClosest, RangesLaws.BestIsAcceptable, RangesLaws.BestIsFirst, RangesLaws.NoneIsBest, RangesLaws.OneOrder, RangesLaws.OneRanking, RangesLaws.BestIsRankedFirst, RangesLaws.CoversItself, RangesLaws.MeaningCounts, RangesLaws.StrangerChangesNothing, RangesLaws.QvaluesAre, RangesLaws.WeightIsNumber};
 
+use crate::accept::BadEntries;
+use crate::ranking::RankedOffer;
 use crate::value::FieldError;
 
 /// HTTP allows each text that `mime` accepts, such as `a/b; p=x;`, and defines the same media type for it.
@@ -57,6 +59,11 @@ pub fn one_header()
     ensures { OneHeader }
 {}
 
+/// Lines have a first bad entry exactly if an entry is bad, and only one. That of `a/b, , c d, e` is at position 1.
+pub fn one_first_bad()
+    ensures { OneFirstBad }
+{}
+
 /// A bad entry, wherever it is, changes no other entry and no offer's weight: `c/d, a b` and `c/d` have the same ranges.
 #[tactic(auto, using(crate::proofs::Lists::bad_is_alone))]
 pub fn bad_is_alone()
@@ -87,6 +94,26 @@ pub fn best_is_first()
     ensures { BestIsFirst }
 {}
 
+/// No offer is the best exactly if every offer weighs 0.
+pub fn none_is_best()
+    ensures { NoneIsBest }
+{}
+
+/// The positions of the offers that weigh more than 0 are in order in only one way.
+pub fn one_order()
+    ensures { OneOrder }
+{}
+
+/// All offers are ranked in only one way.
+pub fn one_ranking()
+    ensures { OneRanking }
+{}
+
+/// The first offer of a ranking is the best, unless it weighs 0. Then every offer weighs 0, and none is the best.
+pub fn best_is_ranked_first()
+    ensures { BestIsRankedFirst }
+{}
+
 /// Each media type covers itself, even `a/b;p=1;p=2`.
 #[tactic(auto, using(crate::proofs::Demanded::covers_itself))]
 pub fn covers_itself()
@@ -98,6 +125,11 @@ pub fn covers_itself()
 #[tactic(auto, using(crate::proofs::Demanded::meaning_counts))]
 pub fn meaning_counts()
     ensures { MeaningCounts }
+{}
+
+/// `has_weight` tests the value of `q` for exactly the weights that RFC 9110 allows (12.4.2).
+pub fn qvalues_are()
+    ensures { QvaluesAre }
 {}
 
 /// A weight that RFC 9110 allows counts as its number, in thousandths: `0.25` as 250, and `1.` as 1000 (12.4.2).
@@ -112,8 +144,12 @@ pub fn stranger_changes_nothing()
     ensures { StrangerChangesNothing }
 {}
 
-/// A `FieldError` can always be copied and cloned, and the copy is the same.
+/// A `FieldError`, a `RankedOffer` and `BadEntries` can always be copied and cloned, and the copy is the same.
 pub fn copies_are_same()
     ensures error { (value copy : FieldError) → ⟦<FieldError as Clone>⟧.is_clone value copy → copy ≡ value }
     ensures error_always { (value : FieldError) → ⟦<FieldError as Clone>⟧.is_infallible value }
+    ensures ranked { (value copy : RankedOffer) → ⟦<RankedOffer as Clone>⟧.is_clone value copy → copy ≡ value }
+    ensures ranked_always { (value : RankedOffer) → ⟦<RankedOffer as Clone>⟧.is_infallible value }
+    ensures bad { (value copy : BadEntries) → ⟦<BadEntries as Clone>⟧.is_clone value copy → copy ≡ value }
+    ensures bad_always { (value : BadEntries) → ⟦<BadEntries as Clone>⟧.is_infallible value }
 {}

@@ -23,7 +23,8 @@
 //!     }
 //! }
 //!
-//! /// Returns the offer to send for the lines of an `Accept` header, or 406 if no offer is acceptable, or 503 if memory runs out.
+//! /// Returns the offer to send for the lines of an `Accept` header, or 406 if no offer is acceptable, or 503 if memory runs out. Send
+//! /// `Vary: Accept` with an offer and with 406: caches need it.
 //! pub fn chosen<'o>(alloc: Global, lines: &[&[u8]], offers: &'o [Mime]) -> Result<&'o Mime, u16> {
 //!     let accept = Accept::from_lines(alloc, lines).map_err(|_| 503_u16)?;
 //!     let best = accept.best(offers).ok_or(406_u16)?;
@@ -55,11 +56,11 @@ mod reader;
 mod value;
 mod weights;
 
-pub use crate::accept::Accept;
+pub use crate::accept::{Accept, BadEntries};
 pub use crate::list::trimmed;
 pub use crate::multipart::{boundary, is_boundary};
 pub use crate::parameter::{with_boundary, with_charset, with_parameter};
-pub use crate::quoted::unescape;
+pub use crate::quoted::{unescape, unescape_into};
 pub use crate::range::{covers, weight_of};
 pub use crate::ranking::{RankedOffer, first_entry, has_weight, lacking, rank_offers};
 pub use crate::value::{FieldError, content_type};

@@ -1,11 +1,13 @@
 //! Compares what two values mean.
 
-ghost use Rattle.std.specs.Prelude.{◌≡◌, ◌<◌, [], ◌∷◌, IfSome, MatchOption, bytes_eq, length};
+ghost use Rattle.std.specs.Prelude.{◌≡◌, ◌≢◌, ◌<◌, [], ◌∷◌, IfSome, IsFalse, MatchOption, bytes_eq, length};
 ghost use Rattle.mime_http.specs.Unescaped.{unescaped};
+
+use mime_search::{BLOCK, Class, first_stop};
 
 /// Returns the first byte that a value means and the rest of the value, or `None` if the value means no byte.
 #[inline(always)]
-fn split_first(value: &[u8]) -> Option<(u8, &[u8])>
+pub(crate) fn split_first(value: &[u8]) -> Option<(u8, &[u8])>
     ensures meant { MatchOption result (unescaped value.now ≡ []) (λ first. unescaped value.now ≡ first.0 ∷ unescaped first.1.now) }
     ensures shorter { IfSome result (λ first. length first.1.now < length value.now) }
 {
@@ -16,12 +18,30 @@ fn split_first(value: &[u8]) -> Option<(u8, &[u8])>
     }
 }
 
-/// Returns `true` if two values mean the same. Compares byte by byte, up to the first difference. This function isn't inlined, since few
-/// ranges need it.
+/// Returns `true` if a value has a backslash. A value without a backslash means itself.
 #[inline(never)]
-fn mean_the_same_bytes(value: &[u8], other: &[u8]) -> bool
+fn has_backslash(value: &[u8]) -> bool
+    ensures { IsFalse result → unescaped value.now ≡ value.now }
+{
+    first_stop(value, 0, &Class::of(b'\\', b'\\')) < value.len()
+}
+
+/// Returns `true` if two different values mean the same. This function isn't inlined, since few ranges need it.
+#[inline(never)]
+fn differ_but_mean_the_same(value: &[u8], other: &[u8]) -> bool
+    requires { value.now ≢ other.now }
     ensures { result ≡ bytes_eq (unescaped value.now) (unescaped other.now) }
 {
+    // Long values may begin alike. A search for a backslash is then faster than the loop. If the longer value has none, the other value means
+    // as many bytes only if it has none either.
+    let longer = if value.len() < other.len() {
+        other
+    } else {
+        value
+    };
+    if longer.len() >= BLOCK && !has_backslash(longer) {
+        return false;
+    }
     let mut left = value;
     let mut other_left = other;
     while let Some((byte, rest)) = split_first(left) {
@@ -42,5 +62,5 @@ pub(crate) fn mean_the_same(value: &str, other: &str) -> bool
     ensures { result ≡ bytes_eq (unescaped value.now) (unescaped other.now) }
 {
     // Most values are equal, or differ in one of the first bytes.
-    value == other || mean_the_same_bytes(value.as_bytes(), other.as_bytes())
+    value == other || differ_but_mean_the_same(value.as_bytes(), other.as_bytes())
 }

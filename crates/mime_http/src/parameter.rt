@@ -6,22 +6,28 @@ ghost use Rattle.mime.specs.{Bytes.is_quoted_byte, Grammar.IsToken, HeaderLaws.A
 ghost use Rattle.mime_http.specs.{Boundary.IsBoundary, Forms.form_of, Forms.text_in, Written.escaped, Written.is_token_value, Written.text_of_pairs, Written.others, Written.with_pair, declared.quoted.Form.TheVariants.Token, declared.quoted.Form.TheVariants.Quoted};
 
 use crate::multipart::is_boundary;
-use crate::quoted::{Form, push_escaped};
+use crate::quoted::{Form, push_escaped, special_from};
 use crate::range::{after_essence, param_count};
+use crate::reader::token_end_far;
 use mime::laws::{kept_is_safe, one_reading};
-use mime::{KnownText, Mime, is_quoted_byte, is_quoted_text_byte, is_token, name_eq_str};
+use mime::{KnownText, Mime, name_eq_str};
+use mime_search::{Class, Range, first_stop};
 use std::alloc::{AllocError, Global};
+
+/// The bytes that no quoted string can contain: the ASCII control characters other than the tab.
+static CONTROLS: Class = Class {
+    fold: 0,
+    folded: Range(0, 8),
+    second: Range(10, 31),
+    third: Range(127, 127),
+    inside: true,
+};
 
 /// Returns `true` if a string is a token.
 fn is_token_text(text: &str) -> bool
     ensures { result ≡ is_token_value text.now }
 {
-    for &byte in text.as_bytes() {
-        if !is_token(byte) {
-            return false;
-        }
-    }
-    !text.is_empty()
+    !text.is_empty() && token_end_far(text.as_bytes(), 0) == text.len()
 }
 
 /// Returns `true` if a string has no uppercase ASCII letter.
@@ -60,14 +66,15 @@ fn form_of(value: &str) -> Option<Form>
     ensures { result ≡ (if list_all is_quoted_byte value.now then Some (form_of value.now) else None) }
 {
     let bytes = value.as_bytes();
-    if is_token_text(value) {
+    let plain = token_end_far(bytes, 0);
+    if plain == bytes.len() && plain > 0 {
         Some(Form::Token)
-    } else if bytes.iter().all(|byte| is_quoted_text_byte(*byte)) {
-        Some(Form::Quoted)
-    } else if bytes.iter().all(|byte| is_quoted_byte(*byte)) {
+    } else if first_stop(bytes, plain, &CONTROLS) < bytes.len() {
+        None
+    } else if special_from(bytes, plain) < bytes.len() {
         Some(Form::Escaped)
     } else {
-        None
+        Some(Form::Quoted)
     }
 }
 

@@ -1,9 +1,10 @@
 //! The content of a quoted string: what it means, and how a value is written.
 
-ghost use Rattle.std.specs.Prelude.{◌≡◌, ◌++◌, ◌≤◌, ◌+◌, OnOk, IsOk, is_ok, if◌then◌else◌, length, take, drop, string_bytes};
+ghost use Rattle.std.specs.Prelude.{◌≡◌, ◌++◌, ◌≤◌, ◌+◌, ◌&&◌, OnOk, IsOk, is_ok, if◌then◌else◌, length, nat_lt, not, slice_index, take, drop, string_bytes};
 ghost use Rattle.std.specs.{List.prefix_len, Vec.vec_items, Vec.vec_len, Vec.vec_capacity};
 ghost use Rattle.mime_http.specs.{Forms.is_plain, Unescaped.unescaped, Written.escaped};
 
+use crate::meaning::split_first;
 use mime_search::{Class, first_stop};
 use std::alloc::AllocError;
 
@@ -20,28 +21,35 @@ pub fn unescape(value: &str, buffer: &mut Vec<u8>) -> Result<(), AllocError>
     let start = buffer.len();
     buffer.extend_from_slice(value.as_bytes())?;
     if let Some(first) = value.find('\\') {
-        let end = unescape_in_place(buffer, start + first);
+        let end = unescape_end(buffer, start + first, &value.as_bytes()[first..]);
         buffer.truncate(end);
     }
     Ok(())
 }
 
-/// Replaces the bytes from `start` on with the bytes that they mean. Returns the position after the replacement.
-#[tactic(auto, using(crate::proofs::Contents::moved))]
-fn unescape_in_place(bytes: &mut [u8], start: usize) -> usize
-    requires { start ≤ length bytes.old }
-    ensures meant { take result bytes.new ≡ take start bytes.old ++ unescaped (drop start bytes.old) }
+/// Replaces the bytes from `from` on with the bytes that a value means. Returns the position after them.
+fn unescape_end(bytes: &mut [u8], from: usize, value: &[u8]) -> usize
+    requires { from + length value.now ≤ length bytes.old }
+    ensures meant { take result bytes.new ≡ take from bytes.old ++ unescaped value.now }
     ensures within { result ≤ length bytes.new }
     ensures long { length bytes.new ≡ length bytes.old }
 {
-    let mut end = start;
-    let mut is_paired = false;
-    for at in start..bytes.len() {
-        let byte = bytes[at];
-        let begins_quoted_pair = !is_paired && byte == b'\\';
-        bytes[end] = byte;
-        end += !begins_quoted_pair as usize;
-        is_paired = begins_quoted_pair;
+    from + unescape_into(value, &mut bytes[from..])
+}
+
+/// Writes the bytes that a parameter's value means (RFC 9110, 5.6.4) to the start of `out`, which must have at least `value.len()` bytes.
+/// Returns the number of bytes written. The other bytes of `out` stay as they are. The value `a\"b` means `a"b`.
+pub fn unescape_into(value: &[u8], out: &mut [u8]) -> usize
+    requires { length value.now ≤ length out.old }
+    ensures written { out.new ≡ unescaped value.now ++ drop result out.old }
+    ensures count { result ≡ length (unescaped value.now) }
+{
+    let mut left = value;
+    let mut end = 0;
+    while let Some((byte, rest)) = split_first(left) {
+        out[end] = byte;
+        end += 1;
+        left = rest;
     }
     end
 }
@@ -57,17 +65,28 @@ pub(crate) enum Form {
     Escaped,
 }
 
+/// Returns `true` if a quote or a backslash is at `pos`.
+#[inline(always)]
+fn is_special_at(value: &[u8], pos: usize) -> bool
+    ensures { result ≡ (nat_lt pos (length value.now) && not (is_plain (slice_index value.now pos))) }
+{
+    pos < value.len() && (value[pos] == b'"' || value[pos] == b'\\')
+}
+
 /// Returns the position of the first quote or backslash at or after `from`, or the value's length if there is none.
 #[inline(always)]
 #[tactic(auto, using(crate::proofs::Contents::plain_found))]
-fn special_from(value: &[u8], from: usize) -> usize
+pub(crate) fn special_from(value: &[u8], from: usize) -> usize
     requires { from ≤ length value.now }
     ensures special { result ≡ from + prefix_len is_plain (drop from value.now) }
     ensures within { result ≤ length value.now }
 {
-    // This test is faster than the search if another quote or backslash follows.
-    if from < value.len() && (value[from] == b'"' || value[from] == b'\\') {
+    // These tests are faster than the search if another quote or backslash follows soon.
+    if is_special_at(value, from) {
         return from;
+    }
+    if from < value.len() && is_special_at(value, from + 1) {
+        return from + 1;
     }
     first_stop(value, from, &Class::of(b'"', b'\\'))
 }
@@ -83,8 +102,7 @@ pub(crate) fn push_escaped(text: &mut String, value: &str) -> Result<(), AllocEr
         if from < at {
             text.push_str(&value[from..at])?;
         }
-        text.push('\\')?;
-        text.push(char::from(bytes[at]))?;
+        text.push_str(if bytes[at] == b'"' { "\\\"" } else { "\\\\" })?;
         from = at + 1;
         at = special_from(bytes, from);
     }

@@ -73,8 +73,9 @@ fn is_qvalue(bytes: &[u8]) -> bool
     }
 }
 
-/// Returns `true` if a range has a weight that RFC 9110 allows (12.4.2), or has no weight. Returns `false` for the weights `high`, `1.5`
-/// and `0.0001`, though [`weight_of`](crate::weight_of) reads them.
+/// Returns `true` if a range has no weight, or one that RFC 9110 allows (12.4.2) or would allow without its quotes. Returns `false` for the
+/// weights `high`, `1.5` and `0.0001`, though [`weight_of`](crate::weight_of) reads them. A quoted weight, `q="0.5"`, isn't told from
+/// `q=0.5`, since the text of a range that was written anew has lost its quotes.
 pub fn has_weight(range: &Mime) -> bool
     ensures { result ≡ unwrap_or (option_map is_qvalue (first_value (codes "q") range.now.media.pairs)) true }
 {

@@ -35,7 +35,7 @@ const LONG: usize = 16;
 
 /// Returns the position of the first byte at or after `from` that may not occur in a token, or the value's length if there is none.
 #[inline(always)]
-fn token_end_far(value: &[u8], from: usize) -> usize
+pub(crate) fn token_end_far(value: &[u8], from: usize) -> usize
     requires { from ≤ length value.now }
     ensures end { result ≡ from + prefix_len is_token_byte (drop from value.now) }
     ensures within { result ≤ length value.now }

@@ -1,19 +1,19 @@
 //! Reads the media type of a header's value from bytes.
 
-ghost use Rattle.std.specs.Prelude.{◌≡◌, ◌≢◌, ◌<◌, ◌≤◌, IsFalse, IsTrue, codes, length, Some, IfOk, IfErr, IfSome, IsOk, MatchResult};
+ghost use Rattle.std.specs.Prelude.{◌≡◌, ◌≢◌, ◌<◌, ◌≤◌, IsFalse, codes, length, Some, IfOk, IfErr, IfSome, IsOk, MatchResult};
 ghost use Rattle.std.specs.Fmt.InlineText.{inline_text};
 ghost use Rattle.std.specs.Str.{IsUtf8, IsValidUpTo, valid_up_to};
 ghost use Rattle.mime.specs.Values.{IsAccepted, MediaType};
 ghost use Rattle.mime.specs.Faults.{Explains};
 ghost use Rattle.mime_http.specs.HttpMediaType.{HttpReads, IsHttpMediaType};
-ghost use Rattle.mime_http.specs.HttpList.{trimmed, IsPrinted};
-ghost use Rattle.mime_http.specs.HttpFaults.{HttpExplains, IsHttpFault};
+ghost use Rattle.mime_http.specs.HttpList.{trim_end, trimmed, IsPrinted};
+ghost use Rattle.mime_http.specs.HttpFaults.{HttpExplains, IsHttpFault, fault_position};
 ghost use Rattle.mime_http.specs.HttpPrinted.{not_utf8_text};
 
-use crate::list::{is_space, trim_end, trim_start};
+use crate::list::{is_space, trim_start};
 use crate::reader::write_anew;
 use mime::{Mime, ParseError};
-use std::alloc::Global;
+use std::alloc::{AllocError, Global};
 use std::error::Error;
 use std::fmt;
 use std::fmt::{InlineText, Write};
@@ -65,6 +65,31 @@ impl fmt::Display for FieldError {
 
 impl Error for FieldError {}
 
+/// An `AllocError` becomes `NoMemory`, so a function that reads values and allocates can use `?` for both.
+impl From<AllocError> for FieldError {
+    ghost use Rattle.mime_http.specs.declared.value.FieldError.{FieldError};
+
+    ghost from_gives = { λ _ error. error ≡ FieldError.NoMemory };
+
+    fn from(_error: AllocError) -> FieldError {
+        FieldError::NoMemory
+    }
+}
+
+impl FieldError {
+    /// Returns the position of the byte at fault, or the value's length if a part is missing at its end or memory ran out. `value` is the
+    /// value that was passed. A caret after as many spaces marks the fault of an ASCII value: position 7 of `   a/b c`.
+    pub fn position(&self, value: &[u8]) -> usize
+        ensures { result ≡ fault_position value.now self.now }
+    {
+        match self {
+            FieldError::NotUtf8 { pos } => *pos,
+            FieldError::Invalid(ParseError::InvalidToken { pos, .. }) => *pos,
+            _ => value.len(),
+        }
+    }
+}
+
 /// Converts bytes to a string as `str::from_utf8` does, but faster for ASCII, which most values are.
 #[inline(always)]
 #[tactic(auto, using(crate::proofs::Around::ascii_is_utf8))]
@@ -89,9 +114,17 @@ fn trimmed(text: &str) -> &str
     unsafe { str::from_utf8_unchecked(left) }
 }
 
+/// Returns `true` if the last byte of a text is white space.
+#[tactic(auto, using(crate::proofs::Around::nothing_after))]
+fn ends_in_space(text: &[u8]) -> bool
+    ensures { IsFalse result → trim_end text.now ≡ text.now }
+{
+    !text.is_empty() && is_space(text[text.len() - 1])
+}
+
 /// Returns the fault of a value if it follows from `fault`, which `mime` returns for the trimmed value. A byte at fault for `mime` is at
 /// fault for HTTP, too, unless the byte is white space or a semicolon. A part that is missing for `mime` is missing for HTTP, too, unless
-/// the value ends in white space. This function isn't inlined, so that it uses none of the caller's registers.
+/// white space follows that can't continue it. This function isn't inlined, so that it uses none of the caller's registers.
 #[inline(never)]
 fn same_fault(value: &[u8], fault: ParseError) -> Option<ParseError>
     requires { Explains (trimmed value.now) fault }
@@ -104,24 +137,19 @@ fn same_fault(value: &[u8], fault: ParseError) -> Option<ParseError>
             Some(ParseError::InvalidToken { pos, byte })
         }
         ParseError::InvalidToken { .. } | ParseError::NoMemory => None,
-        _ if trim_end(text).len() < text.len() => None,
+        // White space doesn't close a quoted string.
+        ParseError::MissingQuote => Some(fault),
+        _ if ends_in_space(text) => None,
         _ => Some(fault),
     }
 }
 
-/// Reads a value by writing it anew into `room`. `accepted` is `true` if `mime` accepts the value without the white space around it, but
-/// memory ran out. Such a value is read only if it is printed as its essence, in at most 40 bytes. This allocates only if `accepted` is
-/// `false` and more than 40 bytes are printed: a block for them, unless they fit in `room`, and one for the media type.
+/// Reads a value that `mime` rejects by writing it anew into `room`. This allocates only if more than 40 bytes are printed: a block for
+/// them, unless they fit in `room`, and one for the media type.
 #[cycle(rejected)]
 #[inline(never)]
-fn read_into(
-    alloc: Global,
-    value: &str,
-    accepted: bool,
-    room: &mut [u8],
-) -> Result<Mime, FieldError>
-    requires kept { IsTrue accepted → IsAccepted (trimmed value.now) × (40 < length (trimmed value.now)) }
-    requires other { IsFalse accepted → ¬ (IsAccepted (trimmed value.now)) }
+fn read_into(alloc: Global, value: &str, room: &mut [u8]) -> Result<Mime, FieldError>
+    requires other { ¬ (IsAccepted (trimmed value.now)) }
     requires room { 40 ≤ length room.now }
     ensures http { IfOk result (λ mime. HttpReads value.now mime.media × IsPrinted value.now mime.media) }
     ensures explained { IfErr result (λ error. HttpExplains value.now error) }
@@ -131,36 +159,30 @@ fn read_into(
         Err(fault) => return Err(FieldError::Invalid(fault)),
     };
     if len > room.len() {
-        return read_in_block(alloc, value, accepted, len);
+        return read_in_block(alloc, value, len);
     }
     // SAFETY: the text that is written anew for a value in UTF-8 is UTF-8.
     let text = unsafe { str::from_utf8_unchecked(&room[..len]) };
-    let Ok(mime) = Mime::from_str(alloc, text) else {
-        return Err(FieldError::NoMemory);
-    };
-    if accepted && mime.essence_str().len() < len {
-        return Err(FieldError::NoMemory);
+    match Mime::from_str(alloc, text) {
+        Ok(mime) => Ok(mime),
+        Err(_) => Err(FieldError::NoMemory),
     }
-    Ok(mime)
 }
 
-/// Reads a value that is written anew in `len` bytes, which are more than 40. Returns `NoMemory` if `accepted` is `true`.
+/// Reads a value that is written anew in `len` bytes, which are more than 40.
 #[cycle(rejected)]
 #[inline(always)]
-fn read_in_block(alloc: Global, value: &str, accepted: bool, len: usize) -> Result<Mime, FieldError>
-    requires other { IsFalse accepted → ¬ (IsAccepted (trimmed value.now)) }
+fn read_in_block(alloc: Global, value: &str, len: usize) -> Result<Mime, FieldError>
+    requires other { ¬ (IsAccepted (trimmed value.now)) }
     requires long { 40 < len }
     requires memory { HttpExplains value.now FieldError.NoMemory }
     ensures http { IfOk result (λ mime. HttpReads value.now mime.media × IsPrinted value.now mime.media) }
     ensures explained { IfErr result (λ error. HttpExplains value.now error) }
 {
-    if accepted {
-        return Err(FieldError::NoMemory);
-    }
     let Ok(mut text) = vec![in alloc; 0u8; len] else {
         return Err(FieldError::NoMemory);
     };
-    match read_into(alloc, value, false, &mut text) {
+    match read_into(alloc, value, &mut text) {
         Ok(mime) => Ok(mime),
         Err(error) => Err(error),
     }
@@ -178,19 +200,20 @@ pub(crate) fn read_rejected(
     ensures http { IfOk result (λ mime. HttpReads value.now mime.media × IsPrinted value.now mime.media) }
     ensures explained { IfErr result (λ error. HttpExplains value.now error) }
 {
-    let accepted = match fault {
+    match fault {
         // Most values that only HTTP allows have one of these bytes where `mime` rejects them.
         ParseError::InvalidToken {
             byte: b' ' | b'\t' | b';',
             ..
-        } => false,
-        ParseError::NoMemory => true,
-        _ => match same_fault(value.as_bytes(), fault) {
-            Some(fault) => return Err(FieldError::Invalid(fault)),
-            None => false,
-        },
-    };
-    match read_into(alloc, value, accepted, &mut [0; 40]) {
+        } => {}
+        ParseError::NoMemory => return Err(FieldError::NoMemory),
+        _ => {
+            if let Some(fault) = same_fault(value.as_bytes(), fault) {
+                return Err(FieldError::Invalid(fault));
+            }
+        }
+    }
+    match read_into(alloc, value, &mut [0; 128]) {
         Ok(mime) => Ok(mime),
         Err(error) => Err(error),
     }
@@ -207,8 +230,8 @@ pub(crate) fn read_rejected(
 /// anew: its essence, and its parameters as [`with_parameter`](crate::with_parameter) writes those that it keeps. So
 /// ` text/html ;; charset="utf-8"` is printed as `text/html; charset=utf-8`. The values of parameters keep their backslashes.
 ///
-/// This doesn't allocate if the value is rejected, or if at most 40 bytes are printed. Otherwise, it allocates one block for a value that
-/// is read as it is, or two blocks for a value that is printed anew, and frees one of the two.
+/// This doesn't allocate if the value is rejected, or if at most 40 bytes are printed. Otherwise, it allocates one block. If more than 128
+/// bytes are printed anew, it allocates two, and frees one of the two.
 ///
 /// # Errors
 /// Returns `NotUtf8` if the value isn't valid UTF-8. Returns `Invalid` with the fault if the value isn't a media type. The fault's position

@@ -6,35 +6,35 @@ use Rattle.std.specs.Prelude.{Some, None}
 use Rattle.mime_io.specs.Lines.{lines_of, row, suffix_row}
 use Rattle.mime_io.specs.Stops.{limit, stop_text}
 
--- no bytes have no line
+-- No bytes have no line.
 no_lines : lines_of [] ≡ []
 no_lines = refl
 
--- a single byte 10 ends one empty line
+-- A single byte 10 ends one empty line.
 one_empty_line : lines_of (10 ∷ []) ≡ [] ∷ []
 one_empty_line = refl
 
--- the last line may lack its end
+-- The last line may lack its end.
 last_line_without_end : lines_of (codes "a/b\n\nc") ≡ codes "a/b" ∷ [] ∷ codes "c" ∷ []
 last_line_without_end = refl
 
--- byte 13 belongs to its line
+-- Byte 13 belongs to its line.
 line_with_return : lines_of (codes "a\r\nb\n") ≡ codes "a\r" ∷ codes "b" ∷ []
 line_with_return = refl
 
--- the row of an empty text ends with a space
+-- The row of an empty text ends with a space.
 empty_row : row (codes "subtype ") [] ≡ codes "subtype \n"
 empty_row = refl
 
--- a suffix has a row, even if it is empty, and none has none
+-- A suffix has a row, even if it is empty, and none has none.
 suffix_rows : (suffix_row (Some (codes "xml")) ≡ codes "suffix xml\n") × (suffix_row (Some []) ≡ codes "suffix \n") × (suffix_row None ≡ [])
 suffix_rows = (refl, refl, refl)
 
--- the most bytes of an input
+-- An input has at most 1,024 times 1,024 bytes.
 limit_of_input : limit ≡ 1024 * 1024
 limit_of_input = refl
 
--- what each error prints
+-- Each error prints its words.
 printed_errors :
     map stop_text (Read ∷ Write ∷ TooLong ∷ NoMemory ∷ []) ≡ codes "read" ∷ codes "write" ∷ codes "too long" ∷ codes "no memory" ∷ []
 printed_errors = refl

@@ -5,7 +5,7 @@ use Rattle.std.proofs.lemmas.List.Sums.{prefix_len-le-length}
 use Rattle.mime_io.specs.Lines.{lines_of}
 use Rattle.std.proofs.lemmas.Grind.{common_steps}
 
--- a first line with one more byte in front of it
+-- A first line goes on with a byte that is put in front of it.
 prefix-shift : (n b : ℕ) (xs : List ℕ)
     → (b ∷ take n xs) ∷ lines_of (drop (n + 1) xs) ≡ take (1 + n) (b ∷ xs) ∷ lines_of (drop (1 + n + 1) (b ∷ xs))
 prefix-shift n b xs =
@@ -15,7 +15,7 @@ prefix-shift n b xs =
     let q : drop (1 + n + 1) (b ∷ xs) ≡ drop (n + 1) xs = ap (λ k. drop k (b ∷ xs)) t in
     cc
 
--- the first line of a byte and of bytes whose first line is known
+-- The first line of a byte and of more bytes follows from theirs.
 prefix-lines : (is_end : Bool) (n b : ℕ) (bytes : List ℕ)
     → (0 < length bytes → lines_of bytes ≡ take n bytes ∷ lines_of (drop (n + 1) bytes)) → (length bytes ≡ 0 → n ≡ 0)
     → cond is_end ([] ∷ lines_of bytes) (onto_first b (lines_of bytes))
@@ -24,7 +24,7 @@ prefix-lines true n b bytes cut none = refl
 prefix-lines false n b [] cut none = rw (none refl) refl
 prefix-lines false n b (c ∷ bytes) cut none = ap (onto_first b) (cut (omega arith)) ∙ prefix-shift n b (c ∷ bytes)
 
--- the first line, and the lines after its end
+-- The first line is what stands before the first byte 10, and the other lines follow that byte.
 pub lines_of-first : (bytes : List ℕ) → 0 < length bytes
     → lines_of bytes
     ≡ take (position_or_len (λ b. nat_eq b 10) bytes) bytes ∷ lines_of (drop (position_or_len (λ b. nat_eq b 10) bytes + 1) bytes)
@@ -33,6 +33,6 @@ lines_of-first (b ∷ bytes) h =
     prefix-lines (nat_eq b 10) (position_or_len (λ b. nat_eq b 10) bytes) b bytes (lines_of-first bytes)
     (λ e. omega (arith, prefix_len-le-length (λ b. not (nat_eq b 10)) bytes))
 
--- the bytes after a position that may be the end
+-- The bytes after a position are none if it is the last.
 pub drop-beyond : (n : ℕ) (xs : List ℕ) → drop (n + 1) xs ≡ take (length xs - min (n + 1) (length xs)) (drop (min (n + 1) (length xs)) xs)
 drop-beyond n xs = grind (arith, common_steps)

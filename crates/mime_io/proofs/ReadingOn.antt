@@ -3,7 +3,7 @@ use Rattle.std.proofs.Common.{ℕ, List, ◌++◌, Option, Some, None, ap, sym, 
 use Rattle.std.proofs.lemmas.List.{append_assoc}
 use Rattle.std.specs.Io.KnownBytes.{Consumes}
 
--- what is consumed first and what is consumed next are consumed together
+-- What is consumed first and what is consumed next are consumed together.
 pub consumed_together : (left between after : Option (List ℕ)) (xs ys : List ℕ) → Consumes left between xs → Consumes between after ys
     → Consumes left after (xs ++ ys)
 consumed_together None between after xs ys p q = tt

@@ -2,7 +2,7 @@
 use Rattle.std.proofs.Common.{◌≡◌, ℕ, List, ◌++◌, Result, Ok, Err, OnOk}
 use Rattle.mime_io.specs.Inner.{Adds}
 
--- what a call that succeeds added is the report
+-- What a call that succeeds added is the report.
 pub reported : {E : Type 0} (R : List ℕ → Type 0) (result : Result (Unit {0}) E) (rows old new : List ℕ) → R rows
     → OnOk result (new ≡ old ++ rows) → OnOk result (Adds R old new)
 reported R (Ok done) rows old new report added = (rows, report, added)

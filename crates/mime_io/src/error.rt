@@ -14,7 +14,7 @@ pub enum RunError {
     Write,
     /// The source has more than 1,048,576 bytes.
     TooLong,
-    /// Memory ran out, or an argument of `mime_lines` isn't valid UTF-8.
+    /// Memory ran out.
     NoMemory,
 }
 

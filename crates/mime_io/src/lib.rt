@@ -6,6 +6,8 @@ mod error;
 mod input;
 pub mod laws;
 mod output;
+#[cfg(test)]
+mod tests;
 
 pub use crate::device::{Device, Failed, Sink, Source};
 pub use crate::error::RunError;

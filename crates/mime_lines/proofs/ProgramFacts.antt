@@ -24,7 +24,7 @@ use Rattle.mime_lines.specs.Report.ReportsLine.{not_text, is_text}
 use Rattle.mime_lines.specs.Report.ReportsLines.{no_more, line_more}
 use lib.Utf8.{encode}
 
--- the rows of a value with a suffix and a parameter
+-- A value with a suffix and a parameter has a row for each.
 rows_of_value :
     value_rows (record {
       essence = codes "text/html+xml";
@@ -36,7 +36,7 @@ rows_of_value :
     ≡ codes "ok text/html+xml;q=1\ntype text\nsubtype html\nsuffix xml\nparam q=1\n"
 rows_of_value = refl
 
--- a good item is its kept text, a bad one its piece
+-- The row of a good item is its kept text, and that of a bad one its piece.
 rows_of_items :
     item_rows (
     bad (codes "invalid")
@@ -46,24 +46,25 @@ rows_of_items :
     ≡ codes "bad invalid\nok text/html\n"
 rows_of_items = refl
 
--- one word names a mode
+-- The word `list` names a mode.
 list_names_a_mode : mode_named (codes "list") ≡ Some Mode.List
 list_names_a_mode = refl
 
--- a mode is named only in lowercase
+-- No mode is named in capitals.
 capitals_name_no_mode : mode_named (codes "LIST") ≡ None
 capitals_name_no_mode = refl
 
--- a value without suffix and parameters has no row for them
+-- A value without a suffix and parameters has no rows for them.
 rows_left_out : (suffix_row None ≡ []) × (param_rows [] ≡ [])
 rows_left_out = (refl, refl)
 
 -- ---- reports
 
--- the value of `a/b`
+-- This is the value of `a/b`.
 abbrev text_value : MediaType
 text_value = record { essence = codes "a/b"; slash = 1; plus = None; pairs = []; kept = codes "a/b" }
 
+-- The text `a/b` is read as this value.
 reads_text : Reads (codes "a/b") text_value
 unfolding is_token_byte
 reads_text = record {
@@ -73,23 +74,23 @@ reads_text = record {
   valued = refl;
 }
 
--- the report on one line, by its parts
+-- The report on a line has the rows of its value.
 report_of_line : IsReportOf Mode.Parts (codes "a/b\n") (codes "ok a/b\ntype a\nsubtype b\n")
 unfolding encode
 report_of_line = line_more (is_text (codes "a/b", (refl, refl)) (read text_value reads_text)) no_more
 
--- bytes that aren't UTF-8 are reported as such, and a text isn't
+-- Bytes that aren't UTF-8 are reported as not text.
 report_of_bytes : (mode : Mode) → ¬ (IsUtf8 (255 ∷ [])) → ReportsLine mode (255 ∷ []) (codes "not text\n")
 report_of_bytes mode not_utf8 = not_text not_utf8
 
--- a text with a fault is rejected
+-- A text with a fault is rejected.
 rejected_by_laws : CompletedIsRejected → AcceptedIsViable → (text : List ℕ) (fault : ParseError) → IsFault text fault → IsRejected text
 rejected_by_laws completed viable text (InvalidToken pos byte) dead = λ accepted.
     dead.prefix.longest (length text) (slice_get_within text pos byte dead.there) (omega arith)
     (subst IsViable (sym (take-length text)) (viable text accepted))
 rejected_by_laws completed viable text fault lacks = completed text fault lacks
 
--- the report on a text is one
+-- A text has one report.
 one_report : OneReading → OneFault → CompletedIsRejected → AcceptedIsViable → OneCut → (mode : Mode) (text first second : List ℕ)
     → ReportsText mode text first → ReportsText mode text second → first ≡ second
 one_report reading one completed viable cut mode text first second (read value reads) (read other again) =
@@ -104,7 +105,7 @@ one_report reading one completed viable cut mode text first second (rejected fau
 one_report reading one completed viable cut mode text first second (listed items rest is) (listed others left also) =
     let only = cut text in ap item_rows ((only.3 items rest is).0 ∙ sym (only.3 others left also).0)
 
--- the report on a line is one: a line that isn't text has no other
+-- A line has one report: no text is reported as not text.
 one_report-line : (mode : Mode) (line first second : List ℕ)
     → ((text rows others : List ℕ) → ReportsText mode text rows → ReportsText mode text others → rows ≡ others)
     → ReportsLine mode line first → ReportsLine mode line second → first ≡ second
@@ -113,7 +114,7 @@ one_report-line mode line first second one (not_text isnt) (is_text utf8 report)
 one_report-line mode line first second one (is_text utf8 report) (not_text isnt) = absurd (isnt utf8)
 one_report-line mode line first second one (is_text utf8 report) (is_text too other) = one line first second report other
 
--- the report on lines is one
+-- Lines have one report.
 one_report-lines : (mode : Mode) (lines : List (List ℕ)) (first second : List ℕ)
     → ((line rows others : List ℕ) → ReportsLine mode line rows → ReportsLine mode line others → rows ≡ others)
     → ReportsLines mode lines first → ReportsLines mode lines second → first ≡ second

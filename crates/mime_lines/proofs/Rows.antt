@@ -15,25 +15,25 @@ use Rattle.mime.specs.Faults.{IsFault, Explains}
 use Rattle.mime.specs.declared.scan.fault.ParseError.{ParseError}
 use Rattle.mime.specs.declared.scan.fault.ParseError.TheVariants.{NoMemory}
 
--- the rows of what `Params` yields
+-- These are the rows of what `Params` yields.
 abbrev pub given_rows : List Item → List ℕ
 given_rows [] = []
 given_rows (item ∷ items) = row (codes "param ") (item.name ++ (codes "=" ++ item.value)) ++ given_rows items
 
--- the rows of the items of pairs are those of the pairs
+-- The items of pairs have the rows of the pairs.
 pub given_rows-items_of : (pairs : List (List ℕ × List ℕ)) → given_rows (items_of pairs) ≡ param_rows pairs
 given_rows-items_of [] = refl
 given_rows-items_of ((name, value) ∷ pairs) =
     ap (λ rows. row (codes "param ") (name ++ (codes "=" ++ value)) ++ rows) (given_rows-items_of pairs)
 
--- the report on a text is that on its line
+-- The report on a text is the report on its line.
 pub reported-line : {E : Type 0} (result : Result (Unit {0}) E) (mode : Mode) (text line old new : List ℕ) → text ≡ line → IsUtf8 line
     → OnOk result (Adds (ReportsText mode text) old new) → OnOk result (Adds (ReportsLine mode line) old new)
 reported-line (Ok done) mode text line old new is utf8 (rows, report, added) =
     (rows, is_text utf8 (subst (λ t. ReportsText mode t rows) is report), added)
 reported-line (Err error) mode text line old new is utf8 added = tt
 
--- a line's report, and then that on the lines after it
+-- A line's report goes before that on the lines after it.
 pub ReportsLines-step : (mode : Mode) (input rest line tail old new : List ℕ) → lines_of rest ≡ line ∷ lines_of tail
     → ((more : List ℕ) → ReportsLines mode (lines_of rest) more → ReportsLines mode (lines_of input) (old ++ more))
     → Adds (ReportsLine mode line) old new
@@ -43,7 +43,7 @@ ReportsLines-step mode input rest line tail old new cut whole (rows, report, add
     subst (λ text. ReportsLines mode (lines_of input) text) joined
     (whole (rows ++ more) (subst (λ lines. ReportsLines mode lines (rows ++ more)) (sym cut) (line_more report reports)))
 
--- if no lines are left, the report is complete
+-- If no lines are left, the report is complete.
 pub ReportsLines-end : (mode : Mode) (input rest report : List ℕ) → lines_of rest ≡ []
     → ((more : List ℕ) → ReportsLines mode (lines_of rest) more → ReportsLines mode (lines_of input) (report ++ more))
     → ReportsLines mode (lines_of input) report
@@ -53,12 +53,12 @@ ReportsLines-end mode input rest report none whole =
 
 -- ---- items
 
--- what was added of a text's items, and what is left of it to add
+-- This says what was added of a text's items, and what is left of it to add.
 pub record IsListing (text left old new : List ℕ) : Type 0 where
   pub onward : (items : List CutItem) (rest : List ℕ) → Cut left items rest
       → (all : List CutItem) × Cut text all rest × (old ++ item_rows all ≡ new ++ item_rows items)
 
--- the row of the next item, and then those of the others
+-- The row of the next item goes before those of the others.
 pub listing-step : (text left next old new added rows : List ℕ) (item : CutItem) → IsListing text left old new → IsFirstItem left item next
     → rows ≡ item_row item → added ≡ new ++ rows → IsListing text next old added
 listing-step text left next old new added rows item listing first is joined = record {
@@ -71,21 +71,21 @@ listing-step text left next old new added rows item listing first is joined = re
       );
 }
 
--- if no item is left, the text is reported
+-- If no item is left, the text is reported.
 pub listing-end : (text left old new : List ℕ) → IsListing text left old new → HasNoItem left
     → Adds (ReportsText Mode.List text) old new
 listing-end text left old new listing (rest, cut) =
     let all = listing.onward [] rest cut in
     (item_rows all.0, listed all.0 rest all.1, sym (append-nil new) ∙ sym all.2)
 
--- if no parameters are left, all rows are added
+-- If no parameters are left, all rows are added.
 pub param_rows-end : (old new : List ℕ) (all left : List Item) (pairs : List (List ℕ × List ℕ)) → left ≡ [] → all ≡ items_of pairs
     → new ++ given_rows left ≡ old ++ given_rows all → new ≡ old ++ param_rows pairs
 param_rows-end old new all left pairs none items added =
     sym (append-nil new) ∙ ap (λ xs. new ++ given_rows xs) (sym none) ∙ added ∙ ap (λ xs. old ++ given_rows xs) items
     ∙ ap (λ rows. old ++ rows) (given_rows-items_of pairs)
 
--- an error other than that memory ran out is the text's fault
+-- An error other than want of memory is the text's fault.
 pub fault-explained : (text : List ℕ) (fault : ParseError) → Explains text fault → fault ≢ NoMemory → IsFault text fault
 fault-explained text NoMemory why other = absurd (other refl)
 fault-explained text fault why other = why

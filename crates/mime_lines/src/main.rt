@@ -11,7 +11,7 @@ mod report;
 #[cfg(test)]
 mod tests;
 
-pub use crate::mode::Mode;
+pub use crate::mode::{Mode, copies_are_same};
 pub use crate::program::run;
 use mime_io::ended;
 pub use mime_io::{Device, Failed, RunError, Sink, Source};
@@ -52,6 +52,7 @@ fn named_mode(word: &str) -> Option<Mode>
 fn main(rt: HostRuntime) -> ExitCode {
     let asked = match env::args(&rt) {
         Ok(arguments) => asked_mode(arguments),
+        // Memory ran out, or an argument isn't UTF-8, for which the program has no error of its own.
         Err(_) => return ended(&rt, Err(RunError::NoMemory)),
     };
     let Some(mode) = asked else {

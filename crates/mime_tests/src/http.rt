@@ -4,8 +4,8 @@ use crate::fields::string_at;
 use crate::values::read_or_not;
 use mime::Mime;
 use mime_http::{
-    Accept, FieldError, boundary, content_type, covers, unescape, weight_of, with_boundary,
-    with_charset, with_parameter,
+    Accept, FieldError, RankedOffer, boundary, content_type, covers, rank_offers, unescape,
+    weight_of, with_boundary, with_charset, with_parameter,
 };
 use std::alloc::{AllocError, Global};
 use std::fmt::{Display, Write};
@@ -88,6 +88,24 @@ pub(crate) fn show_accept_in_latin_1(alloc: Global, out: &mut String, text: &str
     show_header(out, Accept::from_lines(alloc, &[&latin_1(alloc, text)]));
 }
 
+/// Shows the ranges of a header, read without its bad entries.
+pub(crate) fn show_without_bad(alloc: Global, out: &mut String, field: &str) {
+    if let Ok(lines) = lines_of(alloc, field)
+        && let Ok(accept) = Accept::from_lines_without_bad(alloc, &lines)
+    {
+        show_ranges(out, accept.ranges());
+    }
+}
+
+/// Shows the ranges of a line, and then the number of its bad entries and the position of the first one.
+pub(crate) fn show_counting_bad(alloc: Global, out: &mut String, line: &str) {
+    if let Ok((accept, bad)) = Accept::from_line_counting_bad(alloc, line.as_bytes()) {
+        show_ranges(out, accept.ranges());
+        show(out, &bad.count);
+        show_position(out, bad.first);
+    }
+}
+
 fn show_ranges(out: &mut String, ranges: &[Mime]) {
     for range in ranges {
         show(out, range);
@@ -145,6 +163,23 @@ pub(crate) fn show_order(alloc: Global, out: &mut String, strings: &[String]) {
     if let Ok(order) = order_of(alloc, strings) {
         for at in &order {
             show(out, at);
+        }
+    }
+}
+
+/// Returns the ranking of a row's offers.
+fn ranking_of(alloc: Global, strings: &[String]) -> Result<Vec<RankedOffer>, AllocError> {
+    let accept = header_of(alloc, string_at(strings, 0))?;
+    rank_offers(alloc, accept.ranges(), &offers_of(alloc, strings)?)
+}
+
+/// Shows the position of each offer in a row's ranking, its weight, and the position of the range that decides its weight.
+pub(crate) fn show_ranking(alloc: Global, out: &mut String, strings: &[String]) {
+    if let Ok(ranking) = ranking_of(alloc, strings) {
+        for one in &ranking {
+            show(out, &one.offer);
+            show(out, &one.weight);
+            show_position(out, one.range);
         }
     }
 }

@@ -27,17 +27,18 @@ use crate::constants::{show_bytes, show_copies};
 use crate::fields::string_at;
 use crate::http::{
     show, show_accept, show_accept_in_latin_1, show_best, show_boundary,
-    show_content_type_in_latin_1, show_covers, show_order, show_text, show_unescaped,
-    show_unescaped_in_room, show_value, show_weight_of, show_weights, show_with_boundary,
-    show_with_charset, show_with_parameter, shown,
+    show_content_type_in_latin_1, show_counting_bad, show_covers, show_order, show_ranking,
+    show_text, show_unescaped, show_unescaped_in_room, show_value, show_weight_of, show_weights,
+    show_with_boundary, show_with_charset, show_with_parameter, show_without_bad, shown,
 };
 use crate::items::{show_again, show_items, show_list};
 use crate::recipes::{
-    show_accepts_html, show_bare_of, show_body_parts, show_caret_line, show_chosen, show_counts,
-    show_described, show_disposition, show_disposition_of, show_explained, show_file_name,
-    show_form_with, show_handler_of, show_has_param, show_in_order, show_is_compressible,
-    show_is_json, show_is_plain, show_may_delimit, show_page_in, show_quality_of, show_received,
-    show_status, show_takes, show_type_for, show_type_of_file, show_vendor_json, show_whether,
+    show_accepts_html, show_bare_of, show_body_parts, show_caret_below, show_caret_line,
+    show_chosen, show_counts, show_described, show_disposition, show_disposition_of,
+    show_explained, show_file_name, show_form_with, show_handler_of, show_has_param, show_in_order,
+    show_is_compressible, show_is_json, show_is_plain, show_may_delimit, show_page_in,
+    show_quality_of, show_received, show_status, show_takes, show_type_for, show_type_of_file,
+    show_vendor_json, show_whether,
 };
 use crate::relations::{show_against, show_compared, show_names, show_pair, show_sets};
 use crate::short::show_short_verdicts;
@@ -104,8 +105,11 @@ fn show_of_headers(alloc: Global, out: &mut String, word: &str, strings: &[Strin
         "content_type" => show_value(out, content_type(alloc, one.as_bytes())),
         "content_type in Latin-1" => show_content_type_in_latin_1(alloc, out, one),
         "covers" => show_covers(alloc, out, one, two),
+        "from_line_counting_bad" => show_counting_bad(alloc, out, one),
+        "from_lines_without_bad" => show_without_bad(alloc, out, one),
         "is_boundary" => show(out, &is_boundary(one.as_bytes())),
         "order" => show_order(alloc, out, strings),
+        "rank_offers" => show_ranking(alloc, out, strings),
         "trimmed" => show_text(out, Some(shown(trimmed(one.as_bytes())))),
         "unescape" => show_unescaped(alloc, out, one, two),
         "unescape in room" => show_unescaped_in_room(alloc, out, one, two),
@@ -127,6 +131,7 @@ fn show_of_recipes(rt: &HostRuntime, out: &mut String, word: &str, strings: &[St
     match word {
         "accepts_html" => show_accepts_html(alloc, out, one),
         "bare_of" => show_bare_of(alloc, out, one),
+        "caret_below" => show_caret_below(alloc, out, one),
         "caret_line" => show_caret_line(alloc, out, one),
         "chosen" => show_chosen(alloc, out, strings),
         "count" => show_counts(rt, out, strings),

@@ -1,46 +1,57 @@
 -- Each range is written after those before it, and each answer is what it says.
 use Rattle.std.proofs.Common.{◌≡◌, ℕ, ◌+◌, ◌<◌, ◌≤◌, get_or, List, [], ◌∷◌, ◌++◌, length, map, drop, sym, ap, ◌∙◌, subst, arith, IsOk}
 use Rattle.std.proofs.lemmas.Bool.{true≢false}
-use Rattle.std.proofs.lemmas.List.{length-map, drop_more, drop_all}
+use Rattle.std.proofs.lemmas.List.{drop_more, drop_all}
 use Rattle.mime.specs.Values.{OwnedMedia}
+use Rattle.mime_http.specs.HttpList.{Header}
 use Rattle.mime_c.specs.Strings.{strings}
-use Rattle.mime_c.specs.HeaderAnswers.{range_texts, ranges_texts, are_ranges, ranges_have_no_memory, ranges_have_no_room}
+use Rattle.mime_c.specs.Answers.{has_room, has_no_room}
+use Rattle.mime_c.specs.HeaderAnswers.{range_texts, ranges_texts, are_ranges, ranges_have_no_memory}
 use Rattle.mime_c.proofs.Writing.{Leaves, leaves-holds, leaves-last, strings_of_ranges}
 use Rattle.mime_c.proofs.HeaderRoom.{ranges_fit, ranges_come_back}
 use Rattle.mime_c.proofs.mime_accept.Goals as goal
 
--- the strings of ranges
+-- The strings of ranges.
 abbrev all_of : List OwnedMedia → List ℕ
 all_of ranges = strings (ranges_texts (map (λ range. range.media) ranges))
 
--- those of the next come first
+-- The strings of the next range come first.
 first_of : (ranges : List OwnedMedia) (i : ℕ) (range : OwnedMedia) → i < length ranges → range ≡ get_or ranges i range
     → all_of (drop i ranges) ≡ strings (range_texts range.media) ++ all_of (drop (i + 1) ranges)
 first_of ranges i range more is =
     ap all_of (drop_more ranges i range more ∙ ap (λ it. it ∷ drop (i + 1) ranges) (sym is)) ∙ strings_of_ranges range.media _
 
 pub returns-then-out-text : goal.returns-then-out-text
-returns-then-out-text c = ranges_have_no_room (omega (arith, c.if-out-text.true))
+returns-then-out-text c = has_no_room (omega (arith, c.if-out-text.true))
 
 pub returns-in_default : goal.returns-in_default
 returns-in_default c =
-    ranges_have_no_memory (omega (arith, c.if-out-text.false)) (λ none. true≢false (sym (subst IsOk c.in_default.is (c.from_lines.ensures.nothing none))))
+    has_room _ _ (omega (arith, c.if-out-text.false))
+    (ranges_have_no_memory (λ none. true≢false (sym (subst IsOk c.in_default.is (c.from_line_counting_bad.ensures.nothing none)))))
 
 pub put_range-at-requires : goal.put_range-at-requires
 put_range-at-requires c =
     let ranges = c.ranges-range-items.ensures in
-    let fit = ranges_fit c.args.text.now c.in-Ok.accept c.in-Ok.ensures.header in
+    let header = c.in-Ok.ensures.header in
+    let fit = ranges_fit c.args.text.now header.0 header.1 in
     let room : length (all_of c.ranges-range-items.result.now) ≤ length c.args.out.now =
-    omega (arith, fit, ap (λ all. length (strings (ranges_texts all))) ranges, c.if-out-text.false) in
+    omega (
+      arith,
+      fit,
+      ap (λ all. length (strings (ranges_texts all)))
+          (ranges ∙ ap (λ (it : Header). it.ranges) header.2),
+      c.if-out-text.false,
+    ) in
     leaves-holds c.loop-range.invariant (strings (range_texts c.range-item.result.media)) _
     (first_of c.ranges-range-items.result.now c.loop-range.range-index c.range-item.result c.loop-range-test.true c.range-item.is) room
 
 pub returns : goal.returns
 returns c =
-    let header = c.in-Ok.accept in
+    let header = c.in-Ok.ensures.header in
     let ranges = c.ranges-range-items.result.now in
-    let none : all_of (drop c.loop-range.range-index ranges) ≡ [] = ap all_of (drop_all c.loop-range.range-index ranges (omega (arith, c.loop-range-test.false))) in
-    let wrote = leaves-last (subst (λ left. Leaves c.args.out.now c.loop-range.out c.loop-range.at left (all_of ranges)) none c.loop-range.invariant) in
-    let bad : length c.bad.result.now ≡ length header.bad = sym (length-map c.bad.result.now _) ∙ ap length c.bad.ensures in
-    rw (wrote.there, wrote.end, bad, c.ranges-range-items.ensures)
-    (are_ranges header (omega (arith, c.if-out-text.false)) c.in-Ok.ensures.header (ranges_come_back _ header c.in-Ok.ensures.header))
+    let none : all_of (drop c.loop-range.range-index ranges) ≡ [] = ap all_of
+    (drop_all c.loop-range.range-index ranges (omega (arith, c.loop-range-test.false))) in
+    let wrote = leaves-last (subst (λ left. Leaves c.args.out.now c.loop-range.out c.loop-range.at left
+    (all_of ranges)) none c.loop-range.invariant) in
+    rw (wrote.there, wrote.end, header.3, c.ranges-range-items.ensures ∙ ap (λ (it : Header). it.ranges) header.2)
+    (has_room _ _ (omega (arith, c.if-out-text.false)) (are_ranges header.0 header.1 (ranges_come_back _ header.0 header.1)))

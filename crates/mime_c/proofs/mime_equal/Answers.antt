@@ -1,9 +1,23 @@
--- The byte says whether both are read as equal.
-use Rattle.mime_c.proofs.OneOutcome.{compared}
+-- Each answer is what it says.
+use Rattle.std.proofs.Common.{◌≡◌, Bool, true, false, refl}
+use Rattle.std.specs.Prelude.{if◌then◌else◌}
+use mir.Val.{bool_byte}
+use Rattle.mime_c.specs.Answers.{is_read, fails, are_compared}
 use Rattle.mime_c.proofs.mime_equal.Goals as goal
+
+-- The byte of a Boolean is 1 or 0.
+byte_of : (is : Bool) → bool_byte is ≡ (if is then 1 else 0)
+byte_of true = refl
+byte_of false = refl
+
+pub returns-in-Err : goal.returns-in-Err
+returns-in-Err c = rw c.number_of_error.ensures (fails _ c.in-Err.ensures.explained)
+
+pub returns-in-Err-read : goal.returns-in-Err-read
+returns-in-Err-read c =
+    rw c.number_of_error-in-Err-read.ensures (is_read _ _ _ c.in-Ok.ensures.read (fails _ c.in-Err-read.ensures.explained))
 
 pub returns : goal.returns
 returns c =
-    let one = c.in-Ok.ensures.read in
-    let other = c.in-Ok-read.ensures.read in
-    compared _ _ _ _ c.eq.result _ one.0 other.0 one.1 other.1 c.eq.ensures.same c.from.ensures
+    rw (c.from.ensures, byte_of c.eq.result)
+    (is_read _ _ _ c.in-Ok.ensures.read (is_read _ _ _ c.in-Ok-read.ensures.read (are_compared c.eq.result c.eq.ensures.same)))

@@ -2,15 +2,17 @@
 use Rattle.std.proofs.Common.{rules, arith, ℕ, List, sym, subst}
 use Rattle.std.specs.Vec.{vec_items}
 use Rattle.mime_http.specs.Boundary.{IsBoundaryOf}
-use Rattle.mime_c.specs.ParameterAnswers.{boundary_is, has_no_boundary, has_no_type, boundary_has_no_memory, boundary_has_no_room}
+use Rattle.mime_c.specs.Answers.{has_room, has_no_room, is_read, fails}
+use Rattle.mime_c.specs.ParameterAnswers.{boundary_is, has_no_boundary, boundary_has_no_memory}
 use Rattle.mime_c.proofs.ParameterRoom.{boundary_comes_back}
 use Rattle.mime_c.proofs.parameter.mime_boundary.Goals as goal
 
 pub returns-then-out-lt-BOUNDARY_ROOM : goal.returns-then-out-lt-BOUNDARY_ROOM
-returns-then-out-lt-BOUNDARY_ROOM c = boundary_has_no_room (omega (arith, c.if-out-lt-BOUNDARY_ROOM.true))
+returns-then-out-lt-BOUNDARY_ROOM c = has_no_room (omega (arith, c.if-out-lt-BOUNDARY_ROOM.true))
 
 pub returns-in-Err : goal.returns-in-Err
-returns-in-Err c = rw c.number_of_error.ensures (has_no_type _ (omega (arith, c.if-out-lt-BOUNDARY_ROOM.false)) c.in-Err.ensures.explained)
+returns-in-Err c = rw c.number_of_error.ensures (has_room _ _ (omega (arith, c.if-out-lt-BOUNDARY_ROOM.false))
+    (fails _ c.in-Err.ensures.explained))
 
 pub returns-in-Ok-Some : goal.returns-in-Ok-Some
 returns-in-Ok-Some c =
@@ -18,15 +20,18 @@ returns-in-Ok-Some c =
     let is : IsBoundaryOf c.in-Ok.mime.media (vec_items c.in-Ok-Some.found) = search rules in
     let found = subst (IsBoundaryOf c.in-Ok.mime.media) (sym c.deref.ensures.value) is in
     rw (c.put_string.ensures.bytes, c.put_string.ensures.size)
-    (boundary_is c.in-Ok.mime.media _ (omega (arith, c.if-out-lt-BOUNDARY_ROOM.false)) http.0 http.1 found (boundary_comes_back _ found.is))
+    (has_room _ _ (omega (arith, c.if-out-lt-BOUNDARY_ROOM.false))
+    (is_read _ _ _ (http.0, http.1, c.in-Ok.ensures.kept) (boundary_is _ found (boundary_comes_back _ found.is))))
 
 pub returns-in-Ok-None : goal.returns-in-Ok-None
 returns-in-Ok-None c =
     let http = c.in-Ok.ensures.http in
     let none : (boundary : List ℕ) → ¬ (IsBoundaryOf c.in-Ok.mime.media boundary) = search rules in
-    has_no_boundary c.in-Ok.mime.media (omega (arith, c.if-out-lt-BOUNDARY_ROOM.false)) http.0 http.1 none
+    has_room _ _ (omega (arith, c.if-out-lt-BOUNDARY_ROOM.false))
+    (is_read _ _ _ (http.0, http.1, c.in-Ok.ensures.kept) (has_no_boundary none))
 
 pub returns : goal.returns
 returns c =
     let http = c.in-Ok.ensures.http in
-    boundary_has_no_memory (omega (arith, c.if-out-lt-BOUNDARY_ROOM.false)) http.0 (c.in-Ok.mime.media, http.1)
+    has_room _ _ (omega (arith, c.if-out-lt-BOUNDARY_ROOM.false))
+    (is_read _ _ _ (http.0, http.1, c.in-Ok.ensures.kept) boundary_has_no_memory)

@@ -5,11 +5,12 @@ use Rattle.mime.specs.Grammar.{IsToken}
 use Rattle.mime.specs.HeaderLaws.{AreHeaderBytes}
 use Rattle.mime.specs.Values.{MediaType, Reads}
 use Rattle.mime_c.specs.Strings.{ComeBack}
-use Rattle.mime_c.specs.ParameterAnswers.{room_with, IsParameter, with_parameter, is_set, isnt_parameter, isnt_type, set_has_no_memory, set_has_no_room}
+use Rattle.mime_c.specs.Answers.{has_room, has_no_room, is_read, fails}
+use Rattle.mime_c.specs.ParameterAnswers.{room_with, IsParameter, with_parameter, is_set, isnt_parameter, set_has_no_memory}
 use Rattle.mime_c.proofs.ParameterRoom.{set_fits, set_comes_back}
 use Rattle.mime_c.proofs.parameter.mime_set_parameter.Goals as goal
 
--- a media type that was made is the one with the parameter
+-- A media type that was made is the one with the parameter.
 made_is : (media : MediaType) {made : MediaType} {name value its_name its_value : List ℕ} → name ≡ its_name → value ≡ its_value
     → made ≡ with_parameter media name value → made ≡ with_parameter media its_name its_value
 made_is media {made} {name} {value} {its_name} named valued is =
@@ -17,21 +18,23 @@ made_is media {made} {name} {value} {its_name} named valued is =
 
 pub returns-then-not-has_room : goal.returns-then-not-has_room
 returns-then-not-has_room c =
-    set_has_no_room (⊎_elim (λ short. short) (λ room. absurd (true≢false (sym (c.if-not-has_room.ensures.1 room))))
+    has_no_room (⊎_elim (λ short. short) (λ room. absurd (true≢false (sym (c.if-not-has_room.ensures.1 room))))
     (cases_lt (length c.args.out.now) (room_with c.args.text.now c.args.name.now c.args.value.now)))
 
 pub returns-in-Err : goal.returns-in-Err
-returns-in-Err c = rw c.number_of_error.ensures (isnt_type _ (c.if-not-has_room.ensures.0 refl) c.in-Err.ensures.explained)
+returns-in-Err c = rw c.number_of_error.ensures (has_room _ _ (c.if-not-has_room.ensures.0 refl) (fails _ c.in-Err.ensures.explained))
 
 pub returns-in_default : goal.returns-in_default
 returns-in_default c =
     let http = c.in-Ok.ensures.http in
-    isnt_parameter c.in-Ok.mime.media (c.if-not-has_room.ensures.0 refl) http.0 http.1 (λ is. c.in_default.ensures.cases.0 is.name_utf8)
+    has_room _ _ (c.if-not-has_room.ensures.0 refl) (is_read _ _ _ (http.0, http.1, c.in-Ok.ensures.kept)
+    (isnt_parameter (λ is. c.in_default.ensures.cases.0 is.name_utf8)))
 
 pub returns-in_default-text_of : goal.returns-in_default-text_of
 returns-in_default-text_of c =
     let http = c.in-Ok.ensures.http in
-    isnt_parameter c.in-Ok.mime.media (c.if-not-has_room.ensures.0 refl) http.0 http.1 (λ is. c.in_default-text_of.ensures.cases.0 is.value_utf8)
+    has_room _ _ (c.if-not-has_room.ensures.0 refl) (is_read _ _ _ (http.0, http.1, c.in-Ok.ensures.kept)
+    (isnt_parameter (λ is. c.in_default-text_of.ensures.cases.0 is.value_utf8)))
 
 pub put_string-requires : goal.put_string-requires
 put_string-requires c =
@@ -63,22 +66,24 @@ returns-in-Ok-Some c =
       named = subst IsToken name.0 both.0;
       safe = subst AreHeaderBytes value.0 both.1;
     } in
-    let reads : Reads c.in-Ok-Some.made.media.kept c.in-Ok-Some.made.media = subst (λ it. Reads it c.in-Ok-Some.made.media) c.as_str.ensures.text c.as_str.ensures.reads in
+    let reads : Reads c.in-Ok-Some.made.media.kept c.in-Ok-Some.made.media = subst
+    (λ it. Reads it c.in-Ok-Some.made.media) c.as_str.ensures.text c.as_str.ensures.reads in
     let back = set_comes_back c.in-Ok-Some.made.media reads in
     rw (c.put_string.ensures.bytes, c.put_string.ensures.size, text, is)
-    (is_set media (c.if-not-has_room.ensures.0 refl) http.0 http.1 parameter (subst (λ (it : MediaType). ComeBack (it.kept ∷ [])) is back))
+    (has_room _ _ (c.if-not-has_room.ensures.0 refl) (is_read media _ _ (http.0, http.1, c.in-Ok.ensures.kept)
+    (is_set parameter (subst (λ (it : MediaType). ComeBack (it.kept ∷ [])) is back))))
 
 pub returns-in-Ok-None : goal.returns-in-Ok-None
 returns-in-Ok-None c =
     let http = c.in-Ok.ensures.http in
     let name = c.in-Ok-text_of.ensures.cases in
     let value = c.in-Ok-text_of-2.ensures.cases in
-    isnt_parameter c.in-Ok.mime.media (c.if-not-has_room.ensures.0 refl) http.0 http.1
-    (λ is.
+    has_room _ _ (c.if-not-has_room.ensures.0 refl) (is_read _ _ _ (http.0, http.1, c.in-Ok.ensures.kept)
+    (isnt_parameter (λ is.
     let some = c.in-Ok-None.ensures.exact.1 (subst IsToken (sym name.0) is.named, subst AreHeaderBytes (sym value.0) is.safe) in
-    absurd (true≢false (sym some ∙ ap is_some c.in-Ok-None.field-0-is)))
+    absurd (true≢false (sym some ∙ ap is_some c.in-Ok-None.field-0-is)))))
 
 pub returns : goal.returns
 returns c =
     let http = c.in-Ok.ensures.http in
-    set_has_no_memory (c.if-not-has_room.ensures.0 refl) http.0 (c.in-Ok.mime.media, http.1)
+    has_room _ _ (c.if-not-has_room.ensures.0 refl) (is_read _ _ _ (http.0, http.1, c.in-Ok.ensures.kept) set_has_no_memory)

@@ -4,7 +4,7 @@ use Rattle.mime.specs.Values.{MediaType, Reads, IsAccepted}
 use Rattle.mime.specs.Laws.{EssenceIsRead, without_parameters}
 use Rattle.mime_examples.proofs.bare.bare_of.Goals as goal
 
--- the essence is read as the value without its parameters
+-- The essence is read as the value without its parameters.
 bare_is_read : {kept essence : List ℕ} {value : MediaType} → EssenceIsRead → Reads kept value → essence ≡ value.essence
     → Reads essence (without_parameters value)
 bare_is_read {value = value} law read same = subst (λ text. Reads text (without_parameters value)) (sym same) (law _ _ read)

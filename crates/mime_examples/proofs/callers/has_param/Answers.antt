@@ -3,7 +3,7 @@ use Rattle.std.proofs.Common.{◌≡◌, ◌∙◌, refl, Option, Some, None, is
 use Rattle.std.specs.Option.{option_map}
 use Rattle.mime_examples.proofs.callers.has_param.Goals as goal
 
--- mapping an option keeps whether it has a value
+-- Mapping an option keeps whether it has a value.
 is_some-option_map : {X Y : Type 0} (f : X → Y) (o : Option X) → is_some o ≡ is_some (option_map f o)
 is_some-option_map f None = refl
 is_some-option_map f (Some x) = refl

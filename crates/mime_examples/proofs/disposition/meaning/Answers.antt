@@ -1,12 +1,11 @@
 -- The value that was found, and what it means.
-use Rattle.std.proofs.Common.{◌∙◌, ◌++◌, Some, ap, sym}
-use Rattle.mime_http.specs.Unescaped.{unescaped}
+use Rattle.std.proofs.Common.{◌∙◌, Some, ap, append-nil, sym}
+use Rattle.mime_examples.specs.Disposition.{unescaped_name}
 use Rattle.mime_examples.proofs.disposition.meaning.Goals as goal
 
 pub returns : goal.returns
 returns c =
-    let means = ap (λ items. items ++ unescaped c.as_str.result.now) c.new-meaning.ensures.items ∙ ap unescaped c.as_str.ensures in (
-      Some (c.in-Some.value.text.now, c.in-Some.value.ignores_case),
-      c.in-Some.ensures.found,
-      ap Some (sym (c.in_ok-unescape.ensures.meant ∙ means)),
-    )
+    let means =
+    rw (c.in_default-split_first.ensures.meant, append-nil) at c.loop-byte.invariant
+    ∙ ap unescaped_name (c.as_bytes-left.ensures.value ∙ c.as_str.ensures) in
+    (Some (c.in-Some.value.text.now, c.in-Some.value.ignores_case), c.in-Some.ensures.found, ap Some (sym means))

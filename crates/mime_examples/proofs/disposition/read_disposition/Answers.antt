@@ -7,7 +7,7 @@ use Rattle.mime_http.specs.HttpMediaType.{HttpReads}
 use Rattle.mime_examples.specs.Disposition.{FirstMeans}
 use Rattle.mime_examples.proofs.disposition.read_disposition.Goals as goal
 
--- if a key finds no item, it finds none
+-- If a key finds no item, it finds none again.
 none_stays : (Accepts : List ℕ → Bool → Type 0) (items : List Item) (found : Option (List ℕ × Bool)) → IsFirstAccepted Accepts items None
     → IsFirstAccepted Accepts items found → found ≡ None
 none_stays Accepts [] found none first = first
@@ -16,8 +16,9 @@ none_stays Accepts (item ∷ items) found none first =
     λ is. none-some _ (none.0 is) in
     none_stays Accepts items found (none.1 other) (first.1 other)
 
--- so a parameter that isn't there means nothing
-means_nothing : (pairs : List (List ℕ × List ℕ)) (name meaning : List ℕ) → FirstMeans pairs name None → ¬ (FirstMeans pairs name (Some meaning))
+-- A parameter that isn't there means nothing.
+means_nothing : (pairs : List (List ℕ × List ℕ)) (name meaning : List ℕ) → FirstMeans pairs name None
+    → ¬ (FirstMeans pairs name (Some meaning))
 means_nothing pairs name meaning (Some value, first, is) some = cc
 means_nothing pairs name meaning (None, none, is) (None, first, other) = cc
 means_nothing pairs name meaning (None, none, is) (Some value, first, other) =

@@ -10,14 +10,14 @@ use Rattle.mime_examples.specs.Multipart.{EndsLine}
 use Rattle.mime_examples.proofs.multipart.after_delimiter.Goals as goal
 use Rattle.mime_examples.proofs.multipart.after_delimiter.Goals.{else-at-gt0-via-then-at-gt0+else-body-at-ne10, else-at-gt0-via-else-at-gt0}
 
--- what is stripped at the start of a line
+-- What is stripped at the start of a line is what follows the delimiter there.
 at_line : (text rest delimiter : List ℕ) (Line : Type 0) (found : Option (Bor (List ℕ))) → rest ≡ text → Line
     → MatchOption found ((after : List ℕ) → rest ≢ delimiter ++ after) (λ after. rest ≡ delimiter ++ after.now)
     → MatchOption found ((after : List ℕ) → Line → text ≢ delimiter ++ after) (λ after. Line × (text ≡ delimiter ++ after.now))
 at_line text rest delimiter Line None same line none = λ after _ is. none after (same ∙ is)
 at_line text rest delimiter Line (Some after) same line is = (line, sym same ∙ is)
 
--- a line begins after a line feed, and at the start
+-- A line begins after a line feed.
 after_feed : (body : List ℕ) (at : ℕ) → at ≤ length body → 0 < at → get_or body (at - 1) 0 ≡ 10
     → slice_get (take at body) (length (take at body) - 1) ≡ Some 10
 after_feed body at within some is =
@@ -25,8 +25,9 @@ after_feed body at within some is =
     let there : get_or (take at body) (at - 1) 0 ≡ get_or body (at - 1) 0 = grind (arith, common_steps) in
     rw long (slice_get-get_or (take at body) (at - 1) 0 (omega (arith, long)) ∙ ap Some (there ∙ is))
 
-at_start : (body : List ℕ) (at : ℕ) → at ≤ 0 → take at body ≡ []
-at_start body at none = let is : at ≡ 0 = omega arith in rw is refl
+-- Nothing stands before the start of a body.
+none_before_start : (body : List ℕ) (at : ℕ) → at ≤ 0 → take at body ≡ []
+none_before_start body at none = let is : at ≡ 0 = omega arith in rw is refl
 
 pub returns : goal.returns
 returns c =
@@ -35,7 +36,7 @@ returns c =
     let rest = take (length body - at) (drop at body) in
     let line : EndsLine (take at body) = elim c.else-at-gt0.branch [
       | else-at-gt0-via-then-at-gt0+else-body-at-ne10 w ↦ λ _. after_feed body at c.requires w.if-at-gt0.true w.if-body-at-ne10.false
-      | else-at-gt0-via-else-at-gt0 w ↦ λ some. absurd (some (at_start body at w.if-at-gt0.false))
+      | else-at-gt0-via-else-at-gt0 w ↦ λ some. absurd (some (none_before_start body at w.if-at-gt0.false))
     ] in
     at_line (drop at body) rest c.args.delimiter.now (EndsLine (take at body)) c.strip_prefix.result (take_rest body at) line
     (strip_prefix_is Decides-eqb rest c.args.delimiter.now c.strip_prefix.result c.strip_prefix.ensures.cases)

@@ -9,7 +9,7 @@ use Rattle.mime_examples.specs.declared.disposition.Disposition.{Disposition}
 use Rattle.mime_examples.specs.Multipart.{IsFirstField}
 use Rattle.mime_examples.proofs.multipart.disposition_of.Goals as goal
 
--- what is read of a value is read of the first field
+-- What is read of the first field's value is read of the part.
 of_first : {A : Type 0} {label part : List ℕ} (value : List ℕ) (name_of : A → List ℕ) (file_of : A → Option (List ℕ)) (answer : Option A)
     → IsFirstField label part (Some value)
     → MatchOption answer ((name : List ℕ) (file : Option (List ℕ)) → ¬ (IsDisposition value name file))
@@ -24,6 +24,6 @@ of_first value name_of file_of (Some found) first is = (Some value, first, (valu
 pub returns-in-Some : goal.returns-in-Some
 returns-in-Some c =
     IfOk-weaker _ _ _
-    (λ answer is. of_first c.in-Some.value.now (λ (found : Disposition). vec_items found.name) (λ found. option_map vec_items found.file_name) answer
-    c.in-Some.ensures is)
+    (λ answer is. of_first c.in-Some.value.now (λ (found : Disposition). vec_items found.name)
+    (λ found. option_map vec_items found.file_name) answer c.in-Some.ensures is)
     c.read_disposition.ensures

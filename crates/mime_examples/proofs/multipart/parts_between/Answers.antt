@@ -8,17 +8,18 @@ use Rattle.std.proofs.lemmas.Slice.Eq.{starts_is}
 use Rattle.mime_examples.specs.Multipart.{Closes, IsCutOff, AreParts, closed, cut_off, a_part, IsBody, no_delimiter, after_preamble}
 use Rattle.mime_examples.proofs.multipart.parts_between.Goals as goal
 
--- a part that is added
+-- A part that is added is the last.
 added : (parts : List (Bor (List ℕ))) (part : Bor (List ℕ)) (more : List (List ℕ))
     → map (λ part. part.now) parts ++ (part.now ∷ more) ≡ map (λ part. part.now) (parts ++ (part ∷ [])) ++ more
 added [] part more = refl
 added (first ∷ parts) part more = ap (λ it. first.now ∷ it) (added parts part more)
 
--- after the last part a delimiter closes the body, or not
+-- After the last part a delimiter closes the body, or the body is cut off.
 ended : (delimiter left : List ℕ) (closes : Bool) → closes ≡ starts_with nat_eq left (codes "--") → Closes left ⊎ IsCutOff delimiter left
     → AreParts delimiter left [] closes
 ended delimiter left true is end = closed left (drop 2 left, (starts_is Decides-eqb left (codes "--") true is).0 refl)
-ended delimiter left false is (inl closes) = absurd (true≢false (sym ((starts_is Decides-eqb left (codes "--") false is).1 closes.0 closes.1)))
+ended delimiter left false is (inl closes) =
+    absurd (true≢false (sym ((starts_is Decides-eqb left (codes "--") false is).1 closes.0 closes.1)))
 ended delimiter left false is (inr off) = cut_off left off
 
 pub returns-in-None : goal.returns-in-None
@@ -28,7 +29,8 @@ returns-in-None c =
 
 pub loop-part-init : goal.loop-part-init
 loop-part-init c = λ more is_whole are.
-    subst (λ items. IsBody c.args.delimiter.now c.args.body.now (map (λ part. part.now) items ++ more) is_whole) (sym c.new-parts.ensures.items)
+    subst (λ items. IsBody c.args.delimiter.now c.args.body.now (map (λ part. part.now) items ++ more) is_whole)
+    (sym c.new-parts.ensures.items)
     (after_preamble c.args.body.now c.in-Some.field-0-0.now c.in-Some.after.now more is_whole c.in-Some.ensures.cut are)
 
 pub loop-part-preserved : goal.loop-part-preserved

@@ -10,23 +10,24 @@ use Rattle.mime_examples.specs.Multipart.{EndsLine, IsPart, no_line, with_return
 use Rattle.mime_examples.proofs.Places.{divided}
 use Rattle.mime_examples.proofs.multipart.without_end.Goals as goal
 
--- the part before a line feed, with or without a carriage return
+-- The part ends before a line feed, and before a carriage return in front of it.
 before_feed : (before : List ℕ) (part : Bor (List ℕ)) (found : Option (Bor (List ℕ))) → before ≡ part.now ++ codes "\n"
     → MatchOption found ((line : List ℕ) → part.now ≢ line ++ codes "\r") (λ line. part.now ≡ line.now ++ codes "\r")
     → IsPart before (unwrap_or found part).now
 before_feed before part None is none = subst (λ text. IsPart text part.now) (sym is) (without_return part.now none)
 before_feed before part (Some line) is found =
-    let both : before ≡ line.now ++ codes "\r\n" = is ∙ ap (λ text. text ++ codes "\n") found ∙ append_assoc line.now (codes "\r") (codes "\n") in
+    let both : before ≡ line.now ++ codes "\r\n" =
+    is ∙ ap (λ text. text ++ codes "\n") found ∙ append_assoc line.now (codes "\r") (codes "\n") in
     subst (λ text. IsPart text line.now) (sym both) (with_return line.now)
 
--- bytes that end with a line feed are others and it
+-- Bytes that end with a line feed are others and it.
 last_feed : (text : List ℕ) → 0 < length text → slice_get text (length text - 1) ≡ Some 10 → text ≡ take (length text - 1) text ++ (10 ∷ [])
 last_feed text some is =
     let at = length text - 1 in
     let end = drop_of_length-le text {i = suc at} (omega arith) in
     divided text at (10 ∷ []) (drop-cons text at 0 (omega arith) ∙ cc (get_or_from_slice_get text at 10 0 is, end))
 
--- without one at the end of a line there is nothing
+-- Bytes without a line feed at their end, before which a line ends, are none.
 nothing : (before : List ℕ) → ((front : List ℕ) → before ≢ front ++ codes "\n") → EndsLine before → IsPart before before
 nothing [] none ends = no_line
 nothing (b ∷ before) none ends = absurd (none _ (last_feed (b ∷ before) (omega arith) (ends (λ is. (let e = is in cc)))))

@@ -5,5 +5,6 @@ use Rattle.mime_http.proofs.offers.order_of.Goals as goal
 
 pub returns-clause-order : goal.returns-clause-order
 returns-clause-order c =
-    let order : IfOk c.collect.result (λ order. vec_items order ≡ map (λ offer. offer.1) (vec_items c.in_ok-ranked.ranked)) = search rules in
+    let order : IfOk c.collect.result (λ order. vec_items order ≡ map (λ offer. offer.1) (vec_items c.in_ok-ranked.ranked)) =
+    search rules in
     IfOk-weaker _ _ _ (λ order. in_order (vec_items order) c.in_ok-ranked.ensures) order

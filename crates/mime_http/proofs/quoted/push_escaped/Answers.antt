@@ -35,19 +35,8 @@ loop-at-preserved c =
           let none : c.loop-at.from ≡ at = omega (arith, seen.least, w.if-from-at.false) in
           rw (w.text-is, none, no_part value at) (sym (append-nil _))
     ] in
-    let pushed : string_bytes c.push-in-loop-at.new.self ≡ (string_bytes c.if-from-at.text ++ (backslash_byte ∷ [])) ++ (get_or value at 0 ∷ []) =
-    grind (
-      arith,
-      c.push.ensures.bytes,
-      c.push.ensures.ascii,
-      c.in_ok-push.was,
-      c.push-in-loop-at.ensures.bytes,
-      c.push-in-loop-at.ensures.ascii,
-      c.in_ok-push-2.was,
-      c.from.ensures,
-      ascii,
-      same,
-    ) in
+    let pushed : string_bytes c.push_str-in-loop-at.new.self ≡ string_bytes c.if-from-at.text ++ (backslash_byte ∷ get_or value at 0 ∷ []) =
+    grind (arith, nat_tests, c.push_str-in-loop-at.ensures, c.in_ok-push_str-2, seen.stop within, same, c.if-bytes-at-eq34) in
     let next = c.special_from-at-in-loop-at in
     let found = rw same at (run_found c.as_bytes-bytes.result.now (at + 1) next.result next.ensures.special) in
     record {

@@ -1,8 +1,0 @@
--- The pieces of the lines from here on are left.
-use Rattle.mime_http.proofs.Common.{drop, lines_or_any, map}
-use Rattle.mime_http.proofs.Takes.{AreLeft, nothing, pieces_of}
-use Rattle.mime_http.proofs.accept.Accept.read.Given as goal
-
-abbrev pub invariant-loop-line : goal.invariant-loop-line
-invariant-loop-line l = AreLeft l.keeps_bad nothing l.accept (pieces_of (lines_or_any (map (λ line. line.now) l.lines)))
-    (pieces_of (map (λ line. line.now) (drop l.line-index l.lines)))
