@@ -126,7 +126,7 @@ def others():
 # The other side rejects these, or takes them for other things.
 OTHERWISE = ("read: pairs \\\"", "walk: pairs \\\"", "read: pairs \\\"a", "walk: pairs \\\"a", "hash: pairs \\\"a",
              "order: pairs \\\"a", "order: parameters, a tab before each", "with_parameter: quotes", "with_parameter: quotes \"a",
-             "with_parameter: a token but for its end",
+             "with_parameter: a token",
              "mime_list: */ over and over", "mime_list: a type of +", "list: semicolons", "content_type: semicolons", "content_type: spaces",
              "content_type: tabs at the end", "content_type: parameters ;p=1 after spaces")
 

@@ -69,6 +69,10 @@ const THERE: &[(&str, Operation)] = &[
         })
     }),
     ("negotiate", |it, rounds| sum(it.texts, rounds, |text| best(text, &it.against).map_or(0, |at| at + 1))),
+    ("best", |it, rounds| {
+        let ranges = ranges(it.texts[0]);
+        sum(it.texts, rounds, |_| merits(&ranges, &it.against).max().map_or(0, |(.., Reverse(at))| at + 1))
+    }),
     ("weight_of", |it, rounds| sum(&it.values, rounds, |range| usize::from(weight_of(range)))),
     ("covers", |it, rounds| sum_of_two(&it.values, &it.against, rounds, |range, offer| covers(range, offer) as usize)),
     ("call_read", read_all),
@@ -82,15 +86,8 @@ const THERE: &[(&str, Operation)] = &[
     }),
     ("call_items", list_all),
     ("call_boundary", |it, rounds| sum(it.texts, rounds, |text| read(text).map_or(0, |mime| boundary_len(&mime)))),
-    ("call_unescape", |it, rounds| {
-        sum(it.texts, rounds, |value| {
-            let mut bytes = value.chars();
-            black_box(
-                std::iter::from_fn(|| bytes.next().map(|it| if it == '\\' { bytes.next().unwrap_or(it) } else { it })).collect::<String>(),
-            )
-            .len()
-        })
-    }),
+    ("unescape", unescape_all),
+    ("call_unescape", unescape_all),
     ("call_set_parameter", |it, rounds| {
         sum(it.texts, rounds, |text| {
             let Some(mime) = read(text) else { return 0 };
@@ -106,6 +103,14 @@ const THERE: &[(&str, Operation)] = &[
 
 fn read_all(it: &Read, rounds: usize) -> usize {
     sum(it.texts, rounds, |text| read(text).map_or(0, |mime| mime.as_ref().len()))
+}
+
+fn unescape_all(it: &Read, rounds: usize) -> usize {
+    sum(it.texts, rounds, |value| {
+        let mut bytes = value.chars();
+        let meant = std::iter::from_fn(|| bytes.next().map(|it| if it == '\\' { bytes.next().unwrap_or(it) } else { it }));
+        black_box(meant.collect::<String>()).len()
+    })
 }
 
 fn list_all(it: &Read, rounds: usize) -> usize {

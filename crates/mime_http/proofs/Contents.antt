@@ -4,7 +4,7 @@ use Rattle.mime.specs.Bytes.{backslash_byte}
 use Rattle.std.specs.Int.Bits.{or_zero_r}
 use Rattle.mime_http.proofs.{Common.get_or-drop, Common.nat_lt, Common.drop-drop, Common.drop_more, Common.is_stop, Common.slice_range, ReadAt.run_is, ReadAt.run_goes_on}
 use Rattle.mime_search.{specs.Classes.end_of_run, specs.declared.class.Class.Class}
-use Rattle.mime_http.{specs.declared.quoted.Form.TheVariants.Quoted, proofs.Written.token_from_test, specs.declared.parameter.TheConstants.CONTROLS}
+use Rattle.mime_http.{specs.declared.quoted.Form.TheVariants.Quoted, specs.declared.quoted.Form.TheVariants.Escaped, proofs.Common.Some, proofs.Common.None, proofs.Written.token_from_test, specs.declared.parameter.TheConstants.CONTROLS}
 
 -- Bytes of quoted text need no backslash.
 pub plain_text : (bytes : List ℕ) → list_all is_quoted_text_byte bytes ≡ true → escaped bytes ≡ bytes
@@ -140,20 +140,30 @@ pub run_after : (class : ℕ → Bool) → ((b : ℕ) → is_token_byte b ≡ tr
 run_after class wider value plain passed =
     grind (arith, run_goes_on is_token_byte class wider value 0 plain, whole_run class value, passed)
 
--- Searches after a token find whether all bytes may occur in a quoted string, and whether none needs a backslash.
-pub searches_decide : (value : List ℕ) (plain : ℕ) → ((i : ℕ) → get_or value i 0 < 256) → plain ≤ prefix_len is_token_byte value
-    → ((plain + prefix_len (λ b. not (is_stop CONTROLS b)) (drop plain value) == length value) ≡ list_all is_quoted_byte value)
-    × ((plain + prefix_len is_plain (drop plain value) == length value) ≡ list_all is_plain value)
-searches_decide value plain few passed =
-    let rest = quoted_len (drop plain value) (λ i. rw (get_or-drop plain value i) (few (plain + i))) in (
-      grind (arith, rest, run_after is_quoted_byte (λ b is. (and_parts (is_quoted_byte b) _ (token_byte_text b is)).0) value plain passed),
-      run_after is_plain (λ b is. (and_parts (is_quoted_byte b) _ (token_byte_text b is)).1) value plain passed,
-    )
-
 -- Bytes of quoted text are those of a quoted string that need no backslash.
 pub quoted_text : (bytes : List ℕ) → list_all is_quoted_text_byte bytes ≡ (list_all is_quoted_byte bytes && list_all is_plain bytes)
 quoted_text [] = refl
 quoted_text (b ∷ bytes) = grind (arith, nat_tests, quoted_text bytes)
+
+-- The bytes of a value that is a token may occur in a quoted string.
+token_safe : (value : List ℕ) → is_token_value value ≡ true → list_all is_quoted_byte value ≡ true
+token_safe value is = safe_text value (token_text value (token_from_test value is))
+
+-- The run of token bytes, and what two searches find after it, decide the form of a value.
+pub form_found : (value : List ℕ) → ((i : ℕ) → get_or value i 0 < 256) → {plain control special : ℕ} → plain ≡ 0 + prefix_len is_token_byte value
+    → control ≡ plain + prefix_len (λ b. not (is_stop CONTROLS b)) (drop plain value)
+    → special ≡ plain + prefix_len is_plain (drop plain value)
+    → (if plain == length value && nat_lt 0 plain then Some Token else
+    if control == length value then Some (if special == length value then Quoted else Escaped) else None)
+    ≡ (if list_all is_quoted_byte value then Some (form_of value) else None)
+form_found value few {plain} token control special =
+    let passed : plain ≤ prefix_len is_token_byte value = omega (arith, token) in
+    let wider : (b : ℕ) → is_token_byte b ≡ true → (is_quoted_byte b ≡ true) × (is_plain b ≡ true) =
+    λ b is. and_parts (is_quoted_byte b) _ (token_byte_text b is) in
+    let rest = quoted_len (drop plain value) (λ i. rw (get_or-drop plain value i) (few (plain + i))) in
+    let quoted = run_after is_quoted_byte (λ b is. (wider b is).0) value plain passed in
+    let unmarked = run_after is_plain (λ b is. (wider b is).1) value plain passed in
+    grind (arith, nat_tests, token, control, special, rest, quoted, unmarked, token_decides value, token_safe value, quoted_text value)
 
 -- A search for a quote or a backslash passes the bytes that need no backslash.
 plain_len : (class : Class) → ((b : ℕ) → is_stop class b ≡ (b == 34 || b == 92)) → (bytes : List ℕ)

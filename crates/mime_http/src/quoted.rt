@@ -27,27 +27,17 @@ pub fn unescape(value: &str, buffer: &mut Vec<u8>) -> Result<(), AllocError>
     Ok(())
 }
 
-/// Replaces the bytes from `from` on with the bytes that a value means. Returns the position after them.
+/// Replaces bytes from `from` on with the bytes that a value means. Returns the position after them.
 fn unescape_end(bytes: &mut [u8], from: usize, value: &[u8]) -> usize
     requires { from + length value.now ≤ length bytes.old }
     ensures meant { take result bytes.new ≡ take from bytes.old ++ unescaped value.now }
     ensures within { result ≤ length bytes.new }
     ensures long { length bytes.new ≡ length bytes.old }
 {
-    from + unescape_into(value, &mut bytes[from..])
-}
-
-/// Writes the bytes that a parameter's value means (RFC 9110, 5.6.4) to the start of `out`, which must have at least `value.len()` bytes.
-/// Returns the number of bytes written. The other bytes of `out` stay as they are. The value `a\"b` means `a"b`.
-pub fn unescape_into(value: &[u8], out: &mut [u8]) -> usize
-    requires { length value.now ≤ length out.old }
-    ensures written { out.new ≡ unescaped value.now ++ drop result out.old }
-    ensures count { result ≡ length (unescaped value.now) }
-{
     let mut left = value;
-    let mut end = 0;
+    let mut end = from;
     while let Some((byte, rest)) = split_first(left) {
-        out[end] = byte;
+        bytes[end] = byte;
         end += 1;
         left = rest;
     }
@@ -102,7 +92,7 @@ pub(crate) fn push_escaped(text: &mut String, value: &str) -> Result<(), AllocEr
         if from < at {
             text.push_str(&value[from..at])?;
         }
-        text.push_str(if bytes[at] == b'"' { "\\\"" } else { "\\\\" })?;
+        text.push_str(if bytes[at] == b'\\' { "\\\\" } else { "\\\"" })?;
         from = at + 1;
         at = special_from(bytes, from);
     }

@@ -1,16 +1,16 @@
 //! Reads the media type of a header's value from bytes.
 
-ghost use Rattle.std.specs.Prelude.{◌≡◌, ◌≢◌, ◌<◌, ◌≤◌, IsFalse, codes, length, Some, IfOk, IfErr, IfSome, IsOk, MatchResult};
+ghost use Rattle.std.specs.Prelude.{◌≡◌, ◌≢◌, ◌≤◌, codes, length, Some, IfOk, IfErr, IfSome, IsOk, MatchResult};
 ghost use Rattle.std.specs.Fmt.InlineText.{inline_text};
 ghost use Rattle.std.specs.Str.{IsUtf8, IsValidUpTo, valid_up_to};
 ghost use Rattle.mime.specs.Values.{IsAccepted, MediaType};
 ghost use Rattle.mime.specs.Faults.{Explains};
 ghost use Rattle.mime_http.specs.HttpMediaType.{HttpReads, IsHttpMediaType};
-ghost use Rattle.mime_http.specs.HttpList.{trim_end, trimmed, IsPrinted};
+ghost use Rattle.mime_http.specs.HttpList.{trimmed, IsPrinted};
 ghost use Rattle.mime_http.specs.HttpFaults.{HttpExplains, IsHttpFault, fault_position};
 ghost use Rattle.mime_http.specs.HttpPrinted.{not_utf8_text};
 
-use crate::list::{is_space, trim_start};
+use crate::list::{is_space, trim_end, trim_start};
 use crate::reader::write_anew;
 use mime::{Mime, ParseError};
 use std::alloc::{AllocError, Global};
@@ -114,14 +114,6 @@ fn trimmed(text: &str) -> &str
     unsafe { str::from_utf8_unchecked(left) }
 }
 
-/// Returns `true` if the last byte of a text is white space.
-#[tactic(auto, using(crate::proofs::Around::nothing_after))]
-fn ends_in_space(text: &[u8]) -> bool
-    ensures { IsFalse result → trim_end text.now ≡ text.now }
-{
-    !text.is_empty() && is_space(text[text.len() - 1])
-}
-
 /// Returns the fault of a value if it follows from `fault`, which `mime` returns for the trimmed value. A byte at fault for `mime` is at
 /// fault for HTTP, too, unless the byte is white space or a semicolon. A part that is missing for `mime` is missing for HTTP, too, unless
 /// white space follows that can't continue it. This function isn't inlined, so that it uses none of the caller's registers.
@@ -139,14 +131,13 @@ fn same_fault(value: &[u8], fault: ParseError) -> Option<ParseError>
         ParseError::InvalidToken { .. } | ParseError::NoMemory => None,
         // White space doesn't close a quoted string.
         ParseError::MissingQuote => Some(fault),
-        _ if ends_in_space(text) => None,
+        _ if trim_end(text).len() < text.len() => None,
         _ => Some(fault),
     }
 }
 
 /// Reads a value that `mime` rejects by writing it anew into `room`. This allocates only if more than 40 bytes are printed: a block for
 /// them, unless they fit in `room`, and one for the media type.
-#[cycle(rejected)]
 #[inline(never)]
 fn read_into(alloc: Global, value: &str, room: &mut [u8]) -> Result<Mime, FieldError>
     requires other { ¬ (IsAccepted (trimmed value.now)) }
@@ -159,32 +150,16 @@ fn read_into(alloc: Global, value: &str, room: &mut [u8]) -> Result<Mime, FieldE
         Err(fault) => return Err(FieldError::Invalid(fault)),
     };
     if len > room.len() {
-        return read_in_block(alloc, value, len);
+        let Ok(mut text) = vec![in alloc; 0u8; len] else {
+            return Err(FieldError::NoMemory);
+        };
+        return read_into(alloc, value, &mut text);
     }
     // SAFETY: the text that is written anew for a value in UTF-8 is UTF-8.
     let text = unsafe { str::from_utf8_unchecked(&room[..len]) };
     match Mime::from_str(alloc, text) {
         Ok(mime) => Ok(mime),
         Err(_) => Err(FieldError::NoMemory),
-    }
-}
-
-/// Reads a value that is written anew in `len` bytes, which are more than 40.
-#[cycle(rejected)]
-#[inline(always)]
-fn read_in_block(alloc: Global, value: &str, len: usize) -> Result<Mime, FieldError>
-    requires other { ¬ (IsAccepted (trimmed value.now)) }
-    requires long { 40 < len }
-    requires memory { HttpExplains value.now FieldError.NoMemory }
-    ensures http { IfOk result (λ mime. HttpReads value.now mime.media × IsPrinted value.now mime.media) }
-    ensures explained { IfErr result (λ error. HttpExplains value.now error) }
-{
-    let Ok(mut text) = vec![in alloc; 0u8; len] else {
-        return Err(FieldError::NoMemory);
-    };
-    match read_into(alloc, value, &mut text) {
-        Ok(mime) => Ok(mime),
-        Err(error) => Err(error),
     }
 }
 

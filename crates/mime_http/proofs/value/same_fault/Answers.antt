@@ -49,8 +49,9 @@ returns-in-MissingQuote c =
 pub returns-in_default-2 : goal.returns-in_default-2
 returns-in_default-2 c =
     let value = c.args.value.now in
-    let (before, white, first) = split_white value in
-    let none : trimmed value ≡ trim_start value =
-    subst (λ text. trim_end text ≡ text) c.trim_start-text.ensures (c.ends_in_space.ensures c.if-ends_in_space.false) in
-    rw (first, sym none)
-    (same_lack before (trimmed value) c.args.fault white c.in_default.not-NoMemory c.in_default.not-InvalidToken c.requires)
+    let (before, after, white, whole, begin, end) = around_value value in
+    let left = c.trim_end.ensures ∙ ap trim_end c.trim_start-text.ensures in
+    let none : after ≡ [] =
+    nil_from_length after (omega (arith, end, ap length left, ap length c.trim_start-text.ensures, c.if-trim_end-text.false)) in
+    let same : value ≡ before ++ trimmed value = grind (arith, whole, none, append-nil) in
+    rw same (same_lack before (trimmed value) c.args.fault white c.in_default.not-NoMemory c.in_default.not-InvalidToken c.requires)
