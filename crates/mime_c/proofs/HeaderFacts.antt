@@ -10,59 +10,75 @@ use Rattle.mime_c.specs.declared.TheConstants.{MIME_OK, MIME_NO_ROOM, MIME_NOT_A
 use Rattle.mime_c.proofs.HeaderOutcome.{best_is_one}
 use Rattle.mime_c.proofs.OrderOutcome.{order_is_one}
 
--- weights in four digits
+-- Weights are written in four digits.
 weights_written : (four_digits 1000 ≡ codes "1000") × (four_digits 305 ≡ codes "0305") × (four_digits 0 ≡ codes "0000")
 weights_written = (refl, refl, refl)
 
--- the strings of `a/b;q=.5`, and of a range without a parameter
+-- The range `a/b;q=.5`.
 half : MediaType
 half = record { essence = codes "a/b"; slash = 1; plus = None; pairs = (codes "q", codes ".5") ∷ []; kept = codes "a/b;q=.5" }
 
+-- Its strings have its weight, its essence, its parameter and an empty string.
 half_written : strings (range_texts half) ≡ codes "0500" ++ 0 ∷ codes "a/b" ++ 0 ∷ codes "q" ++ 0 ∷ codes ".5" ++ 0 ∷ 0 ∷ []
 unfolding half
 half_written = refl
 
+-- The strings of a range without a parameter have its weight, its essence and an empty string.
 whole_written : strings (range_texts (record half { pairs = [] })) ≡ codes "1000" ++ 0 ∷ codes "a/b" ++ 0 ∷ 0 ∷ []
 unfolding half
 whole_written = refl
 
--- an empty header is one, and none is none
+-- An empty header is one line, and a missing header is none.
 lines_are : (lines_of true [] ≡ [] ∷ []) × (lines_of false (codes "a/b") ≡ [])
 lines_are = (refl, refl)
 
--- for three bytes, ten aren't enough, nor eleven for ranges
-no_room : HeaderReadsTo (codes "A/B") (codes "----------") MIME_NO_ROOM (codes "----------", nothing)
-no_room = has_no_room (omega arith)
+-- Ten bytes aren't enough for a value of three.
+no_room_for_value : HeaderReadsTo (codes "A/B") (codes "----------") MIME_NO_ROOM (codes "----------", nothing)
+no_room_for_value = has_no_room (omega arith)
 
+-- Eleven bytes aren't enough for the ranges of three bytes.
 no_room_for_ranges : AcceptsTo (codes "A/B") (codes "-----------") MIME_NO_ROOM (codes "-----------", 0, 0)
 no_room_for_ranges = has_no_room (omega arith)
 
--- no other answer is given then
-not_read : (held : List ℕ × MimeFound) → ¬ (HeaderReadsTo (codes "A/B") (codes "----------") MIME_OK held)
-not_read held is = search rules
+-- A value isn't read into ten bytes.
+value_not_read : (held : List ℕ × MimeFound) → ¬ (HeaderReadsTo (codes "A/B") (codes "----------") MIME_OK held)
+value_not_read held is = search rules
 
+-- Ranges aren't listed in eleven bytes.
 not_listed : (held : List ℕ × ℕ × ℕ) → ¬ (AcceptsTo (codes "A/B") (codes "-----------") MIME_OK held)
 not_listed held is = search rules
 
--- an empty line has no entry, so of no offers none is acceptable, and nothing else is answered
+-- An empty line has no entry.
 empty : HaveNoEntry ([] ∷ [])
 empty = record { pieces = [] ∷ []; cut = line_end [] [] [] ([], piece_end) no_line; sorted = blank [] [] [] [] refl no_text }
 
+-- Of no offers none is acceptable.
 none_acceptable : BestIs true [] [] MIME_NOT_ACCEPTABLE 0
 none_acceptable = are_offers _ _ _ _ empty empty refl (none_is_best refl)
 
+-- Of no offers none is the best.
 none_best : (at : ℕ) → ¬ (BestIs true [] [] MIME_OK at)
 none_best at is =
     let only = (best_is_one true [] []).4 in
-    absurd (omega (arith, (only MIME_OK at (λ no. omega (arith, no)) is).0, (only MIME_NOT_ACCEPTABLE 0 (λ no. omega (arith, no)) none_acceptable).0))
+    absurd (omega (
+      arith,
+      (only MIME_OK at (λ no. omega (arith, no)) is).0,
+      (only MIME_NOT_ACCEPTABLE 0 (λ no. omega (arith, no)) none_acceptable).0,
+    ))
 
+-- Of no offers none is written in order.
 none_ordered : OrderIs true [] [] [] MIME_NOT_ACCEPTABLE ([], 0)
 none_ordered = are_offers _ _ _ _ empty empty refl (none_is_ordered (record {
   best_first = λ i j d less within. absurd (omega (arith, within));
   all = λ at. (λ is. absurd (omega (arith, is.1)), λ weighs. absurd (omega (arith, weighs)));
 }))
 
+-- No order of no offers is written.
 none_in_order : (held : List ℕ × ℕ) → ¬ (OrderIs true [] [] [] MIME_OK held)
 none_in_order held is =
     let only = (order_is_one true [] [] []).4 in
-    absurd (omega (arith, (only MIME_OK held (λ no. omega (arith, no)) is).0, (only MIME_NOT_ACCEPTABLE _ (λ no. omega (arith, no)) none_ordered).0))
+    absurd (omega (
+      arith,
+      (only MIME_OK held (λ no. omega (arith, no)) is).0,
+      (only MIME_NOT_ACCEPTABLE _ (λ no. omega (arith, no)) none_ordered).0,
+    ))

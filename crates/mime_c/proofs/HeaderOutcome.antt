@@ -1,8 +1,8 @@
 -- `mime_accept` and `mime_best` have one outcome, unless memory runs out.
-use Rattle.std.proofs.Common.{◌≡◌, ◌≢◌, ℕ, ◌⊎◌, inl, inr, Bool, List, [], ◌∷◌, Option, Some, None, length, refl, sym, ap, ◌∙◌, subst, arith, ⊎_elim}
+use Rattle.std.proofs.Common.{◌≡◌, ◌≢◌, ℕ, ◌⊎◌, inl, inr, Bool, List, [], ◌∷◌, Option, Some, None, length, refl, sym, ap, ◌∙◌, subst, arith, ⊎_elim, rules}
 use Rattle.std.specs.Prelude.{MatchOption}
 use Rattle.std.proofs.lemmas.List.{nil_from_length}
-use Rattle.std.proofs.lemmas.Option.{same_Some, none-some}
+use Rattle.std.proofs.lemmas.Option.{same_Some}
 use Rattle.mime.specs.Values.{MediaType}
 use Rattle.mime_http.specs.HttpList.{Header, IsHeader, IsFirstBad}
 use Rattle.mime_http.specs.Ranges.{best_offer}
@@ -10,8 +10,8 @@ use Rattle.mime_http.proofs.HandedOut.{header_of, one_header, one_first_bad}
 use Rattle.mime_c.specs.Strings.{strings, written}
 use Rattle.mime_c.specs.HeaderAnswers.{ranges_texts, AreRanges, are_ranges, ranges_have_no_memory, lines_of, OfOffers, are_offers, an_offer_is_bad, offers_have_no_memory, IsBest, best_is, none_is_best}
 use Rattle.mime_c.specs.Laws.{HasOne, AcceptsToOne, BestIsOne}
-use Rattle.mime_c.specs.declared.TheConstants.{MIME_OK, MIME_NO_MEMORY, MIME_BAD_OFFER, MIME_NOT_ACCEPTABLE}
-use Rattle.mime_c.proofs.OneOutcome.{one_in_room}
+use Rattle.mime_c.specs.declared.TheConstants.{MIME_OK, MIME_NO_MEMORY, MIME_BAD_OFFER}
+use Rattle.mime_c.proofs.OneOutcome.{one_is, one_in_room}
 use Rattle.mime_c.proofs.HeaderRoom.{ranges_come_back}
 
 -- ---- ranges
@@ -59,11 +59,14 @@ pub same_header : {lines : List (List ℕ)} {one two : Header} → IsHeader line
 same_header {lines} {one} {two} is too = one_header lines two one too is
 
 -- A call that reads offers has one outcome if it has one for all ranges and offers.
-module _ {Held : Type 0} (is_there : Bool) (line offers : List ℕ) (failed : ℕ → Held) {Is : List MediaType → List MediaType → ℕ → Held → Type 0}
+module _ {Held : Type 0} (is_there : Bool) (line offers : List ℕ) (failed : ℕ → Held)
+    {Is : List MediaType → List MediaType → ℕ → Held → Type 0}
     (one : (ranges offers : List MediaType) → HasOne (Is ranges offers)) where
+  -- What such a call answers.
   abbrev Outcome : ℕ → Held → Type 0
   Outcome = OfOffers is_there line offers failed Is
 
+  -- A list of good offers has no other outcome.
   only_good : (header offered : Header) → IsHeader (lines_of is_there line) header → IsHeader (offers ∷ []) offered → offered.bad ≡ []
       → (n : ℕ) (held : Held) → n ≢ MIME_NO_MEMORY → Outcome n held
       → (n ≡ (one header.ranges offered.ranges).0) × (held ≡ (one header.ranges offered.ranges).1)
@@ -74,6 +77,7 @@ module _ {Held : Type 0} (is_there : Bool) (line offers : List ℕ) (failed : �
   only_good header offered is of good n held some (an_offer_is_bad at first) = absurd (((one_first_bad _ _ of).1 at first).0 good)
   only_good header offered is of good n held some (offers_have_no_memory none) = absurd (some refl)
 
+  -- A list with a bad offer has no other outcome.
   only_bad : (at : ℕ) → IsFirstBad (offers ∷ []) at → (n : ℕ) (held : Held) → n ≢ MIME_NO_MEMORY → Outcome n held
       → (n ≡ MIME_BAD_OFFER) × (held ≡ failed at)
   only_bad at first n held some (are_offers header offered _ _ is of good has) = absurd (((one_first_bad _ _ of).1 at first).0 good)
@@ -95,23 +99,17 @@ module _ {Held : Type 0} (is_there : Bool) (line offers : List ℕ) (failed : �
 
 -- ---- the best offer
 
-module _ (ranges offers : List MediaType) where
-  only_best : (at : ℕ) → best_offer ranges offers ≡ Some at → (n held : ℕ) → n ≢ MIME_NO_MEMORY → IsBest ranges offers n held
-      → (n ≡ MIME_OK) × (held ≡ at)
-  only_best at found n held some (best_is other there) = (refl, same_Some other at (sym there ∙ found))
-  only_best at found n held some (none_is_best none) = absurd (none-some at (sym none ∙ found))
+-- Two outcomes of a choice are the same.
+same_choice : {ranges offers : List MediaType} {n m at other : ℕ} → IsBest ranges offers n at → IsBest ranges offers m other
+    → (m ≡ n) × (other ≡ at)
+same_choice one two = search (rules, same_Some)
 
-  only_none : best_offer ranges offers ≡ None → (n held : ℕ) → n ≢ MIME_NO_MEMORY → IsBest ranges offers n held
-      → (n ≡ MIME_NOT_ACCEPTABLE) × (held ≡ 0)
-  only_none none n held some (best_is at found) = absurd (none-some at (sym none ∙ found))
-  only_none none n held some (none_is_best too) = (refl, refl)
-
-  -- Ranges and offers have one best offer or none.
-  one_best : HasOne (IsBest ranges offers)
-  one_best = ⊎_elim
-      (λ found. (_, _, (λ same. omega (arith, same)), best_is found.0 found.1, only_best found.0 found.1))
-      (λ none. (_, _, (λ same. omega (arith, same)), none_is_best none, only_none none))
-      (some_or_none (best_offer ranges offers))
+-- Ranges and offers have one best offer or none.
+one_best : (ranges offers : List MediaType) → HasOne (IsBest ranges offers)
+one_best ranges offers = ⊎_elim
+    (λ found. one_is (λ same. omega (arith, same)) (best_is found.0 found.1) (λ n at h k. same_choice))
+    (λ none. one_is (λ same. omega (arith, same)) (none_is_best none) (λ n at h k. same_choice))
+    (some_or_none (best_offer ranges offers))
 
 -- `mime_best` has one outcome.
 pub best_is_one : BestIsOne

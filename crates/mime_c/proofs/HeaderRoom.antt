@@ -20,18 +20,20 @@ use Rattle.mime_c.proofs.Writing.{strings_of_texts, strings_of_range, strings_of
 
 -- ---- parameters
 
+-- A quote is at most one byte.
 length-quote_of : (value : List ℕ) → length (quote_of value) ≤ 1
 length-quote_of value = search rules
 
--- a parameter has at most five bytes more than its name and its value
+-- A parameter has at most five bytes more than its name and its value.
 pub length-pair : (name value : List ℕ) → length (text_of_pair (name, value)) ≤ length name + length value + 5
 length-pair name value = omega (arith, length-quote_of value, length-append {A = ℕ})
 
+-- The strings of a parameter have two bytes more than its name and its value.
 length-strings_of_pair : (name value : List ℕ) (pairs : List (List ℕ × List ℕ))
     → length (strings (pair_texts ((name, value) ∷ pairs))) ≡ length name + length value + 2 + length (strings (pair_texts pairs))
 length-strings_of_pair name value pairs = omega (arith, length-append {A = ℕ})
 
--- those of parameters that pass a test are at most twice as many bytes as the strings of all
+-- Parameters that pass a test are at most twice as many bytes as the strings of all.
 kept_pairs : (test : List ℕ × List ℕ → Bool) (pairs : List (List ℕ × List ℕ)) → AllByRecursion IsSafePair pairs
     → length (text_of_pairs (filter test pairs)) ≤ 2 * length (strings (pair_texts pairs))
 kept_pairs test [] are = omega arith
@@ -39,27 +41,39 @@ kept_pairs test ((name, value) ∷ pairs) (is, are) =
     let more = kept_pairs test pairs are in
     let size = length-strings_of_pair name value pairs in
     let some = token-size name is.0 in
-    by_test (test (name, value)) (name, value) (filter test pairs) (omega (arith, more, size))
-    (omega (arith, more, size, some, length-pair name value, length-append (text_of_pair (name, value)) (text_of_pairs (filter test pairs))))
+    by_kept (test (name, value)) (name, value) (filter test pairs) (omega (arith, more, size))
+    (omega (
+      arith,
+      more,
+      size,
+      some,
+      length-pair name value,
+      length-append (text_of_pair (name, value))
+          (text_of_pairs (filter test pairs)),
+    ))
   where
-    by_test : (kept : Bool) (pair : List ℕ × List ℕ) (others : List (List ℕ × List ℕ)) {most : ℕ} → length (text_of_pairs others) ≤ most
+    -- This holds whether the parameter passes the test or not.
+    by_kept : (kept : Bool) (pair : List ℕ × List ℕ) (others : List (List ℕ × List ℕ)) {most : ℕ} → length (text_of_pairs others) ≤ most
         → length (text_of_pairs (pair ∷ others)) ≤ most → length (text_of_pairs (if kept then pair ∷ others else others)) ≤ most
-    by_test true pair others less more = more
-    by_test false pair others less more = less
+    by_kept true pair others less more = more
+    by_kept false pair others less more = less
 
+-- All parameters pass a test that is always true.
 filter_all : (pairs : List (List ℕ × List ℕ)) → filter (λ pair. true) pairs ≡ pairs
 filter_all [] = refl
 filter_all (pair ∷ pairs) = ap (λ rest. pair ∷ rest) (filter_all pairs)
 
 -- ---- the media type of a value
 
--- the strings of its parameters are at most as many bytes as their text,
-pairs_fit : {bytes : List ℕ} {pairs : List (List ℕ × List ℕ)} → AreHttpParameters bytes pairs → length (strings (pair_texts pairs)) ≤ length bytes
+-- The strings of a value's parameters are at most as many bytes as their text.
+pairs_fit : {bytes : List ℕ} {pairs : List (List ℕ × List ℕ)} → AreHttpParameters bytes pairs
+    → length (strings (pair_texts pairs)) ≤ length bytes
 pairs_fit no_more = omega arith
 pairs_fit (semicolon before after rest pairs wb wa are) = omega (arith, pairs_fit are, length-append {A = ℕ})
 pairs_fit (semicolon_and before after parameter rest pair pairs wb wa is are) =
     omega (arith, pair_fits is, pairs_fit are, length-append {A = ℕ})
   where
+    -- The strings of a parameter are at most one byte more than its text.
     pair_fits : {parameter : List ℕ} {pair : List ℕ × List ℕ} → IsHttpParameter parameter pair
         → length (strings (pair_texts (pair ∷ pairs))) ≤ length parameter + 1 + length (strings (pair_texts pairs))
     pair_fits (with_token name value named valued) = omega (
@@ -78,7 +92,7 @@ pairs_fit (semicolon_and before after parameter rest pair pairs wb wa is are) =
       length-append content (34 ∷ []),
     )
 
--- and with the essence as many as the value,
+-- The essence and the strings of the parameters are at most as many bytes as the value.
 pub sizes_of : (value : List ℕ) (media : MediaType) → HttpReads value media
     → (length media.essence + length (strings (pair_texts media.pairs)) ≤ length value) × (2 < length value)
 sizes_of value media reads =
@@ -104,33 +118,44 @@ sizes_of value media reads =
       omega (arith, spelled, token-size top reads.is_top, token-size sub reads.is_sub, before, first, second),
     )
 
--- which is read of what is written anew
+-- What is written anew for a value is read as its media type.
 pub read_anew : (value : List ℕ) (media : MediaType) → HttpReads value media → (text : List ℕ) × Reads text (with_pairs media media.pairs)
 read_anew value media reads =
     let is = http_is_answered value media reads in
     (text_of_parts is.0, subst (Reads (text_of_parts is.0)) is.2 (written_reads value is.0 is.1))
 
--- its parameters have at most twice as many bytes as their strings
+-- Parameters that are written anew have at most twice as many bytes as the strings of all.
 pub anew_fits : (value : List ℕ) (media : MediaType) → HttpReads value media → (test : List ℕ × List ℕ → Bool)
     → length (text_of_pairs (filter test media.pairs)) ≤ 2 * length (strings (pair_texts media.pairs))
 anew_fits value media reads test =
     let is = read_anew value media reads in kept_pairs test media.pairs (kept_is_safe is.0 (with_pairs media media.pairs) is.1).pairs
 
--- all its strings have at most three times as many bytes as the value, and two
+-- The strings of a value are at most three times as many bytes as the value, and two.
 pub value_fits : (value : List ℕ) (media : MediaType) → HttpReads value media → IsPrinted value media
     → length (strings (texts_of media)) ≤ 3 * length value + 2
 value_fits value media reads printed =
     let parts = strings (parts_of media) in
     let sizes = sizes_of value media reads in
     let texts : length (strings (texts_of media)) ≡ length parts + (length media.kept + 1) =
-    ap length (strings_of_texts media) ∙ length-append parts (string_of media.kept) ∙ ap (λ n. length parts + n) (length-append media.kept (0 ∷ [])) in
-    omega (arith, texts, sizes.0, kept_fits printed, length-append media.essence (0 ∷ []), length-append (media.essence ++ 0 ∷ []) (strings (pair_texts media.pairs)))
+    ap length (strings_of_texts media) ∙ length-append parts (string_of media.kept) ∙ ap (λ n. length parts + n)
+    (length-append media.kept (0 ∷ [])) in
+    omega (
+      arith,
+      texts,
+      sizes.0,
+      kept_fits printed,
+      length-append media.essence (0 ∷ []),
+      length-append (media.essence ++ 0 ∷ [])
+          (strings (pair_texts media.pairs)),
+    )
   where
+    -- A value is no shorter than it is without the white space around it.
     length-trimmed : length (trimmed value) ≤ length value
     length-trimmed =
         let is = white_around value in
         omega (arith, ap length is.4, length-append is.0 (trimmed value ++ is.1), length-append (trimmed value) is.1)
 
+    -- What is printed for a value is at most twice as many bytes.
     kept_fits : IsPrinted value media → length media.kept ≤ 2 * length value
     kept_fits (as_it_stands v m is) = omega (arith, (lengths_of (trimmed value) media is).0, length-trimmed)
     kept_fits (anew v m isnt is) = omega (
@@ -143,7 +168,7 @@ value_fits value media reads printed =
 
 -- ---- the strings of ranges
 
--- those of a range are at most three times as many as its text with a comma
+-- The strings of a range are at most three times as many bytes as its text with a comma.
 range_fits : (text : List ℕ) (range : MediaType) → HttpReads text range → length (strings (range_texts range)) ≤ 3 * (length text + 1)
 range_fits text range reads =
     let sizes = sizes_of text range reads in
@@ -157,17 +182,20 @@ range_fits text range reads =
       length-append (range.essence ++ 0 ∷ []) (strings (pair_texts range.pairs)),
     )
 
--- how many bytes texts are with a comma after each
+-- How many bytes texts are with a comma after each.
 abbrev total : List (List ℕ) → ℕ
 total [] = 0
 total (text ∷ texts) = length text + 1 + total texts
 
-total-cut : {Other Last : List ℕ → Type 0} (lines texts : List (List ℕ)) → AreBetweenCommas Other Last lines texts → total lines ≡ total texts
+-- A line with a comma at its end is as many bytes as its pieces, with a comma after each.
+total-cut : {Other Last : List ℕ → Type 0} (lines texts : List (List ℕ)) → AreBetweenCommas Other Last lines texts
+    → total lines ≡ total texts
 total-cut lines texts no_line = refl
 total-cut lines texts (line_end text others rest last cut) = omega (arith, total-cut others rest cut)
 total-cut lines texts (comma text line others rest other cut) =
     omega (arith, total-cut (line ∷ others) rest cut, length-append text (comma_byte ∷ line))
 
+-- The strings of ranges are at most three times as many bytes as their texts, with a comma after each.
 sorted_fit : (texts : List (List ℕ)) (ranges : List MediaType) (bad : List (List ℕ)) → AreSorted texts ranges bad
     → length (strings (ranges_texts ranges)) ≤ 3 * total texts
 sorted_fit texts ranges bad no_text = omega arith
@@ -177,12 +205,14 @@ sorted_fit texts ranges bad (a_range text range rest others _ utf8 reads _ sorte
     omega (arith, range_fits text range reads, sorted_fit rest others bad sorted, both)
 sorted_fit texts ranges bad (a_bad text rest _ others some isnt sorted) = omega (arith, sorted_fit rest ranges others sorted)
 
--- those of a line's ranges are at most three times as many as the line, and three
-pub ranges_fit : (line : List ℕ) (header : Header) → IsHeader (line ∷ []) header → length (strings (ranges_texts header.ranges)) ≤ 3 * length line + 3
+-- The strings of a line's ranges are at most three times as many bytes as the line, and three.
+pub ranges_fit : (line : List ℕ) (header : Header) → IsHeader (line ∷ []) header
+    → length (strings (ranges_texts header.ranges)) ≤ 3 * length line + 3
 ranges_fit line header is = omega (arith, total-cut (line ∷ []) is.pieces is.cut, sorted_fit is.pieces header.ranges header.bad is.sorted)
 
 -- ---- no text of them has the byte 0
 
+-- No text of a range has the byte 0.
 no_zero-range : (text : List ℕ) (range : MediaType) → HttpReads text range → AllByRecursion HasNoZero (range_texts range)
 no_zero-range text range reads =
     let read = read_anew text range reads in
@@ -190,10 +220,13 @@ no_zero-range text range reads =
     let essence = no_zero-read range.essence (without_parameters media) (essence_is_read read.0 media read.1) in
     (grind (arith, nat_tests), (essence, no_zero-pairs range.pairs [] (kept_is_safe read.0 media read.1).pairs refl))
 
-both_none : (texts others : List (List ℕ)) → AllByRecursion HasNoZero texts → AllByRecursion HasNoZero others → AllByRecursion HasNoZero (texts ++ others)
+-- Two lists of texts without the byte 0 are one list of such texts.
+both_none : (texts others : List (List ℕ)) → AllByRecursion HasNoZero texts → AllByRecursion HasNoZero others
+    → AllByRecursion HasNoZero (texts ++ others)
 both_none [] others none more = more
 both_none (text ∷ texts) others (is, none) more = (is, both_none texts others none more)
 
+-- No text of ranges has the byte 0.
 no_zero-ranges : (texts : List (List ℕ)) (ranges : List MediaType) (bad : List (List ℕ)) → AreSorted texts ranges bad
     → AllByRecursion HasNoZero (ranges_texts ranges)
 no_zero-ranges texts ranges bad no_text = tt
@@ -202,6 +235,6 @@ no_zero-ranges texts ranges bad (a_range text range rest others _ utf8 reads _ s
     both_none (range_texts range) (ranges_texts others) (no_zero-range text range reads) (no_zero-ranges rest others bad sorted)
 no_zero-ranges texts ranges bad (a_bad text rest _ others some isnt sorted) = no_zero-ranges rest ranges others sorted
 
--- the strings of ranges come back
+-- The strings of ranges come back.
 pub ranges_come_back : (lines : List (List ℕ)) (header : Header) → IsHeader lines header → ComeBack (ranges_texts header.ranges)
 ranges_come_back lines header is = come_back (ranges_texts header.ranges) (no_zero-ranges is.pieces header.ranges header.bad is.sorted)

@@ -14,29 +14,33 @@ use Rattle.mime.proofs.HandedOut.{one_fault, rejected-from_fault, Explains-from_
 use Rattle.mime_http.specs.declared.value.FieldError.{FieldError}
 use Rattle.mime_http.specs.declared.value.FieldError.TheVariants.{NotUtf8, Invalid, NoMemory}
 use Rattle.mime_http.proofs.HandedOut.{utf8_or_not}
-use Rattle.mime_c.specs.Strings.{strings, ComeBack, texts_of, written}
-use Rattle.mime_c.specs.Answers.{number_of, number_of_error, found_of_error, found_of, InRoom, has_room, has_no_room, Holds, holds, Of, is_read, fails, TextExplains, AreWritten, are_written, Lists, is_listed, is_not_text, AreCompared, are_compared}
+use Rattle.mime_c.specs.Strings.{ComeBack, texts_of}
+use Rattle.mime_c.specs.Answers.{number_of, number_of_error, found_of_error, InRoom, has_room, has_no_room, Holds, holds, Of, is_read, fails, TextExplains, AreWritten, are_written, AreListed, is_listed, is_not_text, AreCompared, are_compared}
 use Rattle.mime_c.specs.Laws.{HasOne, ReadsToOne, ListsToOne, ComparesAsOne}
 use Rattle.mime_c.specs.declared.MimeFound.{MimeFound}
-use Rattle.mime_c.specs.declared.TheConstants.{MIME_OK, MIME_NO_MEMORY, MIME_NOT_UTF8, MIME_NO_ROOM}
+use Rattle.mime_c.specs.declared.TheConstants.{MIME_OK, MIME_NO_MEMORY, MIME_NO_ROOM}
 use Rattle.mime_c.proofs.NoZero.{texts_come_back, items_come_back}
 
 -- ---- what all calls share
 
+-- An outcome is the one if any other is the same.
+pub one_is : {Held : Type 0} {Is : ℕ → Held → Type 0} {n : ℕ} {held : Held} → n ≢ MIME_NO_MEMORY → Is n held
+    → ((m : ℕ) (other : Held) → n ≢ MIME_NO_MEMORY → m ≢ MIME_NO_MEMORY → Is n held → Is m other → (m ≡ n) × (other ≡ held)) → HasOne Is
+one_is {n = n} {held = held} some is same = (n, held, some, is, λ m other too has. same m other some too is has)
+
 -- A call that succeeds with what it has to hold has one outcome.
 pub one_success : {Held : Type 0} {wanted : Held} → HasOne (Holds wanted)
-one_success {Held} {wanted} = (_, _, (λ same. omega (arith, same)), holds, only)
-  where
-    only : (n : ℕ) (held : Held) → n ≢ MIME_NO_MEMORY → Holds wanted n held → (n ≡ MIME_OK) × (held ≡ wanted)
-    only n held some holds = (refl, refl)
+one_success = (_, _, (λ same. omega (arith, same)), holds, λ n held some is. search rules)
 
 -- A call has one outcome in each buffer if it has one in those that are long enough.
 module _ {Held : Type 0} {least : ℕ} {old : List ℕ} {untouched : Held} {Is : ℕ → Held → Type 0} (one : HasOne Is) where
+  -- A buffer that is too short has no other outcome.
   only_short : length old < least → (n : ℕ) (held : Held) → n ≢ MIME_NO_MEMORY → InRoom least old untouched Is n held
       → (n ≡ MIME_NO_ROOM) × (held ≡ untouched)
   only_short short n held some (has_room _ _ room is) = absurd (omega (arith, short, room))
   only_short short n held some (has_no_room _) = (refl, refl)
 
+  -- A buffer that is long enough has no other outcome.
   only_there : least ≤ length old → (n : ℕ) (held : Held) → n ≢ MIME_NO_MEMORY → InRoom least old untouched Is n held
       → (n ≡ one.0) × (held ≡ one.1)
   only_there room n held some (has_room _ _ _ is) = one.4 n held some is
@@ -59,13 +63,16 @@ pub record IsReading (IsRead : MediaType → Type 0) (Explained : FieldError →
 
 -- A call has one outcome if it reads a media type first and has one outcome for each.
 module _ {Held : Type 0} {IsRead : MediaType → Type 0} {Explained : FieldError → Type 0} {failed : MimeFound → Held}
-    {Is : MediaType → ℕ → Held → Type 0} (reading : IsReading IsRead Explained) (one : (media : MediaType) → IsRead media → HasOne (Is media)) where
+    {Is : MediaType → ℕ → Held → Type 0} (reading : IsReading IsRead Explained) (one : (media : MediaType) → IsRead media
+    → HasOne (Is media)) where
+  -- A media type that is read has no other outcome.
   only_read : (media : MediaType) (is : IsRead media) (n : ℕ) (held : Held) → n ≢ MIME_NO_MEMORY → Of IsRead Explained failed Is n held
       → (n ≡ (one media is).0) × (held ≡ (one media is).1)
   only_read media is n held some (is_read other _ _ too has) =
       (one media is).4 n held some (subst (λ (it : MediaType). Is it n held) (reading.one_media media other is too) has)
   only_read media is n held some (fails error why) = absurd (reading.not_both media error some is why)
 
+  -- An error has no other outcome.
   only_failed : (error : FieldError) → number_of_error error ≢ MIME_NO_MEMORY → Explained error → (n : ℕ) (held : Held) → n ≢ MIME_NO_MEMORY
       → Of IsRead Explained failed Is n held → (n ≡ number_of_error error) × (held ≡ failed (found_of_error error))
   only_failed error h why n held some (is_read media _ _ is has) = absurd (reading.not_both media error h is why)
@@ -80,15 +87,11 @@ module _ {Held : Type 0} {IsRead : MediaType → Type 0} {Explained : FieldError
 
 -- The strings of a media type that come back are written in one way.
 pub one_writing : {old : List ℕ} {media : MediaType} → ComeBack (texts_of media) → HasOne (AreWritten old media)
-one_writing {old} {media} back = (_, _, (λ same. omega (arith, same)), are_written back, only)
-  where
-    only : (n : ℕ) (held : List ℕ × MimeFound) → n ≢ MIME_NO_MEMORY → AreWritten old media n held
-        → (n ≡ MIME_OK) × (held ≡ (written (strings (texts_of media)) old, found_of media))
-    only n held some (are_written _) = (refl, refl)
+one_writing back = (_, _, (λ same. omega (arith, same)), are_written back, λ n held some is. search rules)
 
 -- ---- the reading of a text
 
--- Of the first bytes of a text, up to any position, some are the longest that are UTF-8.
+-- A text has a longest beginning in UTF-8, up to any position.
 longest_within : (text : List ℕ) (n : ℕ)
     → (k : ℕ) × IsUtf8 (take k text) × (k ≤ n) × ((m : ℕ) → k < m → m ≤ n → ¬ (IsUtf8 (take m text)))
 longest_within text zero = (0, IsUtf8-nil, omega arith, λ m above within utf8. absurd (omega (arith, above, within)))
@@ -162,7 +165,7 @@ module _ (text : List ℕ) where
       inr (Invalid only.0, its_number text only.0 only.1, (utf8, Explains-from_fault text only.0 only.1))) (accepted_or_rejected text))
       (λ isnt. let up = valid_up_to text isnt in inr (NotUtf8 up.0, (λ same. omega (arith, same)), (isnt, up.1))) (utf8_or_not text)
 
-  -- So the reading of a text is one.
+  -- The reading of a text finds one media type or one error.
   reading_of_text : IsReading (λ media. IsUtf8 text × Reads text media) (TextExplains text)
   reading_of_text = record {
     either = read_or_failed;
@@ -179,21 +182,17 @@ reads_to_one text old = one_in_room (one_of_reading (reading_of_text text) (λ m
 
 module _ {text old : List ℕ} where
   -- Two outcomes of a list are the same.
-  one_listing : {n m : ℕ} {held other : List ℕ × ℕ} → n ≢ MIME_NO_MEMORY → m ≢ MIME_NO_MEMORY → Lists text old n held
-      → Lists text old m other → (m ≡ n) × (other ≡ held)
+  one_listing : {n m : ℕ} {held other : List ℕ × ℕ} → n ≢ MIME_NO_MEMORY → m ≢ MIME_NO_MEMORY → AreListed text old n held
+      → AreListed text old m other → (m ≡ n) × (other ≡ held)
   one_listing h k is is_too = search (rules, cut_unique)
 
 -- `mime_list` has one outcome.
 pub lists_to_one : ListsToOne
 lists_to_one text old = one_in_room (⊎_elim (λ utf8.
     let has = has_cut text in
-    let some : MIME_OK ≢ MIME_NO_MEMORY = λ same. omega (arith, same) in
-    let is = is_listed has.items has.rest utf8 has.cut (items_come_back text has.items has.rest has.cut) in
-    (_, _, some, is, λ m y other too. one_listing some other is too))
-    (λ isnt.
-    let some : MIME_NOT_UTF8 ≢ MIME_NO_MEMORY = λ same. omega (arith, same) in
-    let is = is_not_text isnt in
-    (_, _, some, is, λ m y other too. one_listing some other is too)) (utf8_or_not text))
+    one_is (λ same. omega (arith, same))
+    (is_listed has.items has.rest utf8 has.cut (items_come_back text has.items has.rest has.cut)) (λ n x. one_listing))
+    (λ isnt. one_is (λ same. omega (arith, same)) (is_not_text isnt) (λ n x. one_listing)) (utf8_or_not text))
 
 -- Two media types are compared in one way.
 one_comparison : (first second : MediaType) → HasOne (AreCompared first second)

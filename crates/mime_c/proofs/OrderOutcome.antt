@@ -21,34 +21,41 @@ use Rattle.mime_c.proofs.HeaderOutcome.{one_of_offers, empty_or_not}
 
 -- ---- what a list contains
 
+-- What a list contains is its first element or one of the others.
 one_of : {X : Type 0} (x y : X) (xs : List X) → Contains (x ∷ xs) y → (x ≡ y) ⊎ Contains xs y
 one_of x y xs is = search rules
 
+-- A list contains its first element.
 the_first : {X : Type 0} (x y : X) (xs : List X) → x ≡ y → Contains (x ∷ xs) y
 the_first x y xs is = (0, omega arith, is)
 
+-- A list contains its later elements.
 a_later : {X : Type 0} (x y : X) (xs : List X) → Contains xs y → Contains (x ∷ xs) y
 a_later x y xs (k, within, is) = (suc k, omega (arith, within), is)
 
 -- ---- lists in order, of which the first is before the others, and these are in order
 
+-- The first of a list in order is before all others.
 before_rest : {X : Type 0} (R : X → X → Type 0) (x : X) (xs : List X) → AllPairs R (x ∷ xs) → All (R x) xs
 before_rest R x xs pairs = λ k d within. pairs 0 (suc k) d (omega arith) (omega (arith, within))
 
+-- A list in order is in order without its first element.
 rest_in_order : {X : Type 0} (R : X → X → Type 0) (x : X) (xs : List X) → AllPairs R (x ∷ xs) → AllPairs R xs
 rest_in_order R x xs pairs = λ i j d less within. pairs (suc i) (suc j) d (omega (arith, less)) (omega (arith, within))
 
 -- in a strict order two lists with the same elements are the same
 module _ {X : Type 0} (R : X → X → Type 0) (strict : (x y : X) → R x y → ¬ (R y x)) where
+  -- Two lists in a strict order with the same elements have the same first element.
   same_first : (x y : X) (xs ys : List X) → AllPairs R (x ∷ xs) → AllPairs R (y ∷ ys)
       → ((z : X) → Contains (x ∷ xs) z ↔ Contains (y ∷ ys) z) → x ≡ y
   same_first x y xs ys one other same = ⊎_elim sym
       (λ behind. ⊎_elim (λ is. is)
-      (λ later. absurd (strict x y (All-contains (R x) xs y (before_rest R x xs one) later) (All-contains (R y) ys x (before_rest R y ys other) behind)))
+      (λ later. absurd (strict x y (All-contains (R x) xs y (before_rest R x xs one) later)
+      (All-contains (R y) ys x (before_rest R y ys other) behind)))
       (one_of x y xs ((same y).1 (the_first y y ys refl))))
       (one_of y x ys ((same x).0 (the_first x x xs refl)))
 
-  -- what follows the first of one follows the same first of the other
+  -- What follows the first of one list follows the same first of the other.
   still_there : (x y z : X) (xs ys : List X) → x ≡ y → AllPairs R (x ∷ xs) → ((w : X) → Contains (x ∷ xs) w → Contains (y ∷ ys) w)
       → Contains xs z → Contains ys z
   still_there x y z xs ys first one same is = ⊎_elim
@@ -58,6 +65,7 @@ module _ {X : Type 0} (R : X → X → Type 0) (strict : (x y : X) → R x y →
       (λ there. there)
       (one_of y z ys (same z (a_later x z xs is)))
 
+  -- Two lists in a strict order with the same elements are the same.
   one_order : (xs ys : List X) → AllPairs R xs → AllPairs R ys → ((z : X) → Contains xs z ↔ Contains ys z) → xs ≡ ys
   one_order [] [] one other same = refl
   one_order [] (y ∷ ys) one other same = let is = (same y).1 (the_first y y ys refl) in absurd (omega (arith, is.1))
@@ -70,6 +78,7 @@ module _ {X : Type 0} (R : X → X → Type 0) (strict : (x y : X) → R x y →
 
 -- a list in order with one element more
 module _ {X : Type 0} (R : X → X → Type 0) (goes_on : (x y z : X) → R x y → R y z → R x z) where
+  -- A list in order has a place for one element more.
   placed : (x : X) (xs : List X) → AllPairs R xs → All (λ y. R x y ⊎ R y x) xs
       → (ys : List X) × AllPairs R ys × ((z : X) → Contains ys z ↔ ((x ≡ z) ⊎ Contains xs z))
   placed x [] pairs apart = (
@@ -101,30 +110,34 @@ module _ {X : Type 0} (R : X → X → Type 0) (goes_on : (x y z : X) → R x y 
 
 -- ---- offers
 
--- an offer is before another: it ranks higher, or as high and is offered first
+-- An offer is before another: it ranks higher, or as high and is offered first.
 abbrev Higher : Rank → ℕ → Rank → ℕ → Type 0
 Higher x i y j = (is_gt (rank_cmp x y) ≡ true) ⊎ ((x ≡ y) × (i < j))
 
+-- Of two offers at most one is before the other.
 not_back : (x y : Rank) (i j : ℕ) → Higher x i y j → ¬ (Higher y j x i)
 not_back x y i j (inl above) (inl back) = absurd (grind (arith, nat_tests, above, back))
 not_back x y i j (inl above) (inr (same, less)) = absurd (grind (arith, nat_tests, above, same))
 not_back x y i j (inr (same, less)) (inl back) = absurd (grind (arith, nat_tests, back, same))
 not_back x y i j (inr (same, less)) (inr (again, more)) = absurd (omega (arith, less, more))
 
+-- An offer before another is before all that the other is before.
 goes_on_higher : (x y z : Rank) (i j k : ℕ) → Higher x i y j → Higher y j z k → Higher x i z k
 goes_on_higher x y z i j k (inl above) (inl on) = inl (grind (arith, nat_tests, above, on))
 goes_on_higher x y z i j k (inl above) (inr (same, less)) = inl (subst (λ (r : Rank). is_gt (rank_cmp x r) ≡ true) same above)
 goes_on_higher x y z i j k (inr (same, less)) (inl on) = inl (subst (λ (r : Rank). is_gt (rank_cmp r z) ≡ true) (sym same) on)
 goes_on_higher x y z i j k (inr (same, less)) (inr (again, more)) = inr (same ∙ again, omega (arith, less, more))
 
+-- Of two offers one is before the other.
 one_is_higher : (x y : Rank) (i j : ℕ) → j < i → Higher x i y j ⊎ Higher y j x i
 one_is_higher x y i j less = search rules
 
 module _ (ranges offers : List MediaType) where
+  -- An offer at a position is before another.
   abbrev Before : ℕ → ℕ → Type 0
   Before at other = Higher (merit_at ranges offers at) at (merit_at ranges offers other) other
 
-  -- the first offers that weigh something, in order
+  -- The first offers that weigh something have an order.
   ordered : (n : ℕ) → (order : List ℕ) × AllPairs Before order
       × ((at : ℕ) → Contains order at ↔ ((at < n) × (0 < (merit_at ranges offers at).0)))
   ordered zero = (
@@ -143,7 +156,8 @@ module _ (ranges offers : List MediaType) where
         λ at. (
           λ is. ⊎_elim (λ same. (omega (arith, same), subst (λ it. 0 < (merit_at ranges offers it).0) same weighs))
               (λ there. let before = (so_far.2 at).0 there in (omega (arith, before.0), before.1)) ((more.2 at).0 is),
-          λ is. (more.2 at).1 (⊎_elim (λ less. inr ((so_far.2 at).1 (less, is.1))) (λ past. inl (omega (arith, past, is.0))) (cases_lt at n)),
+          λ is. (more.2 at).1 (⊎_elim (λ less. inr ((so_far.2 at).1 (less, is.1))) (λ past. inl (omega (arith, past, is.0)))
+              (cases_lt at n)),
         ),
       ))
       (λ light. (
@@ -161,7 +175,7 @@ module _ (ranges offers : List MediaType) where
       ))
       (cases_lt 0 (merit_at ranges offers n).0)
 
-  -- offers have an order
+  -- Offers have an order.
   has_order : (order : List ℕ) × AreInOrder ranges offers order
   has_order =
       let all = ordered (length offers) in (
@@ -170,12 +184,20 @@ module _ (ranges offers : List MediaType) where
           best_first = all.1;
           all = λ at. (
             λ is. ((all.2 at).0 is).1,
-            λ weighs. (all.2 at).1 (omega (arith, weighs_within (map (merit ranges) offers) at weighs, length-map offers (merit ranges)), weighs),
+            λ weighs. (all.2 at).1 (
+              omega (
+                arith,
+                weighs_within (map (merit ranges) offers) at weighs,
+                length-map offers
+                    (merit ranges),
+              ),
+              weighs,
+            ),
           );
         },
       )
 
-  -- offers have only one order
+  -- Offers have only one order.
   only_order : (order other : List ℕ) → AreInOrder ranges offers order → AreInOrder ranges offers other → other ≡ order
   only_order order other one two =
       one_order Before (λ x y. not_back _ _ x y) other order two.best_first one.best_first
@@ -184,18 +206,21 @@ module _ (ranges offers : List MediaType) where
 -- ---- outcomes
 
 module _ (old : List ℕ) (ranges offers : List MediaType) where
-  only_none : AreInOrder ranges offers [] → (n : ℕ) (held : List ℕ × ℕ) → n ≢ MIME_NO_MEMORY → IsOrder old ranges offers n held
+  -- No order is the only outcome if no offer is acceptable.
+  only_unordered : AreInOrder ranges offers [] → (n : ℕ) (held : List ℕ × ℕ) → n ≢ MIME_NO_MEMORY → IsOrder old ranges offers n held
       → (n ≡ MIME_NOT_ACCEPTABLE) × (held ≡ (old, 0))
-  only_none none n held some (order_is order _ _ are more is) = absurd (more (only_order ranges offers [] order none are))
-  only_none none n held some (none_is_ordered too) = (refl, refl)
+  only_unordered none n held some (order_is order _ _ are more is) = absurd (more (only_order ranges offers [] order none are))
+  only_unordered none n held some (none_is_ordered too) = (refl, refl)
 
   -- An order is written if there is room for it.
   abbrev IsPlaced : List ℕ → ℕ → List ℕ × ℕ → Type 0
   IsPlaced order = InRoom (length order) old (old, 0) (Holds (written order old, length order))
 
+  -- An order has one outcome in each buffer.
   one_place : (order : List ℕ) → HasOne (IsPlaced order)
   one_place order = one_in_room one_success
 
+  -- An order is the only one.
   only_some : (order : List ℕ) → AreInOrder ranges offers order → order ≢ [] → (n : ℕ) (held : List ℕ × ℕ) → n ≢ MIME_NO_MEMORY
       → IsOrder old ranges offers n held → (n ≡ (one_place order).0) × (held ≡ (one_place order).1)
   only_some order are more n held some (order_is other _ _ too _ is) =
@@ -208,7 +233,7 @@ module _ (old : List ℕ) (ranges offers : List MediaType) where
       let order = has_order ranges offers in
       ⊎_elim
       (λ none. let are = subst (AreInOrder ranges offers) none order.1 in
-      (_, _, (λ same. omega (arith, same)), none_is_ordered are, only_none are))
+      (_, _, (λ same. omega (arith, same)), none_is_ordered are, only_unordered are))
       (λ more. let has = one_place order.0 in
       (_, _, has.2, order_is order.0 _ _ order.1 more has.3, only_some order.0 order.1 more)) (empty_or_not order.0)
 

@@ -7,38 +7,44 @@ use Rattle.mime_c.specs.Answers.{has_room, has_no_room, holds}
 use Rattle.mime_c.specs.ParameterAnswers.{BoundaryIs, UnescapesTo, room_with, IsParameter, with_parameter, SetsTo}
 use Rattle.mime_c.specs.declared.TheConstants.{MIME_OK, MIME_NO_ROOM}
 
--- `a\"b` means three bytes, and nothing else is answered
+-- `a\"b` means three bytes.
 escaped_quote : UnescapesTo (codes "a\\\"b") (codes "-----") MIME_OK (codes "a\"b" ++ 0 ∷ codes "-", 3)
 escaped_quote = has_room _ _ (omega arith) holds
 
+-- `a\"b` doesn't mean four bytes.
 not_four : (new : List ℕ) → ¬ (UnescapesTo (codes "a\\\"b") (codes "-----") MIME_OK (new, 4))
 not_four new is = search rules
 
--- how many bytes are asked for, and what is written
+-- So many bytes are asked for a parameter.
 asked : room_with (codes "a/b") (codes "p") (codes "xy") ≡ 17
 asked = refl
 
-ab : MediaType
-ab = record { essence = codes "a/b"; slash = 1; plus = None; pairs = (codes "p", codes "q") ∷ []; kept = codes "a/b;p=q" }
+-- The media type `a/b;p=q`.
+ab_with_p : MediaType
+ab_with_p = record { essence = codes "a/b"; slash = 1; plus = None; pairs = (codes "p", codes "q") ∷ []; kept = codes "a/b;p=q" }
 
-replaced : (with_parameter ab (codes "P") (codes "x y")).kept ≡ codes "a/b; p=\"x y\""
-unfolding ab is_token_byte
+-- Its parameter is replaced.
+replaced : (with_parameter ab_with_p (codes "P") (codes "x y")).kept ≡ codes "a/b; p=\"x y\""
+unfolding ab_with_p is_token_byte
 replaced = refl
 
--- a name that is empty, and a value with a line feed, are no parameters
+-- A parameter has a name.
 no_name : (value : List ℕ) → ¬ (IsParameter [] value)
 no_name value is = is.named
 
+-- A parameter's value has no line feed.
 no_line_feed : (name : List ℕ) → ¬ (IsParameter name (10 ∷ []))
 unfolding is_quoted_byte
 no_line_feed name is = true≢false (sym is.safe)
 
--- for nothing, a byte isn't enough for a boundary, nor five for a parameter, and nothing else is answered
-no_room : BoundaryIs [] (codes "-") MIME_NO_ROOM (codes "-", 0) × SetsTo [] [] [] (codes "-----") MIME_NO_ROOM (codes "-----", 0)
-no_room = (has_no_room (omega arith), has_no_room (omega arith))
+-- A byte isn't enough for a boundary, nor are five for an empty parameter.
+no_room_for_either : BoundaryIs [] (codes "-") MIME_NO_ROOM (codes "-", 0) × SetsTo [] [] [] (codes "-----") MIME_NO_ROOM (codes "-----", 0)
+no_room_for_either = (has_no_room (omega arith), has_no_room (omega arith))
 
+-- No boundary is written into one byte.
 no_boundary_there : (held : List ℕ × ℕ) → ¬ (BoundaryIs [] (codes "-") MIME_OK held)
 no_boundary_there held is = search rules
 
+-- No media type is written into five bytes.
 no_type_there : (held : List ℕ × ℕ) → ¬ (SetsTo [] [] [] (codes "-----") MIME_OK held)
 no_type_there held is = search rules

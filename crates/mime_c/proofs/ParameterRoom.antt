@@ -16,18 +16,21 @@ use Rattle.mime_c.proofs.NoZero.{come_back, no_zero-read}
 
 -- ---- a media type with a parameter
 
--- a value is written with at most twice as many bytes as it means
+-- A value is written with at most twice as many bytes as it means.
 length-escaped : (bytes : List ℕ) → length (escaped bytes) ≤ 2 * length bytes
 length-escaped [] = omega arith
 length-escaped (b ∷ bytes) = omega (arith, one b, length-escaped bytes, length-append (escaped_byte b) (escaped bytes))
   where
+    -- A byte is written with at most two bytes.
     one : (b : ℕ) → length (escaped_byte b) ≤ 2
     one b = by_test (b == quote_byte || b == backslash_byte)
       where
+        -- This holds whether the byte needs a backslash or not.
         by_test : (special : Bool) → length (if special then backslash_byte ∷ b ∷ [] else b ∷ []) ≤ 2
         by_test true = omega arith
         by_test false = omega arith
 
+-- A media type with a parameter fits into the room that is asked for.
 pub set_fits : (text name value : List ℕ) (media : MediaType) → HttpReads text media
     → length (with_parameter media name value).kept + 1 ≤ room_with text name value
 set_fits text name value media reads =
@@ -49,13 +52,16 @@ set_fits text name value media reads =
       length-append (text_of_pair made) [],
     )
 
+-- A kept text that is read comes back.
 pub set_comes_back : (media : MediaType) → Reads media.kept media → ComeBack (media.kept ∷ [])
 set_comes_back media reads = come_back (media.kept ∷ []) (no_zero-read media.kept media reads, tt)
 
 -- ---- a boundary
 
+-- A byte of a boundary isn't 0.
 bchar-other : (b : ℕ) → is_bchar b ≡ true → is_other 0 b ≡ true
 bchar-other b is = grind (arith, nat_tests)
 
+-- A boundary comes back.
 pub boundary_comes_back : (boundary : List ℕ) → IsBoundary boundary → ComeBack (boundary ∷ [])
 boundary_comes_back boundary is = come_back (boundary ∷ []) (list_all-wider is_bchar (is_other 0) bchar-other boundary is.all, tt)

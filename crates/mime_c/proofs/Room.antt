@@ -9,41 +9,44 @@ use Rattle.mime.proofs.HandedOut.{length-lowered, positions_of, kept_text_of, le
 use Rattle.mime_c.specs.Strings.{string_of, strings, pair_texts, texts_of, item_text, item_texts}
 use Rattle.mime_c.specs.declared.TheConstants.{MIME_GOOD, MIME_BAD}
 
--- a string has one byte more than its text
+-- A string has one byte more than its text.
 length-strings : (text : List ℕ) (texts : List (List ℕ)) → length (strings (text ∷ texts)) ≡ length text + 1 + length (strings texts)
 length-strings text texts = omega (arith, length-append {A = ℕ})
 
 -- ---- the strings of a tree that is in lowercase already
 
--- those of a parameter are at most one byte more than its text,
+-- The strings of a parameter are at most one byte more than its text.
 room-parameter : (parameter : Parameter) (pairs : List (List ℕ × List ℕ))
-    → length (strings (pair_texts (pair_of parameter ∷ pairs))) ≤ length (text_of_parameter parameter) + 1 + length (strings (pair_texts pairs))
+    → length (strings (pair_texts (pair_of parameter ∷ pairs))) ≤ length (text_of_parameter parameter) + 1 + length
+    (strings (pair_texts pairs))
 room-parameter (plain name value) pairs = omega (arith, length-strings, length-append {A = ℕ})
 room-parameter (quoted name content n) pairs = omega (arith, length-strings, length-append {A = ℕ})
 
--- those of a list too,
+-- The strings of a list of parameters are at most one byte more than its text.
 room-list : (list : Parameters) → length (strings (pair_texts (pairs_of_list list))) ≤ length (text_of_list list) + 1
 room-list (blank n) = omega arith
 room-list (final n parameter) = omega (arith, room-parameter parameter [], length-append {A = ℕ})
 room-list (more n parameter rest) = omega (arith, room-parameter parameter (pairs_of_list rest), room-list rest, length-append {A = ℕ})
 
+-- The strings of what follows an essence are at most as many bytes as it.
 room-tail : (tail : Tail) → length (strings (pair_texts (pairs_of_tail tail))) ≤ length (text_of_tail tail)
 room-tail no_list = omega arith
 room-tail (listed list) = omega (arith, room-list list)
 
--- the kept text is no longer than the text
+-- The kept text is no longer than the text.
 room-kept : (tree : SyntaxTree) (pairs : List (List ℕ × List ℕ)) → length (kept_text pairs tree) ≤ length (text_of tree)
 room-kept tree [] = omega (arith, ap length (text_of-essence tree), length-append {A = ℕ})
 room-kept tree (pair ∷ pairs) = omega arith
 
 -- ---- the strings of a media type
 
--- how long a kept text, the strings of a media type and the text that is read as it are, and those of its pairs with its essence
+-- How long a kept text and the strings of a media type are, beside the text that is read as it.
 abbrev pub Lengths : List ℕ → MediaType → Type 0
 Lengths text media =
     (length media.kept ≤ length text) × (length (strings (texts_of media)) ≤ 2 * length text + 2) × (2 < length text)
     × (length media.essence + length (strings (pair_texts media.pairs)) ≤ length text)
 
+-- A text in lowercase is long enough for the strings of its media type.
 lengths-low : (text : List ℕ) (tree : SyntaxTree) → length (text_of tree) ≤ length text → 2 < length text → Lengths text (value_of_low tree)
 lengths-low text tree size some =
     let pairs = pairs_of_tail tree.tail in
@@ -57,13 +60,13 @@ lengths-low text tree size some =
       omega (arith, length-append {A = ℕ}, room-tail tree.tail, essence),
     )
 
--- a kept text is no longer than the text that it is of
+-- A kept text is no longer than its text.
 length-kept : (pairs : ℕ) (semicolon : Option ℕ) (text : List ℕ) → length (kept_text_of pairs semicolon text) ≤ length text
 length-kept pairs None text = omega (arith, length-lowered text)
 length-kept zero (Some semicolon) text = omega (arith, length-lowered (take semicolon text), length-take semicolon text)
 length-kept (suc pairs) (Some semicolon) text = omega (arith, length-in_part _ _ (kept-in_part (suc pairs) semicolon text))
 
--- the strings of a media type that is read are no longer than its text allows
+-- A text is long enough for the strings of the media type that it is read as.
 pub lengths_of : (text : List ℕ) (media : MediaType) → Reads text media → Lengths text media
 lengths_of text media reads =
     let tree = reads.tree in
@@ -75,25 +78,33 @@ lengths_of text media reads =
     let kept = keeps.is_kept.has in
     let size = ap length kept.spelled in
     subst (Lengths text) (sym (sym reads.valued ∙ keeps.valued ∙ value_of-lowering kept.tree ∙ ap value_of_low keeps.is_kept.low))
-    (lengths-low text kept.tree (omega (arith, length-kept (positions_of tree).pair_count (positions_of tree).semicolon (text_of tree))) some)
+    (lengths-low text kept.tree (omega (
+      arith,
+      length-kept (positions_of tree).pair_count (positions_of tree).semicolon
+          (text_of tree),
+    )) some)
 
--- the strings of a media type are at most twice as many bytes as the text that is read as it, and two
+-- The strings of a media type are at most twice as many bytes as the text that is read as it, and two.
 pub texts_fit : (text : List ℕ) (media : MediaType) → Reads text media → length (strings (texts_of media)) ≤ 2 * length text + 2
 texts_fit text media reads = (lengths_of text media reads).1
 
 -- ---- the items of a list
 
+-- The strings of a piece's items are at most two bytes more than the piece.
 room-items : (piece : List ℕ) (items : List CutItem) → ItemsOf piece items → length (strings (item_texts items)) ≤ length piece + 2
 room-items piece items (is_read media reads) = omega (arith, length-strings (MIME_GOOD ∷ media.kept) [], (lengths_of piece media reads).0)
 room-items piece items (is_rejected rejected some) = omega (arith, length-strings (MIME_BAD ∷ piece) [])
 room-items piece items (is_empty none) = omega arith
 
+-- The strings of two lists of items are those of both.
 pub strings_of_items : (items others : List CutItem)
     → strings (item_texts (items ++ others)) ≡ strings (item_texts items) ++ strings (item_texts others)
-strings_of_items items others = ap strings (map-append item_text items others) ∙ flat_map-append string_of (item_texts items) (item_texts others)
+strings_of_items items others = ap strings (map-append item_text items others) ∙ flat_map-append string_of (item_texts items)
+    (item_texts others)
 
--- the strings of a text's items are at most twice as many bytes as the text
-pub items_fit : (text : List ℕ) (items : List CutItem) (rest : List ℕ) → Cut text items rest → length (strings (item_texts items)) ≤ 2 * length text
+-- The strings of a text's items are at most twice as many bytes as the text.
+pub items_fit : (text : List ℕ) (items : List CutItem) (rest : List ℕ) → Cut text items rest
+    → length (strings (item_texts items)) ≤ 2 * length text
 items_fit text items rest (whole t media reads) =
     let lengths = lengths_of t media reads in
     omega (arith, length-strings (MIME_GOOD ∷ media.kept) [], lengths.0, lengths.2)

@@ -25,10 +25,10 @@ use Rattle.mime_http.specs.declared.value.FieldError.TheVariants.{NotUtf8, Inval
 use Rattle.mime_http.proofs.HandedOut.{utf8_or_not, read_or_not, content_of_escaped, one_printed_text, printed_is_read, no_fault, one_http_fault, with_pair_is_read}
 use Rattle.mime_c.specs.Strings.{ComeBack, string_in}
 use Rattle.mime_c.specs.Answers.{number_of, number_of_error}
-use Rattle.mime_c.specs.ParameterAnswers.{HasBoundary, boundary_is, has_no_boundary, boundary_has_no_memory, IsParameter, with_parameter, IsSet, is_set, isnt_parameter, set_has_no_memory}
+use Rattle.mime_c.specs.ParameterAnswers.{HasBoundary, boundary_is, has_no_boundary, boundary_has_no_memory, IsParameter, with_parameter, IsSet, is_set, isnt_parameter}
 use Rattle.mime_c.specs.Laws.{HasOne, HeaderReadsToOne, BoundaryIsOne, UnescapesToOne, SetsToOne}
-use Rattle.mime_c.specs.declared.TheConstants.{MIME_OK, MIME_NO_MEMORY, MIME_NO_BOUNDARY, MIME_BAD_PARAMETER}
-use Rattle.mime_c.proofs.OneOutcome.{one_success, one_in_room, IsReading, one_of_reading, one_writing, valid_up_to}
+use Rattle.mime_c.specs.declared.TheConstants.{MIME_NO_MEMORY}
+use Rattle.mime_c.proofs.OneOutcome.{one_is, one_success, one_in_room, IsReading, one_of_reading, one_writing, valid_up_to}
 use Rattle.mime_c.proofs.HeaderOutcome.{some_or_none}
 use Rattle.mime_c.proofs.HeaderRoom.{read_anew}
 use Rattle.mime_c.proofs.NoZero.{texts_come_back}
@@ -46,22 +46,22 @@ IsRead value media = IsUtf8 value × HttpReads value media × IsPrinted value me
 
 module _ (value : List ℕ) where
   -- A value that is read has no error.
-  not_both : (media : MediaType) (error : FieldError) → number_of_error error ≢ MIME_NO_MEMORY → IsRead value media
+  never_both : (media : MediaType) (error : FieldError) → number_of_error error ≢ MIME_NO_MEMORY → IsRead value media
       → ¬ (HttpExplains value error)
-  not_both media (NotUtf8 pos) some is why = why.0 is.0
-  not_both media (Invalid fault) some is why = no_fault value fault (media, is.1) why.1
-  not_both media NoMemory some is why = some refl
+  never_both media (NotUtf8 pos) some is why = why.0 is.0
+  never_both media (Invalid fault) some is why = no_fault value fault (media, is.1) why.1
+  never_both media NoMemory some is why = some refl
 
   -- A value that isn't read has one error.
-  one_error : (one two : FieldError) → number_of_error one ≢ MIME_NO_MEMORY → number_of_error two ≢ MIME_NO_MEMORY
+  one_fault_of : (one two : FieldError) → number_of_error one ≢ MIME_NO_MEMORY → number_of_error two ≢ MIME_NO_MEMORY
       → HttpExplains value one → HttpExplains value two → two ≡ one
-  one_error NoMemory two h k why too = absurd (h refl)
-  one_error one NoMemory h k why too = absurd (k refl)
-  one_error (NotUtf8 pos) (NotUtf8 other) h k why too =
+  one_fault_of NoMemory two h k why too = absurd (h refl)
+  one_fault_of one NoMemory h k why too = absurd (k refl)
+  one_fault_of (NotUtf8 pos) (NotUtf8 other) h k why too =
       ap NotUtf8 (sym (utf8_valid_len-IsValidUpTo value other too.1) ∙ utf8_valid_len-IsValidUpTo value pos why.1)
-  one_error (NotUtf8 pos) (Invalid fault) h k why too = absurd (why.0 too.0)
-  one_error (Invalid fault) (NotUtf8 pos) h k why too = absurd (too.0 why.0)
-  one_error (Invalid fault) (Invalid other) h k why too =
+  one_fault_of (NotUtf8 pos) (Invalid fault) h k why too = absurd (why.0 too.0)
+  one_fault_of (Invalid fault) (NotUtf8 pos) h k why too = absurd (too.0 why.0)
+  one_fault_of (Invalid fault) (Invalid other) h k why too =
       let only = (one_http_fault value (λ is. no_fault value fault is why.1)).2 in
       ap Invalid (only other too.1 ∙ sym (only fault why.1))
 
@@ -70,17 +70,18 @@ module _ (value : List ℕ) where
       ⊎ ((error : FieldError) × (number_of_error error ≢ MIME_NO_MEMORY) × HttpExplains value error)
   value_or_error = ⊎_elim
       (λ utf8. ⊎_elim (λ is. inl (is.0, (utf8, is.1, is.2)))
-      (λ isnt. let one = one_http_fault value isnt in inr (Invalid one.0, value_number value one.0 one.1, (utf8, one.1))) (read_or_not value))
+      (λ isnt. let one = one_http_fault value isnt in inr (Invalid one.0, value_number value one.0 one.1, (utf8, one.1)))
+      (read_or_not value))
       (λ isnt. let up = valid_up_to value isnt in inr (NotUtf8 up.0, (λ same. omega (arith, same)), (isnt, up.1)))
       (utf8_or_not value)
 
-  -- So the reading of a value is one.
+  -- The reading of a value finds one media type or one error.
   reading_of_value : IsReading (IsRead value) (HttpExplains value)
   reading_of_value = record {
     either = value_or_error;
     one_media = λ one two is too. one_printed_text value two one too.1 too.2 is.1 is.2;
-    not_both = not_both;
-    one_error = one_error;
+    not_both = never_both;
+    one_error = one_fault_of;
   }
 
 -- `mime_content_type` has one outcome.
@@ -95,7 +96,8 @@ is_boundary_or_not : (bytes : List ℕ) → IsBoundary bytes ⊎ ¬ (IsBoundary 
 is_boundary_or_not bytes = search rules
 
 -- A media type has a boundary or none.
-boundary_or_not : (media : MediaType) → ((boundary : List ℕ) × IsBoundaryOf media boundary) ⊎ ((other : List ℕ) → ¬ (IsBoundaryOf media other))
+boundary_or_not : (media : MediaType) → ((boundary : List ℕ) × IsBoundaryOf media boundary) ⊎ ((other : List ℕ)
+    → ¬ (IsBoundaryOf media other))
 boundary_or_not media =
     let named = bytes_eq-Decides (type_of media) (codes "multipart") in
     ⊎_elim
@@ -108,26 +110,22 @@ boundary_or_not media =
     (λ no. inr (λ other is. true≢false (sym (named.1 is.multipart) ∙ no)))
     (cases_Bool (bytes_eq (type_of media) (codes "multipart")))
 
-module _ (old : List ℕ) (media : MediaType) where
-  only_boundary : (boundary : List ℕ) → IsBoundaryOf media boundary → (n : ℕ) (held : List ℕ × ℕ) → n ≢ MIME_NO_MEMORY
-      → HasBoundary old media n held → (n ≡ MIME_OK) × (held ≡ string_in old boundary)
-  only_boundary boundary has n held some (boundary_is other too back) =
-      (refl, ap (string_in old) (same_Some other boundary (sym too.found ∙ has.found)))
-  only_boundary boundary has n held some (has_no_boundary none) = absurd (none boundary has)
-  only_boundary boundary has n held some boundary_has_no_memory = absurd (some refl)
+-- Two outcomes of a boundary are the same unless memory runs out.
+same_boundary : {old : List ℕ} {media : MediaType} {n m : ℕ} {held other : List ℕ × ℕ} → n ≢ MIME_NO_MEMORY → m ≢ MIME_NO_MEMORY
+    → HasBoundary old media n held → HasBoundary old media m other → (m ≡ n) × (other ≡ held)
+same_boundary h k boundary_has_no_memory two = absurd (h refl)
+same_boundary h k one boundary_has_no_memory = absurd (k refl)
+same_boundary {old = old} h k (boundary_is one has back) (boundary_is two too again) =
+    (refl, ap (string_in old) (same_Some two one (sym too.found ∙ has.found)))
+same_boundary h k (boundary_is one has back) (has_no_boundary none) = absurd (none one has)
+same_boundary h k (has_no_boundary none) (boundary_is two has back) = absurd (none two has)
+same_boundary h k (has_no_boundary none) (has_no_boundary too) = (refl, refl)
 
-  no_boundary : ((other : List ℕ) → ¬ (IsBoundaryOf media other)) → (n : ℕ) (held : List ℕ × ℕ) → n ≢ MIME_NO_MEMORY
-      → HasBoundary old media n held → (n ≡ MIME_NO_BOUNDARY) × (held ≡ (old, 0))
-  no_boundary none n held some (boundary_is boundary has back) = absurd (none boundary has)
-  no_boundary none n held some (has_no_boundary too) = (refl, refl)
-  no_boundary none n held some boundary_has_no_memory = absurd (some refl)
-
-  -- The boundary of a media type is written in one way.
-  one_boundary : HasOne (HasBoundary old media)
-  one_boundary = ⊎_elim
-      (λ it. (_, _, (λ same. omega (arith, same)), boundary_is it.0 it.1 (boundary_comes_back it.0 it.1.is), only_boundary it.0 it.1))
-      (λ none. (_, _, (λ same. omega (arith, same)), has_no_boundary none, no_boundary none))
-      (boundary_or_not media)
+-- The boundary of a media type is written in one way.
+one_boundary : (old : List ℕ) (media : MediaType) → HasOne (HasBoundary old media)
+one_boundary old media = ⊎_elim
+    (λ it. one_is (λ same. omega (arith, same)) (boundary_is it.0 it.1 (boundary_comes_back it.0 it.1.is)) (λ n x. same_boundary))
+    (λ none. one_is (λ same. omega (arith, same)) (has_no_boundary none) (λ n x. same_boundary)) (boundary_or_not media)
 
 -- `mime_boundary` has one outcome.
 pub boundary_is_one : BoundaryIsOne
@@ -160,28 +158,20 @@ comes_back : (text name value : List ℕ) (media : MediaType) → HttpReads text
 comes_back text name value media reads is =
     let read = read_anew text media reads in
     let safe = kept_is_safe read.0 (with_pairs media media.pairs) read.1 in
-    let made = with_pair_is_read read.0 (with_pairs media media.pairs) name (escaped value) read.1 safe is.named (content_of_escaped value is.safe) in
+    let made = with_pair_is_read read.0 (with_pairs media media.pairs) name (escaped value) read.1 safe is.named
+    (content_of_escaped value is.safe) in
     set_comes_back (with_parameter media name value) (kept_is_read _ _ made)
 
-module _ (text name value old : List ℕ) (media : MediaType) where
-  only_set : IsParameter name value → (n : ℕ) (held : List ℕ × ℕ) → n ≢ MIME_NO_MEMORY → IsSet name value old media n held
-      → (n ≡ MIME_OK) × (held ≡ string_in old (with_parameter media name value).kept)
-  only_set is n held some (is_set too back) = (refl, refl)
-  only_set is n held some (isnt_parameter isnt) = absurd (isnt is)
-  only_set is n held some set_has_no_memory = absurd (some refl)
+-- Two outcomes of a parameter are the same unless memory runs out.
+same_set : {name value old : List ℕ} {media : MediaType} {n m : ℕ} {held other : List ℕ × ℕ} → n ≢ MIME_NO_MEMORY → m ≢ MIME_NO_MEMORY
+    → IsSet name value old media n held → IsSet name value old media m other → (m ≡ n) × (other ≡ held)
+same_set h k one two = search rules
 
-  only_unset : ¬ (IsParameter name value) → (n : ℕ) (held : List ℕ × ℕ) → n ≢ MIME_NO_MEMORY → IsSet name value old media n held
-      → (n ≡ MIME_BAD_PARAMETER) × (held ≡ (old, 0))
-  only_unset isnt n held some (is_set is back) = absurd (isnt is)
-  only_unset isnt n held some (isnt_parameter too) = (refl, refl)
-  only_unset isnt n held some set_has_no_memory = absurd (some refl)
-
-  -- A parameter is written in one way.
-  one_set : HttpReads text media → HasOne (IsSet name value old media)
-  one_set reads = ⊎_elim
-      (λ is. (_, _, (λ same. omega (arith, same)), is_set is (comes_back text name value media reads is), only_set is))
-      (λ isnt. (_, _, (λ same. omega (arith, same)), isnt_parameter isnt, only_unset isnt))
-      (parameter_or_not name value)
+-- A parameter is written in one way.
+one_set : (text name value old : List ℕ) (media : MediaType) → HttpReads text media → HasOne (IsSet name value old media)
+one_set text name value old media reads = ⊎_elim
+    (λ is. one_is (λ same. omega (arith, same)) (is_set is (comes_back text name value media reads is)) (λ n x. same_set))
+    (λ isnt. one_is (λ same. omega (arith, same)) (isnt_parameter isnt) (λ n x. same_set)) (parameter_or_not name value)
 
 -- `mime_set_parameter` has one outcome.
 pub sets_to_one : SetsToOne

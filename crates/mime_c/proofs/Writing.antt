@@ -4,9 +4,10 @@ use Rattle.std.specs.Str.{IsUtf8}
 use Rattle.std.proofs.lemmas.List.{take_at, drop_at, drop-drop}
 use Rattle.std.proofs.lemmas.Grind.{common_steps}
 use Rattle.std.proofs.lemmas.List.Concat.{flat_map-append}
+use Rattle.std.proofs.lemmas.List.Elements.{Contains-append_right}
 use Rattle.mime.specs.Items.{Item, items_of}
 use Rattle.mime.specs.Values.{MediaType}
-use Rattle.mime.specs.Cut.{CutItem, Cut}
+use Rattle.mime.specs.Cut.{CutItem, good, Cut}
 use Rattle.mime.specs.Runs.{IsFirstItem, HasNoItem}
 use Rattle.mime.specs.Runs as runs
 use Rattle.mime.proofs.HandedOut.{has_cut}
@@ -19,25 +20,26 @@ use Rattle.mime_c.specs.declared.TheConstants.{MIME_OK, MIME_NO_MEMORY}
 use Rattle.mime_c.proofs.NoZero.{items_come_back}
 use Rattle.mime_c.proofs.Room.{items_fit, strings_of_items}
 
--- bytes and then others are written
+-- Bytes are written after others.
 pub both_written : (now mid new one other : List ℕ) (at next end : ℕ) → Writes now at one mid next → Writes mid next other new end
     → Writes now at (one ++ other) new end
 both_written now mid new one other at next end first second = record {
-  adds = λ old prefix wrote. subst (HasWritten old new end) (append_assoc prefix one other) (second.adds old _ (first.adds old prefix wrote));
+  adds = λ old prefix wrote. subst (HasWritten old new end) (append_assoc prefix one other)
+      (second.adds old _ (first.adds old prefix wrote));
 }
 
--- a text that there is room for after what is written fits
+-- A text fits if there is room for it after what is written.
 pub fits : {old now prefix : List ℕ} {at : ℕ} → HasWritten old now at prefix → (text more : List ℕ)
     → length (prefix ++ (string_of text ++ more)) ≤ length old → at + length text < length now
 fits {old} {now} {prefix} wrote text more room = omega (arith, wrote.end, ap length wrote.there, length-append {A = ℕ}, length-drop {A = ℕ})
 
--- of all bytes that are to be written some are there, and the others are left
+-- Of all bytes that are to be written some are there, and the others are left.
 pub record Leaves (old now : List ℕ) (at : ℕ) (left all : List ℕ) : Type 0 where
   pub prefix : List ℕ
   pub wrote : HasWritten old now at prefix
   pub onward : prefix ++ left ≡ all
 
--- at first, behind what is before a position, all are left,
+-- All bytes are left at first, after those before a position.
 pub leaves-first : (old all : List ℕ) (at : ℕ) → at ≤ length old → Leaves old old at all (take at old ++ all)
 leaves-first old all at within = record {
   prefix = take at old;
@@ -45,21 +47,21 @@ leaves-first old all at within = record {
   onward = refl;
 }
 
--- which fit if there is room for all from there on,
+-- All bytes fit if there is room for them from a position on.
 pub leaves-room : (old all : List ℕ) (at : ℕ) → at + length all ≤ length old → length (take at old ++ all) ≤ length old
 leaves-room old all at room = omega (arith, length-append (take at old) all, length-take at old)
 
 module _ {old now left all : List ℕ} {at : ℕ} (leaves : Leaves old now at left all) where
-  -- the next string fits,
+  -- The next string that is left fits.
   pub leaves-fits : (text more : List ℕ) → left ≡ string_of text ++ more → length all ≤ length old → at + length text < length now
   leaves-fits text more is room = fits leaves.wrote text more (rw (← is, leaves.onward) room)
 
-  -- other bytes that are next fit, too
+  -- The next bytes that are left fit.
   pub leaves-holds : (bytes more : List ℕ) → left ≡ bytes ++ more → length all ≤ length old → at + length bytes ≤ length now
   leaves-holds bytes more is room =
       omega (arith, leaves.wrote.end, ap length leaves.wrote.there, ap length leaves.onward, ap length is, room, length-append {A = ℕ}, length-drop {A = ℕ})
 
-  -- it is written,
+  -- The bytes after the next are left once the next are written.
   pub leaves-next : (bytes more new : List ℕ) (end : ℕ) → left ≡ bytes ++ more → Writes now at bytes new end → Leaves old new end more all
   leaves-next bytes more new end is writes = record {
     prefix = leaves.prefix ++ bytes;
@@ -67,12 +69,13 @@ module _ {old now left all : List ℕ} {at : ℕ} (leaves : Leaves old now at le
     onward = append_assoc leaves.prefix bytes more ∙ ap (λ it. leaves.prefix ++ it) (sym is) ∙ leaves.onward;
   }
 
--- if nothing is left, all bytes are written
+-- All bytes are written if nothing is left.
 pub leaves-last : {old now all : List ℕ} {at : ℕ} → Leaves old now at [] all → HasWritten old now at all
 leaves-last {old} {now} {all} {at} leaves = subst (HasWritten old now at) (sym (append-nil leaves.prefix) ∙ leaves.onward) leaves.wrote
 
--- if nothing is left, all bytes are written from the position on
-pub writes-all : {old now left all : List ℕ} {at end : ℕ} → Leaves old now end left (take at old ++ all) → left ≡ [] → Writes old at all now end
+-- All bytes are written from a position on if nothing is left.
+pub writes-all : {old now left all : List ℕ} {at end : ℕ} → Leaves old now end left (take at old ++ all) → left ≡ []
+    → Writes old at all now end
 writes-all {old} {now} {left} {all} {at} {end} leaves none = record {
   adds = λ older prefix wrote.
       let last = leaves-last (subst (λ it. Leaves old now end it (take at old ++ all)) none leaves) in
@@ -85,7 +88,7 @@ writes-all {old} {now} {left} {all} {at} {end} leaves none = record {
       record { there = cc (before, after, last.there); end = last.end ∙ ap (λ it. length (it ++ all)) before };
 }
 
--- a text is a string if the 0 was written before it
+-- A text is a string if the 0 was written before it.
 pub ended_before : (now text new : List ℕ) (i at end : ℕ) → i ≡ at + length text → i < length now → Writes (set now i 0) at text new end
     → Writes now at (string_of text) new (end + 1)
 unfolding leaves-first
@@ -97,74 +100,85 @@ ended_before now text new i at end is room writes =
       onward = append-nil _;
     }) refl
 
--- the position after bytes that were written is as many bytes further on
+-- The position after bytes that were written is as many bytes further on.
 pub writes-end : {old new bytes : List ℕ} {at end : ℕ} → at ≤ length old → Writes old at bytes new end → end ≡ at + length bytes
 unfolding leaves-first
 writes-end {old} {new} {bytes} {at} within writes =
-    omega (arith, (writes.adds old (take at old) (leaves-first old [] at within).wrote).end, length-append (take at old) bytes, length-take at old)
+    omega (
+      arith,
+      (writes.adds old (take at old) (leaves-first old [] at within).wrote).end,
+      length-append
+          (take at old) bytes,
+      length-take at old,
+    )
 
--- those that are written first are all that is written
+-- Bytes that are written first are all that is written.
 pub wrote-first : {old new bytes : List ℕ} {end : ℕ} → Writes old 0 bytes new end → HasWritten old new end bytes
 wrote-first {old} writes = writes.adds old [] (record { there = refl; end = refl })
 
 -- ---- the parts of a media type
 
--- the names and the values of items
+-- The names and the values of items.
 abbrev pub given_texts : List Item → List (List ℕ)
 given_texts [] = []
 given_texts (item ∷ items) = item.name ∷ item.value ∷ given_texts items
 
--- those of the items of pairs are those of the pairs
+-- The texts of the items of pairs are those of the pairs.
 given_texts-items_of : (pairs : List (List ℕ × List ℕ)) → given_texts (items_of pairs) ≡ pair_texts pairs
 given_texts-items_of [] = refl
 given_texts-items_of ((name, value) ∷ pairs) = ap (λ texts. name ∷ value ∷ texts) (given_texts-items_of pairs)
 
--- first comes the essence,
+-- The essence is the first of the parts.
 pub given-first : (media : MediaType) (items : List Item) (text : List ℕ) → items ≡ items_of media.pairs → text ≡ media.essence
     → strings (parts_of media) ≡ string_of text ++ strings (given_texts items)
 given-first media items text given is = rw (given, is, given_texts-items_of media.pairs) refl
 
--- the name and the value of an item come next
+-- The name and the value of an item come next.
 pub given-next : (items more : List Item) (item : Item) (name value : List ℕ) → items ≡ item ∷ more → name ≡ item.name
     → value ≡ item.value → strings (given_texts items) ≡ string_of name ++ (string_of value ++ strings (given_texts more))
 given-next items more item name value next named valued = rw (next, named, valued) refl
 
--- behind its parts a media type has its kept text
+-- A media type has its kept text after its parts.
 pub strings_of_texts : (media : MediaType) → strings (texts_of media) ≡ strings (parts_of media) ++ string_of media.kept
-strings_of_texts media = flat_map-append string_of (parts_of media) (media.kept ∷ []) ∙ ap (λ it. strings (parts_of media) ++ it) (append-nil (string_of media.kept))
+strings_of_texts media = flat_map-append string_of (parts_of media) (media.kept ∷ []) ∙ ap (λ it. strings (parts_of media) ++ it)
+    (append-nil (string_of media.kept))
 
--- a range has its weight, its parts and an empty string
+-- A range has its weight, its parts and an empty string.
 pub strings_of_range : (range : MediaType)
     → strings (range_texts range) ≡ ((four_digits (weight_of range) ++ 0 ∷ []) ++ strings (parts_of range)) ++ 0 ∷ []
 strings_of_range range =
     let weight = string_of (four_digits (weight_of range)) in
-    ap (λ it. weight ++ it) (flat_map-append string_of (parts_of range) ([] ∷ [])) ∙ sym (append_assoc weight (strings (parts_of range)) (0 ∷ []))
+    ap (λ it. weight ++ it) (flat_map-append string_of (parts_of range) ([] ∷ [])) ∙ sym
+    (append_assoc weight (strings (parts_of range)) (0 ∷ []))
 
--- ranges have the strings of the first, and then those of the others
+-- Ranges have the strings of the first, and then those of the others.
 pub strings_of_ranges : (range : MediaType) (ranges : List MediaType)
     → strings (ranges_texts (range ∷ ranges)) ≡ strings (range_texts range) ++ strings (ranges_texts ranges)
 strings_of_ranges range ranges = flat_map-append string_of (range_texts range) (ranges_texts ranges)
 
 -- ---- the items of a list
 
--- items of the text are written, and the others are those of what is left of it
+-- Some items of a text are written, and the others are those of what is left of it.
 pub record Lists (text old now : List ℕ) (at : ℕ) (left : List ℕ) : Type 0 where
   pub before : List CutItem
   pub cuts : (items : List CutItem) (rest : List ℕ) → Cut left items rest → Cut text (before ++ items) rest
   pub wrote : HasWritten old now at (strings (item_texts before))
 
-module _ {text old now left next : List ℕ} {at : ℕ} {item : CutItem} (lists : Lists text old now at left) (is_first : IsFirstItem left item next) where
-  -- the text of the next item fits,
+module _ {text old now left next : List ℕ} {at : ℕ} {item : CutItem} (lists : Lists text old now at left)
+    (is_first : IsFirstItem left item next) where
+  -- The text of the next item fits.
   pub lists-fits : (body : List ℕ) → item_text item ≡ body → 2 * length text ≤ length old → at + length body < length now
   lists-fits body is room =
       let has = has_cut next in
       let all = item ∷ has.items in
       let size = items_fit text _ has.rest (lists.cuts all has.rest (is_first has.items has.rest has.cut)) in
       rw (← is)
-      (fits lists.wrote (item_text item) (strings (item_texts has.items)) (omega (arith, room, size, ap length (strings_of_items lists.before all))))
+      (fits lists.wrote (item_text item) (strings (item_texts has.items))
+      (omega (arith, room, size, ap length (strings_of_items lists.before all))))
 
-  -- it is written,
-  pub lists-next : (body new : List ℕ) (end : ℕ) → item_text item ≡ body → Writes now at (string_of body) new end → Lists text old new end next
+  -- The items after the next are left once the next is written.
+  pub lists-next : (body new : List ℕ) (end : ℕ) → item_text item ≡ body → Writes now at (string_of body) new end
+      → Lists text old new end next
   lists-next body new end is writes =
       let here = item ∷ [] in
       let there = ap (λ it. strings (item_texts lists.before) ++ it) (append-nil (string_of (item_text item)) ∙ ap string_of is) in
@@ -175,21 +189,23 @@ module _ {text old now left next : List ℕ} {at : ℕ} {item : CutItem} (lists 
         wrote = subst (HasWritten old new end) (sym (strings_of_items lists.before here ∙ there)) (writes.adds old _ lists.wrote);
       }
 
-module _ {text old now left : List ℕ} {at : ℕ} (lists : Lists text old now at left) (room : 2 * length text ≤ length old) (utf8 : IsUtf8 text) where
-  -- at the end all are written,
+module _ {text old now left : List ℕ} {at : ℕ} (lists : Lists text old now at left) (room : 2 * length text ≤ length old)
+    (utf8 : IsUtf8 text) where
+  -- All items are listed at the end.
   pub lists-last : HasNoItem left → ListsTo text old MIME_OK (now, at)
   lists-last (rest, none) =
       let cut = subst (λ items. Cut text items rest) (append-nil lists.before) (lists.cuts [] rest none) in
-      rw (lists.wrote.there, lists.wrote.end) (has_room _ _ room (is_listed lists.before rest utf8 cut (items_come_back text lists.before rest cut)))
+      rw (lists.wrote.there, lists.wrote.end) (has_room _ _ room
+      (is_listed lists.before rest utf8 cut (items_come_back text lists.before rest cut)))
 
-  -- if there was no memory for an item, the call says so
+  -- The call says that there was no memory for an item.
   pub lists-no_memory : runs.FirstNeedsMemory left → ListsTo text old MIME_NO_MEMORY (now, 0)
-  lists-no_memory needs = has_room _ _ room (has_no_memory now utf8 (record {
-    before = lists.before;
-    piece = needs.piece;
-    media = needs.value;
-    after = needs.items;
-    rest = needs.rest;
-    cut = lists.cuts _ needs.rest needs.cut;
-    long = needs.long;
-  }))
+  lists-no_memory needs = has_room _ _ room (has_no_memory now utf8 (
+    lists.before ++ (good needs.piece needs.value ∷ needs.items),
+    needs.rest,
+    needs.piece,
+    needs.value,
+    lists.cuts _ needs.rest needs.cut,
+    Contains-append_right lists.before (good needs.piece needs.value ∷ needs.items) _ (0, omega arith, refl),
+    needs.long,
+  ))

@@ -11,11 +11,11 @@ use Rattle.mime_c.proofs.Writing.{Leaves, leaves-holds, leaves-last, strings_of_
 use Rattle.mime_c.proofs.HeaderRoom.{ranges_fit, ranges_come_back}
 use Rattle.mime_c.proofs.mime_accept.Goals as goal
 
--- the strings of ranges
+-- The strings of ranges.
 abbrev all_of : List OwnedMedia → List ℕ
 all_of ranges = strings (ranges_texts (map (λ range. range.media) ranges))
 
--- those of the next come first
+-- The strings of the next range come first.
 first_of : (ranges : List OwnedMedia) (i : ℕ) (range : OwnedMedia) → i < length ranges → range ≡ get_or ranges i range
     → all_of (drop i ranges) ≡ strings (range_texts range.media) ++ all_of (drop (i + 1) ranges)
 first_of ranges i range more is =
@@ -35,7 +35,13 @@ put_range-at-requires c =
     let header = c.in-Ok.ensures.header in
     let fit = ranges_fit c.args.text.now header.0 header.1 in
     let room : length (all_of c.ranges-range-items.result.now) ≤ length c.args.out.now =
-    omega (arith, fit, ap (λ all. length (strings (ranges_texts all))) (ranges ∙ ap (λ (it : Header). it.ranges) header.2), c.if-out-text.false) in
+    omega (
+      arith,
+      fit,
+      ap (λ all. length (strings (ranges_texts all)))
+          (ranges ∙ ap (λ (it : Header). it.ranges) header.2),
+      c.if-out-text.false,
+    ) in
     leaves-holds c.loop-range.invariant (strings (range_texts c.range-item.result.media)) _
     (first_of c.ranges-range-items.result.now c.loop-range.range-index c.range-item.result c.loop-range-test.true c.range-item.is) room
 
@@ -43,7 +49,9 @@ pub returns : goal.returns
 returns c =
     let header = c.in-Ok.ensures.header in
     let ranges = c.ranges-range-items.result.now in
-    let none : all_of (drop c.loop-range.range-index ranges) ≡ [] = ap all_of (drop_all c.loop-range.range-index ranges (omega (arith, c.loop-range-test.false))) in
-    let wrote = leaves-last (subst (λ left. Leaves c.args.out.now c.loop-range.out c.loop-range.at left (all_of ranges)) none c.loop-range.invariant) in
+    let none : all_of (drop c.loop-range.range-index ranges) ≡ [] = ap all_of
+    (drop_all c.loop-range.range-index ranges (omega (arith, c.loop-range-test.false))) in
+    let wrote = leaves-last (subst (λ left. Leaves c.args.out.now c.loop-range.out c.loop-range.at left
+    (all_of ranges)) none c.loop-range.invariant) in
     rw (wrote.there, wrote.end, header.3, c.ranges-range-items.ensures ∙ ap (λ (it : Header). it.ranges) header.2)
     (has_room _ _ (omega (arith, c.if-out-text.false)) (are_ranges header.0 header.1 (ranges_come_back _ header.0 header.1)))

@@ -30,7 +30,8 @@ returns-in-Some-best c =
     let offered = c.in-Ok.ensures.header in
     are_offers header.0 offered.0 _ _ header.1 offered.1
     (none_bad c.args.offers.now c.in-Ok.entries.first offered.0 c.in-Ok.ensures.first c.in_default-first.not-Some offered.3)
-    (best_is _ (best_of offered.0 header.2 c.ranges-2.ensures (ap (λ (it : Header). it.ranges) offered.2) c.best.ensures.exact c.in-Some-best.is))
+    (best_is _ (best_of offered.0 header.2 c.ranges-2.ensures
+    (ap (λ (it : Header). it.ranges) offered.2) c.best.ensures.exact c.in-Some-best.is))
 
 pub returns : goal.returns
 returns c =
@@ -38,4 +39,5 @@ returns c =
     let offered = c.in-Ok.ensures.header in
     are_offers header.0 offered.0 _ _ header.1 offered.1
     (none_bad c.args.offers.now c.in-Ok.entries.first offered.0 c.in-Ok.ensures.first c.in_default-first.not-Some offered.3)
-    (none_is_best (best_of offered.0 header.2 c.ranges-2.ensures (ap (λ (it : Header). it.ranges) offered.2) c.best.ensures.exact c.in-None.is))
+    (none_is_best (best_of offered.0 header.2 c.ranges-2.ensures
+    (ap (λ (it : Header). it.ranges) offered.2) c.best.ensures.exact c.in-None.is))

@@ -8,7 +8,7 @@ use Rattle.mime_c.specs.declared.TheConstants.{MIME_GOOD, MIME_BAD}
 use Rattle.mime_c.proofs.Writing.{lists-fits, lists-next, lists-last, lists-no_memory}
 use Rattle.mime_c.proofs.mime_list.Goals as goal
 
--- what is given, as it is matched
+-- What is given is what is matched.
 gives : {old new : Iteration} {item seen : Result OwnedMedia Bad} → item ≡ seen → IsNext old (Some item) new → GivesItem old (Some seen) new
 gives {old} {new} is next = subst (λ item. GivesItem old (Some item) new) is next.item
 
@@ -19,11 +19,13 @@ put_item-at-requires c =
 
 pub loop-item-preserved-in-Ok-item : goal.loop-item-preserved-in-Ok-item
 loop-item-preserved-in-Ok-item c =
-    lists-next c.loop-item.invariant (gives c.in-Ok-item.is c.in-Some.ensures.steps).1 (MIME_GOOD ∷ c.as_str.result.now) _ _ (cc) c.put_item-at.ensures
+    lists-next c.loop-item.invariant (gives c.in-Ok-item.is c.in-Some.ensures.steps).1 (MIME_GOOD ∷ c.as_str.result.now) _ _
+    (cc) c.put_item-at.ensures
 
 pub loop-item-preserved-in-Ok-item-2 : goal.loop-item-preserved-in-Ok-item-2
 loop-item-preserved-in-Ok-item-2 c =
-    lists-next c.loop-item.invariant (gives c.in-Ok-item.is c.in-Some.ensures.steps).1 (MIME_GOOD ∷ c.as_str.result.now) _ _ (cc) c.put_item-at.ensures
+    lists-next c.loop-item.invariant (gives c.in-Ok-item.is c.in-Some.ensures.steps).1 (MIME_GOOD ∷ c.as_str.result.now) _ _
+    (cc) c.put_item-at.ensures
 
 pub put_item-at-requires-in-Err-Piece : goal.put_item-at-requires-in-Err-Piece
 put_item-at-requires-in-Err-Piece c =

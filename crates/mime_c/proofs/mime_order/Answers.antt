@@ -42,7 +42,8 @@ returns-in_default-order c =
     offers_have_no_memory (λ none.
     let offered = c.in-Ok.ensures.header in
     let empty = c.ranges-2.ensures ∙ ap (λ (it : Header). it.ranges) offered.2 ∙ no_offer offered.1 none.0 in
-    let offers = nil_from_length c.ranges-2.result.now (sym (length-map c.ranges-2.result.now (λ (range : OwnedMedia). range.media)) ∙ ap length empty) in
+    let offers = nil_from_length c.ranges-2.result.now
+    (sym (length-map c.ranges-2.result.now (λ (range : OwnedMedia). range.media)) ∙ ap length empty) in
     true≢false (sym (subst IsOk c.in_default-order.is (c.order.ensures.none offers))))
 
 pub returns-then-is_empty : goal.returns-then-is_empty

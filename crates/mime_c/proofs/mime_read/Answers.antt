@@ -15,4 +15,5 @@ returns-in-Ok c =
 
 pub returns-in-Err : goal.returns-in-Err
 returns-in-Err c =
-    rw (c.number_of_error.ensures, c.found_of_error.ensures) (has_room _ _ (omega (arith, c.if-out-text.false)) (fails _ c.in-Err.ensures.explained))
+    rw (c.number_of_error.ensures, c.found_of_error.ensures)
+    (has_room _ _ (omega (arith, c.if-out-text.false)) (fails _ c.in-Err.ensures.explained))

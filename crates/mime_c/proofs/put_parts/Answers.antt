@@ -7,7 +7,8 @@ use Rattle.mime_c.proofs.put_parts.Goals as goal
 pub loop-name-init : goal.loop-name-init
 loop-name-init c =
     leaves-next (leaves-first _ _ _ (omega (arith, c.requires))) _ _ _ _
-    (given-first c.args.mime.now.media _ _ (c.into_iter-name-iterator.ensures.into_iter_gives ∙ c.params-name-items.ensures.items) c.essence_str.ensures)
+    (given-first c.args.mime.now.media _ _ (c.into_iter-name-iterator.ensures.into_iter_gives
+    ∙ c.params-name-items.ensures.items) c.essence_str.ensures)
     c.put-end.ensures
 
 pub put-end-requires-in-loop-name : goal.put-end-requires-in-loop-name

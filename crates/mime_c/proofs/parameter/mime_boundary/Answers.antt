@@ -11,7 +11,8 @@ pub returns-then-out-lt-BOUNDARY_ROOM : goal.returns-then-out-lt-BOUNDARY_ROOM
 returns-then-out-lt-BOUNDARY_ROOM c = has_no_room (omega (arith, c.if-out-lt-BOUNDARY_ROOM.true))
 
 pub returns-in-Err : goal.returns-in-Err
-returns-in-Err c = rw c.number_of_error.ensures (has_room _ _ (omega (arith, c.if-out-lt-BOUNDARY_ROOM.false)) (fails _ c.in-Err.ensures.explained))
+returns-in-Err c = rw c.number_of_error.ensures (has_room _ _ (omega (arith, c.if-out-lt-BOUNDARY_ROOM.false))
+    (fails _ c.in-Err.ensures.explained))
 
 pub returns-in-Ok-Some : goal.returns-in-Ok-Some
 returns-in-Ok-Some c =
@@ -26,9 +27,11 @@ pub returns-in-Ok-None : goal.returns-in-Ok-None
 returns-in-Ok-None c =
     let http = c.in-Ok.ensures.http in
     let none : (boundary : List ℕ) → ¬ (IsBoundaryOf c.in-Ok.mime.media boundary) = search rules in
-    has_room _ _ (omega (arith, c.if-out-lt-BOUNDARY_ROOM.false)) (is_read _ _ _ (http.0, http.1, c.in-Ok.ensures.kept) (has_no_boundary none))
+    has_room _ _ (omega (arith, c.if-out-lt-BOUNDARY_ROOM.false))
+    (is_read _ _ _ (http.0, http.1, c.in-Ok.ensures.kept) (has_no_boundary none))
 
 pub returns : goal.returns
 returns c =
     let http = c.in-Ok.ensures.http in
-    has_room _ _ (omega (arith, c.if-out-lt-BOUNDARY_ROOM.false)) (is_read _ _ _ (http.0, http.1, c.in-Ok.ensures.kept) boundary_has_no_memory)
+    has_room _ _ (omega (arith, c.if-out-lt-BOUNDARY_ROOM.false))
+    (is_read _ _ _ (http.0, http.1, c.in-Ok.ensures.kept) boundary_has_no_memory)

@@ -10,7 +10,7 @@ use Rattle.mime_c.specs.ParameterAnswers.{room_with, IsParameter, with_parameter
 use Rattle.mime_c.proofs.ParameterRoom.{set_fits, set_comes_back}
 use Rattle.mime_c.proofs.parameter.mime_set_parameter.Goals as goal
 
--- a media type that was made is the one with the parameter
+-- A media type that was made is the one with the parameter.
 made_is : (media : MediaType) {made : MediaType} {name value its_name its_value : List ℕ} → name ≡ its_name → value ≡ its_value
     → made ≡ with_parameter media name value → made ≡ with_parameter media its_name its_value
 made_is media {made} {name} {value} {its_name} named valued is =
@@ -66,7 +66,8 @@ returns-in-Ok-Some c =
       named = subst IsToken name.0 both.0;
       safe = subst AreHeaderBytes value.0 both.1;
     } in
-    let reads : Reads c.in-Ok-Some.made.media.kept c.in-Ok-Some.made.media = subst (λ it. Reads it c.in-Ok-Some.made.media) c.as_str.ensures.text c.as_str.ensures.reads in
+    let reads : Reads c.in-Ok-Some.made.media.kept c.in-Ok-Some.made.media = subst
+    (λ it. Reads it c.in-Ok-Some.made.media) c.as_str.ensures.text c.as_str.ensures.reads in
     let back = set_comes_back c.in-Ok-Some.made.media reads in
     rw (c.put_string.ensures.bytes, c.put_string.ensures.size, text, is)
     (has_room _ _ (c.if-not-has_room.ensures.0 refl) (is_read media _ _ (http.0, http.1, c.in-Ok.ensures.kept)
