@@ -112,7 +112,7 @@ short_has_none value media utf8 reads printed few (Err error) why =
     let needs = subst (HttpExplains value) (error_is_memory value error utf8 (media, reads) why) why in
     absurd (short_needs_none value media reads printed few needs.1)
 
--- Of `*/*` three bytes are printed.
+-- For `*/*`, three bytes are printed.
 pub star_has_none : {T : Type 0} (value : List ℕ) → value ≡ codes "*/*" → IsUtf8 value × ((result : Result T FieldError)
     → IfErr result (HttpExplains value) → IsOk result)
 unfolding is_token_byte

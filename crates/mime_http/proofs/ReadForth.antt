@@ -142,7 +142,7 @@ pub record AreFound (value : List ℕ) (parts : Parts) : Type 0 where
   pub safe : AllByRecursion IsSafePair parts.pairs
   pub utf8 : IsUtf8 value → IsUtf8 (text_of_pairs parts.pairs)
 
--- So are the parts of a value, which are those of the media type.
+-- The parts of a value are read, which are those of the media type.
 pub http_is_answered : (value : List ℕ) (media : MediaType) → HttpReads value media
     → (parts : Parts) × (answer_of value ≡ read parts) × (media_of parts ≡ with_pairs media media.pairs) × AreFound value parts
 unfolding is_token_byte

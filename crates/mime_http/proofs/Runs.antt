@@ -44,7 +44,7 @@ keeps_after parts b is = rw is refl
 pub keeps_inside : (parts : Parts) → KeepsSpace (after_semicolon parts)
 keeps_inside parts b is = rw is refl
 
--- So white space there changes nothing.
+-- White space changes nothing in a state that it keeps.
 pub over_white : (state : State) → KeepsSpace state → (white : List ℕ) → AreSpaces white → (at : ℕ) (bytes : List ℕ)
     → answer_from state at (white ++ bytes) ≡ answer_from state (at + length white) bytes
 over_white state keeps white all at bytes = bytes_go_on is_space (λ done. state) (λ done. keeps) white all [] at bytes
