@@ -12,9 +12,9 @@ use Rattle.mime_http.specs.HttpMediaType.{IsHttpParameter, with_token, with_stri
 use Rattle.mime_http.specs.HttpList.{trimmed, IsPrinted, as_it_stands, anew, AreBetweenCommas, no_line, line_end, comma, AreSorted, no_text, blank, a_range, a_bad, Header, IsHeader}
 use Rattle.mime_http.proofs.HandedOut.{text_of_parts, white_around, written_reads, http_is_answered, length-lowered_value}
 use Rattle.mime_http.specs.Written.{quote_of, text_of_pair, text_of_pairs, with_pairs}
-use Rattle.mime_c.specs.Strings.{string_of, strings, ComeBack, pair_texts, parts_of, texts_of}
+use Rattle.mime_c.specs.Strings.{string_of, strings, ComeBack, parts_of, texts_of}
 use Rattle.mime_c.specs.HeaderAnswers.{range_texts, ranges_texts}
-use Rattle.mime_c.proofs.NoZero.{HasNoZero, come_back, no_zero-read, no_zero-pairs}
+use Rattle.mime_c.proofs.NoZero.{pair_texts, HasNoZero, come_back, no_zero-read, no_zero-pairs}
 use Rattle.mime_c.proofs.Room.{lengths_of}
 use Rattle.mime_c.proofs.Writing.{strings_of_texts, strings_of_range, strings_of_ranges}
 

@@ -1,7 +1,7 @@
 -- No text that is written has the byte 0, so the texts come back from their strings.
 use Rattle.std.proofs.Common.{◌≡◌, ℕ, true, false, List, [], ◌∷◌, ◌++◌, refl, ap, ◌∙◌, arith}
 use Rattle.std.specs.Prelude.{◌==◌}
-use Rattle.std.specs.List.{list_all, onto_first, AllByRecursion}
+use Rattle.std.specs.List.{list_all, onto_first, flat_map, AllByRecursion}
 use Rattle.std.proofs.lemmas.Bool.{and_parts, and_from}
 use Rattle.std.proofs.lemmas.Bool.Decides.{nat_tests}
 use Rattle.mime.specs.Bytes.{is_token_byte, is_quoted_byte}
@@ -13,7 +13,7 @@ use Rattle.mime.specs.Laws.{without_parameters}
 use Rattle.mime.specs.Cut.{CutItem, good, bad, Cut}
 use Rattle.mime.specs.CutLaws.{IsItem}
 use Rattle.mime.proofs.HandedOut.{is_other, list_all-wider, are_other-token, AreTokenBytes-from_token, accepted_is_viable, walk-from_viable, essence_is_read, walked-safe, kept_is_safe, kept_is_read, cut_has_items}
-use Rattle.mime_c.specs.Strings.{string_of, strings, texts_in, ComeBack, pair_texts, texts_of, item_texts}
+use Rattle.mime_c.specs.Strings.{string_of, strings, texts_in, ComeBack, texts_of, item_texts}
 
 -- A text doesn't have the byte 0.
 abbrev pub HasNoZero : List ℕ → Type 0
@@ -53,6 +53,10 @@ no_zero-content content no_byte = refl
 no_zero-content content (text_byte b rest is others) =
     and_from _ _ (quoted_byte-other b (and_parts (is_quoted_byte b) _ is).0) (no_zero-content rest others)
 no_zero-content content (quoted_pair b rest is others) = and_from _ _ (quoted_byte-other b is) (no_zero-content rest others)
+
+-- The texts of parameters are their names and their values.
+abbrev pub pair_texts : List (List ℕ × List ℕ) → List (List ℕ)
+pair_texts pairs = flat_map (λ pair. pair.0 ∷ pair.1 ∷ []) pairs
 
 -- No name and no value has the byte 0.
 pub no_zero-pairs : (pairs : List (List ℕ × List ℕ)) (kept : List ℕ) → AllByRecursion IsSafePair pairs → HasNoZero kept

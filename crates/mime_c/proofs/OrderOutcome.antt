@@ -1,16 +1,15 @@
 -- `mime_order` has one outcome, unless memory runs out: offers have one order.
-use Rattle.std.proofs.Common.{◌≡◌, ◌≢◌, ℕ, ◌<◌, ◌⊎◌, inl, inr, true, zero, suc, List, [], ◌∷◌, length, map, refl, sym, ◌∙◌, subst, arith, ⊎_elim, rules}
+use Rattle.std.proofs.Common.{◌≡◌, ◌≢◌, ℕ, ◌<◌, ◌⊎◌, inl, inr, zero, suc, List, [], ◌∷◌, length, map, refl, subst, arith, ⊎_elim, rules}
 use Rattle.std.specs.Prelude.{Contains, ◌↔◌}
 use Rattle.std.specs.List.{All, AllPairs}
-use Rattle.std.specs.Ordering.{is_gt}
 use Rattle.std.proofs.lemmas.Bool.{cases_lt}
 use Rattle.std.proofs.lemmas.Bool.Decides.{nat_tests}
 use Rattle.std.proofs.lemmas.List.{length-map}
 use Rattle.std.proofs.lemmas.List.Elements.{All-contains, All-cons, All-head, All-nil, All-tail, All-weaker, Contains-get_or}
 use Rattle.std.proofs.lemmas.List.Kept.{AllPairs-cons}
 use Rattle.mime.specs.Values.{MediaType}
-use Rattle.mime_http.specs.Ranges.{Rank, rank_cmp, merit, merit_at, AreInOrder}
-use Rattle.mime_http.proofs.HandedOut.{weighs_within}
+use Rattle.mime_http.specs.Ranges.{Rank, merit, merit_at, ComesBefore, AreInOrder}
+use Rattle.mime_http.proofs.HandedOut.{weighs_within, one_order}
 use Rattle.mime_c.specs.Strings.{written}
 use Rattle.mime_c.specs.Answers.{InRoom, Holds}
 use Rattle.mime_c.specs.HeaderAnswers.{IsOrder, order_is, none_is_ordered}
@@ -42,39 +41,6 @@ before_rest R x xs pairs = λ k d within. pairs 0 (suc k) d (omega arith) (omega
 -- A list in order is in order without its first element.
 rest_in_order : {X : Type 0} (R : X → X → Type 0) (x : X) (xs : List X) → AllPairs R (x ∷ xs) → AllPairs R xs
 rest_in_order R x xs pairs = λ i j d less within. pairs (suc i) (suc j) d (omega (arith, less)) (omega (arith, within))
-
--- in a strict order two lists with the same elements are the same
-module _ {X : Type 0} (R : X → X → Type 0) (strict : (x y : X) → R x y → ¬ (R y x)) where
-  -- Two lists in a strict order with the same elements have the same first element.
-  same_first : (x y : X) (xs ys : List X) → AllPairs R (x ∷ xs) → AllPairs R (y ∷ ys)
-      → ((z : X) → Contains (x ∷ xs) z ↔ Contains (y ∷ ys) z) → x ≡ y
-  same_first x y xs ys one other same = ⊎_elim sym
-      (λ behind. ⊎_elim (λ is. is)
-      (λ later. absurd (strict x y (All-contains (R x) xs y (before_rest R x xs one) later)
-      (All-contains (R y) ys x (before_rest R y ys other) behind)))
-      (one_of x y xs ((same y).1 (the_first y y ys refl))))
-      (one_of y x ys ((same x).0 (the_first x x xs refl)))
-
-  -- What follows the first of one list follows the same first of the other.
-  still_there : (x y z : X) (xs ys : List X) → x ≡ y → AllPairs R (x ∷ xs) → ((w : X) → Contains (x ∷ xs) w → Contains (y ∷ ys) w)
-      → Contains xs z → Contains ys z
-  still_there x y z xs ys first one same is = ⊎_elim
-      (λ again. let later = subst (Contains xs) (sym (first ∙ again)) is in
-      let itself = All-contains (R x) xs x (before_rest R x xs one) later in
-      absurd (strict x x itself itself))
-      (λ there. there)
-      (one_of y z ys (same z (a_later x z xs is)))
-
-  -- Two lists in a strict order with the same elements are the same.
-  one_order : (xs ys : List X) → AllPairs R xs → AllPairs R ys → ((z : X) → Contains xs z ↔ Contains ys z) → xs ≡ ys
-  one_order [] [] one other same = refl
-  one_order [] (y ∷ ys) one other same = let is = (same y).1 (the_first y y ys refl) in absurd (omega (arith, is.1))
-  one_order (x ∷ xs) [] one other same = let is = (same x).0 (the_first x x xs refl) in absurd (omega (arith, is.1))
-  one_order (x ∷ xs) (y ∷ ys) one other same =
-      let first = same_first x y xs ys one other same in
-      let rest = one_order xs ys (rest_in_order R x xs one) (rest_in_order R y ys other)
-      (λ z. (still_there x y z xs ys first one (λ w. (same w).0), still_there y x z ys xs (sym first) other (λ w. (same w).1))) in
-      λ i. first i ∷ rest i
 
 -- a list in order with one element more
 module _ {X : Type 0} (R : X → X → Type 0) (goes_on : (x y z : X) → R x y → R y z → R x z) where
@@ -110,32 +76,18 @@ module _ {X : Type 0} (R : X → X → Type 0) (goes_on : (x y z : X) → R x y 
 
 -- ---- offers
 
--- An offer is before another: it ranks higher, or as high and is offered first.
-abbrev Higher : Rank → ℕ → Rank → ℕ → Type 0
-Higher x i y j = (is_gt (rank_cmp x y) ≡ true) ⊎ ((x ≡ y) × (i < j))
-
--- Of two offers at most one is before the other.
-not_back : (x y : Rank) (i j : ℕ) → Higher x i y j → ¬ (Higher y j x i)
-not_back x y i j (inl above) (inl back) = absurd (grind (arith, nat_tests, above, back))
-not_back x y i j (inl above) (inr (same, less)) = absurd (grind (arith, nat_tests, above, same))
-not_back x y i j (inr (same, less)) (inl back) = absurd (grind (arith, nat_tests, back, same))
-not_back x y i j (inr (same, less)) (inr (again, more)) = absurd (omega (arith, less, more))
-
 -- An offer before another is before all that the other is before.
-goes_on_higher : (x y z : Rank) (i j k : ℕ) → Higher x i y j → Higher y j z k → Higher x i z k
-goes_on_higher x y z i j k (inl above) (inl on) = inl (grind (arith, nat_tests, above, on))
-goes_on_higher x y z i j k (inl above) (inr (same, less)) = inl (subst (λ (r : Rank). is_gt (rank_cmp x r) ≡ true) same above)
-goes_on_higher x y z i j k (inr (same, less)) (inl on) = inl (subst (λ (r : Rank). is_gt (rank_cmp r z) ≡ true) (sym same) on)
-goes_on_higher x y z i j k (inr (same, less)) (inr (again, more)) = inr (same ∙ again, omega (arith, less, more))
+goes_on_before : (rank : ℕ → Rank) (x y z : ℕ) → ComesBefore rank x y → ComesBefore rank y z → ComesBefore rank x z
+goes_on_before rank x y z before after = grind (arith, nat_tests, before, after)
 
--- Of two offers one is before the other.
-one_is_higher : (x y : Rank) (i j : ℕ) → j < i → Higher x i y j ⊎ Higher y j x i
-one_is_higher x y i j less = search rules
+-- One of two offers is before the other.
+one_is_before : (rank : ℕ → Rank) (x y : ℕ) → y < x → ComesBefore rank x y ⊎ ComesBefore rank y x
+one_is_before rank x y less = search rules
 
 module _ (ranges offers : List MediaType) where
   -- An offer at a position is before another.
   abbrev Before : ℕ → ℕ → Type 0
-  Before at other = Higher (merit_at ranges offers at) at (merit_at ranges offers other) other
+  Before = ComesBefore (merit_at ranges offers)
 
   -- The first offers that weigh something have an order.
   ordered : (n : ℕ) → (order : List ℕ) × AllPairs Before order
@@ -149,8 +101,8 @@ module _ (ranges offers : List MediaType) where
       let so_far = ordered n in
       ⊎_elim
       (λ weighs.
-      let more = placed Before (λ x y z. goes_on_higher _ _ _ x y z) n so_far.0 so_far.1
-      (λ k d within. one_is_higher _ _ n _ ((so_far.2 _).0 (Contains-get_or so_far.0 k d within)).0) in (
+      let more = placed Before (goes_on_before (merit_at ranges offers)) n so_far.0 so_far.1
+      (λ k d within. one_is_before (merit_at ranges offers) n _ ((so_far.2 _).0 (Contains-get_or so_far.0 k d within)).0) in (
         more.0,
         more.1,
         λ at. (
@@ -197,19 +149,13 @@ module _ (ranges offers : List MediaType) where
         },
       )
 
-  -- Offers have only one order.
-  only_order : (order other : List ℕ) → AreInOrder ranges offers order → AreInOrder ranges offers other → other ≡ order
-  only_order order other one two =
-      one_order Before (λ x y. not_back _ _ x y) other order two.best_first one.best_first
-      (λ at. (λ is. (one.all at).1 ((two.all at).0 is), λ is. (two.all at).1 ((one.all at).0 is)))
-
 -- ---- outcomes
 
 module _ (old : List ℕ) (ranges offers : List MediaType) where
   -- No order is the only outcome if no offer is acceptable.
   only_unordered : AreInOrder ranges offers [] → (n : ℕ) (held : List ℕ × ℕ) → n ≢ MIME_NO_MEMORY → IsOrder old ranges offers n held
       → (n ≡ MIME_NOT_ACCEPTABLE) × (held ≡ (old, 0))
-  only_unordered none n held some (order_is order _ _ are more is) = absurd (more (only_order ranges offers [] order none are))
+  only_unordered none n held some (order_is order _ _ are more is) = absurd (more (one_order ranges offers order [] are none))
   only_unordered none n held some (none_is_ordered too) = (refl, refl)
 
   -- An order is written if there is room for it.
@@ -224,8 +170,8 @@ module _ (old : List ℕ) (ranges offers : List MediaType) where
   only_some : (order : List ℕ) → AreInOrder ranges offers order → order ≢ [] → (n : ℕ) (held : List ℕ × ℕ) → n ≢ MIME_NO_MEMORY
       → IsOrder old ranges offers n held → (n ≡ (one_place order).0) × (held ≡ (one_place order).1)
   only_some order are more n held some (order_is other _ _ too _ is) =
-      (one_place order).4 n held some (subst (λ it. IsPlaced it n held) (only_order ranges offers order other are too) is)
-  only_some order are more n held some (none_is_ordered none) = absurd (more (only_order ranges offers [] order none are))
+      (one_place order).4 n held some (subst (λ it. IsPlaced it n held) (one_order ranges offers other order too are) is)
+  only_some order are more n held some (none_is_ordered none) = absurd (more (one_order ranges offers order [] are none))
 
   -- Ranges and offers have one order, which there is room for or isn't.
   one_ordering : HasOne (IsOrder old ranges offers)

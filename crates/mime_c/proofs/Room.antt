@@ -6,7 +6,8 @@ use Rattle.mime.specs.Grammar.{Parameter, plain, quoted, Parameters, blank, fina
 use Rattle.mime.specs.Values.{MediaType, Reads, pair_of, pairs_of_list, pairs_of_tail, essence_of, kept_text}
 use Rattle.mime.specs.Cut.{CutItem, ItemsOf, is_read, is_rejected, is_empty, Cut, whole, unfinished, goes_on}
 use Rattle.mime.proofs.HandedOut.{length-lowered, positions_of, kept_text_of, length-in_part, text_of-essence, length-essence_of, value_of_low, value_of-lowering, keeps-tree, kept-in_part, split-size, token-size}
-use Rattle.mime_c.specs.Strings.{string_of, strings, pair_texts, texts_of, item_text, item_texts}
+use Rattle.mime_c.specs.Strings.{string_of, strings, texts_of, item_text, item_texts}
+use Rattle.mime_c.proofs.NoZero.{pair_texts}
 use Rattle.mime_c.specs.declared.TheConstants.{MIME_GOOD, MIME_BAD}
 
 -- A string has one byte more than its text.

@@ -49,5 +49,4 @@ pub data IsSet (name value old : List ℕ) (media : MediaType) : ℕ → List �
   set_has_no_memory : IsSet name value old media MIME_NO_MEMORY (old, 0)
 
 abbrev pub SetsTo : List ℕ → List ℕ → List ℕ → List ℕ → ℕ → List ℕ × ℕ → Type 0
-SetsTo text name value old =
-    InRoom (room_with text name value) old (old, 0) (OfValue text (λ found. (old, 0)) (IsSet name value old))
+SetsTo text name value old = InRoom (room_with text name value) old (old, 0) (OfValue text (λ found. (old, 0)) (IsSet name value old))

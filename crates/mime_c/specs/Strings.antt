@@ -22,14 +22,9 @@ texts_in (byte ∷ bytes) = if byte == 0 then [] ∷ texts_in bytes else onto_fi
 abbrev pub ComeBack : List (List ℕ) → Type 0
 ComeBack texts = texts_in (strings texts) ≡ texts
 
--- the name and the value of each parameter
-abbrev pub pair_texts : List (List ℕ × List ℕ) → List (List ℕ)
-pair_texts [] = []
-pair_texts ((name, value) ∷ pairs) = name ∷ value ∷ pair_texts pairs
-
 -- the parts of a media type: its essence, and then the name and the value of each parameter
 abbrev pub parts_of : MediaType → List (List ℕ)
-parts_of media = media.essence ∷ pair_texts media.pairs
+parts_of media = media.essence ∷ flat_map (λ pair. pair.0 ∷ pair.1 ∷ []) media.pairs
 
 -- the texts of a media type: its parts, and then the text that it is printed as
 abbrev pub texts_of : MediaType → List (List ℕ)
