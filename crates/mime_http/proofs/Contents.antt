@@ -132,8 +132,7 @@ unfolding is_quoted_byte
 quoted_len [] few = refl
 quoted_len (b ∷ bytes) few = grind (arith, nat_tests, or_zero_r b, few 0, quoted_len bytes (λ i. few (suc i)))
 
--- A run of a class of bytes that all bytes of a token are of ends at the end exactly if all bytes are of the class, wherever in a token at the
--- start it begins.
+-- Of a class of all token bytes, a run from within a token at the start ends at the end exactly if all bytes are of the class.
 pub run_after : (class : ℕ → Bool) → ((b : ℕ) → is_token_byte b ≡ true → class b ≡ true) → (value : List ℕ) (plain : ℕ)
     → plain ≤ prefix_len is_token_byte value
     → (plain + prefix_len class (drop plain value) == length value) ≡ list_all class value
@@ -150,7 +149,8 @@ token_safe : (value : List ℕ) → is_token_value value ≡ true → list_all i
 token_safe value is = safe_text value (token_text value (token_from_test value is))
 
 -- The run of token bytes, and what two searches find after it, decide the form of a value.
-pub form_found : (value : List ℕ) → ((i : ℕ) → get_or value i 0 < 256) → {plain control special : ℕ} → plain ≡ 0 + prefix_len is_token_byte value
+pub form_found : (value : List ℕ) → ((i : ℕ) → get_or value i 0 < 256) → {plain control special : ℕ}
+    → plain ≡ 0 + prefix_len is_token_byte value
     → control ≡ plain + prefix_len (λ b. not (is_stop CONTROLS b)) (drop plain value)
     → special ≡ plain + prefix_len is_plain (drop plain value)
     → (if plain == length value && nat_lt 0 plain then Some Token else

@@ -1,6 +1,6 @@
 //! Compares what two values mean.
 
-ghost use Rattle.std.specs.Prelude.{◌≡◌, ◌≢◌, ◌<◌, [], ◌∷◌, IfSome, IsFalse, MatchOption, bytes_eq, length};
+ghost use Rattle.std.specs.Prelude.{◌≡◌, ◌≢◌, ◌<◌, [], ◌∷◌, IfSome, MatchOption, bytes_eq, length};
 ghost use Rattle.mime_http.specs.Unescaped.{unescaped};
 
 use mime_search::{BLOCK, Class, first_stop};
@@ -18,14 +18,6 @@ pub(crate) fn split_first(value: &[u8]) -> Option<(u8, &[u8])>
     }
 }
 
-/// Returns `true` if a value has a backslash. A value without a backslash means itself.
-#[inline(never)]
-fn has_backslash(value: &[u8]) -> bool
-    ensures { IsFalse result → unescaped value.now ≡ value.now }
-{
-    first_stop(value, 0, &Class::of(b'\\', b'\\')) < value.len()
-}
-
 /// Returns `true` if two different values mean the same. This function isn't inlined, since few ranges need it.
 #[inline(never)]
 fn differ_but_mean_the_same(value: &[u8], other: &[u8]) -> bool
@@ -39,7 +31,7 @@ fn differ_but_mean_the_same(value: &[u8], other: &[u8]) -> bool
     } else {
         value
     };
-    if longer.len() >= BLOCK && !has_backslash(longer) {
+    if longer.len() >= BLOCK && first_stop(longer, 0, &Class::of(b'\\', b'\\')) == longer.len() {
         return false;
     }
     let mut left = value;

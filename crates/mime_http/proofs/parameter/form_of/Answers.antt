@@ -26,7 +26,16 @@ returns-then-special_from-bytes c =
     let same = c.as_bytes-bytes.ensures.value in
     let found = form_found value few (rw same at c.token_end_far-plain.ensures.end) (rw same at c.first_stop.ensures.end)
     (rw same at c.special_from.ensures.special) in
-    grind (arith, nat_tests, found, same, c.else-plain-bytes.either, c.first_stop.ensures.within, c.if-first_stop-bytes.false, c.if-special_from-bytes.true)
+    grind (
+      arith,
+      nat_tests,
+      found,
+      same,
+      c.else-plain-bytes.either,
+      c.first_stop.ensures.within,
+      c.if-first_stop-bytes.false,
+      c.if-special_from-bytes.true,
+    )
 
 pub returns-else-special_from-bytes : goal.returns-else-special_from-bytes
 returns-else-special_from-bytes c =

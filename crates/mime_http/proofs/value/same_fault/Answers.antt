@@ -17,7 +17,8 @@ around_value value =
 
 pub overflow_sub-pos : goal.overflow_sub-pos
 overflow_sub-pos c =
-    let (before, after, white, whole, begin, end) = around_value c.args.value.now in omega (arith, begin, ap length c.trim_start-text.ensures)
+    let (before, after, white, whole, begin, end) = around_value c.args.value.now in
+    omega (arith, begin, ap length c.trim_start-text.ensures)
 
 pub overflow_add-pos : goal.overflow_add-pos
 overflow_add-pos c =
