@@ -1,7 +1,6 @@
 -- What is printed of a header's value: one text, which is read as its one media type, and needs memory only if it is long.
-use Rattle.std.proofs.Common.{Bool, IsFalse, IsTrue, true, false, inl}
-use Rattle.mime_http.proofs.Common.{Explains, InvalidToken, NoMemory, ParseError, rejected-from_fault, ◌≢◌, nil_from_length, IsUtf8, IsUtf8-nil, List, Parts, Reads, [], answer_of, arith, length, media_of, read, subst, text_of_pairs, text_of_parts, ℕ, ◌≡◌, IsPrinted, MediaType, OneHttpReading, OnePrintedText, PrintedIsRead, anew, ap, as_it_stands, one_reading, sym, trimmed, with_pairs, ◌∙◌, kept_is_read, HttpReads, Err, HttpExplains, IfErr, IsAccepted, IsHttpMediaType, NeedsMemory, Parameters, Ok, Result, append-nil, blank, codes, is_token_byte, final, length-append, lowered_list, more, plain, quoted, refl, text_of_list, ◌+◌, ◌<◌, ◌≤◌, ◌⊎◌, IsOk}
-use Rattle.mime_http.{proofs.Around.put_ascii, proofs.Around.put_one, proofs.Around.put_token, proofs.ReadBack.answered_is_http, proofs.ReadForth.AreFound, proofs.ReadForth.http_is_answered, proofs.Written.length-pairs, proofs.Written.pairs_within_text, proofs.Written.lengths, proofs.Written.parts_are_read, proofs.PlainIsHttp.plain_is_http, proofs.Around.reads_around, proofs.ReadFaults.no_fault, specs.declared.value.FieldError.FieldError, specs.declared.value.FieldError.TheVariants.NotUtf8, specs.declared.value.FieldError.TheVariants.Invalid}
+use Rattle.mime_http.proofs.Common.{Explains, InvalidToken, NoMemory, ParseError, rejected-from_fault, ◌≢◌, IsUtf8, IsUtf8-nil, List, Parts, Reads, [], answer_of, arith, length, media_of, read, subst, text_of_parts, ℕ, ◌≡◌, IsPrinted, MediaType, OneHttpReading, OnePrintedText, PrintedIsRead, anew, ap, as_it_stands, one_reading, sym, trimmed, with_pairs, ◌∙◌, kept_is_read, HttpReads, Err, HttpExplains, IfErr, IsAccepted, IsHttpMediaType, NeedsMemory, Ok, Result, codes, is_token_byte, refl, ◌<◌, ◌≤◌, IsOk}
+use Rattle.mime_http.{proofs.Around.put_ascii, proofs.Around.put_one, proofs.Around.put_token, proofs.ReadBack.answered_is_http, proofs.ReadForth.AreFound, proofs.ReadForth.http_is_answered, proofs.Written.length-pairs, proofs.Written.lengths, proofs.Written.parts_are_read, proofs.PlainIsHttp.plain_is_http, proofs.Around.reads_around, proofs.ReadFaults.no_fault, specs.declared.value.FieldError.FieldError, specs.declared.value.FieldError.TheVariants.NotUtf8, specs.declared.value.FieldError.TheVariants.Invalid}
 use Rattle.mime_http.specs.declared.value.FieldError.TheVariants as field
 
 -- ---- what is written anew

@@ -12,9 +12,12 @@ pub(crate) fn split_first(value: &[u8]) -> Option<(u8, &[u8])>
     ensures shorter { IfSome result (λ first. length first.1.now < length value.now) }
 {
     match value {
-        [b'\\', byte, rest @ ..] => Some((*byte, rest)),
-        [b'\\'] | [] => None,
+        [b'\\', paired @ ..] => match paired {
+            [byte, rest @ ..] => Some((*byte, rest)),
+            [] => None,
+        },
         [byte, rest @ ..] => Some((*byte, rest)),
+        [] => None,
     }
 }
 

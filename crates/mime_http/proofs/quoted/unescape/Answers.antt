@@ -1,5 +1,5 @@
 -- The bytes before the first backslash mean themselves, and what is behind them is moved together.
-use Rattle.mime_http.proofs.Common.{arith, ap, drop, find_char, length, rules, sym, take-append_seam, vec_items, ◌++◌, ◌+◌, ◌∙◌, ◌≡◌}
+use Rattle.mime_http.proofs.Common.{arith, ap, drop, find_char, length, rules, sym, take-append_seam, vec_items, ◌++◌, ◌∙◌, ◌≡◌}
 use Rattle.mime_http.proofs.Contents.{unescaped_end, unescaped_same}
 use Rattle.mime_http.proofs.quoted.unescape.Goals as goal
 
