@@ -13,6 +13,7 @@ pub mod compress;
 pub mod counts;
 pub mod disposition;
 pub mod document;
+pub mod field_caret;
 pub mod file_name;
 pub mod files;
 pub mod handler;

@@ -4,40 +4,40 @@ use Rattle.mime_http.proofs.{Runs.spaces-append}
 
 -- ---- ASCII bytes
 
--- each byte is ASCII
+-- Each byte is ASCII.
 abbrev pub AreAscii : List ℕ → Type 0
 AreAscii [] = ⊤
 AreAscii (b ∷ bytes) = (b < 128) × AreAscii bytes
 
--- token bytes are,
+-- Token bytes are ASCII.
 pub token_bytes_ascii : (bytes : List ℕ) → AreTokenBytes bytes → AreAscii bytes
 unfolding is_token_byte
 token_bytes_ascii [] all = tt
 token_bytes_ascii (b ∷ bytes) all = grind (arith, token_bytes_ascii bytes, and_parts, nat_tests)
 
--- and so is white space
+-- White space is ASCII.
 pub spaces_ascii : (bytes : List ℕ) → AreSpaces bytes → AreAscii bytes
 spaces_ascii [] all = tt
 spaces_ascii (b ∷ bytes) all = grind (arith, spaces_ascii bytes, and_parts, nat_tests)
 
--- such a text is in UTF-8
+-- An ASCII text is in UTF-8.
 pub ascii_is_utf8 : (bytes : List ℕ) → IsAscii bytes → IsUtf8 bytes
 ascii_is_utf8 = IsUtf8-from_ascii
 
--- an ASCII byte may be put before a text in UTF-8,
+-- A text in UTF-8 stays so with an ASCII byte before it.
 pub put_one : (b : ℕ) (bytes : List ℕ) → b < 128 → IsUtf8 bytes → IsUtf8 (b ∷ bytes)
 put_one b bytes ascii is = IsUtf8-append (b ∷ []) bytes (IsUtf8-from_ascii (b ∷ []) (IsAscii-cons b [] ascii IsAscii-nil)) is
 
--- and so may more of them,
+-- A text in UTF-8 stays so with ASCII bytes before it.
 pub put_ascii : (xs ys : List ℕ) → AreAscii xs → IsUtf8 ys → IsUtf8 (xs ++ ys)
 put_ascii [] ys all is = is
 put_ascii (b ∷ xs) ys all is = put_one b (xs ++ ys) all.0 (put_ascii xs ys all.1 is)
 
--- such as a token,
+-- A text in UTF-8 stays so with a token before it.
 pub put_token : (token bytes : List ℕ) → IsToken token → IsUtf8 bytes → IsUtf8 (token ++ bytes)
 put_token token bytes is = put_ascii token bytes (token_bytes_ascii token (AreTokenBytes-from_token token is))
 
--- a text in UTF-8 is so before and after one,
+-- What stands before and after an ASCII byte of a text in UTF-8 is in UTF-8.
 pub around : (run : List ℕ) (b : ℕ) (bytes : List ℕ) → b < 128 → IsUtf8 (run ++ (b ∷ bytes)) → IsUtf8 run × IsUtf8 bytes
 around run b bytes ascii is =
     let whole : List ℕ = run ++ (b ∷ bytes) in
@@ -48,18 +48,18 @@ around run b bytes ascii is =
       rw drop-append-add at (IsUtf8-drop whole (length run + 1) is (IsCharBoundary-after_ascii whole (length run) is within below)),
     )
 
--- after more of them,
+-- What follows ASCII bytes in a text in UTF-8 is in UTF-8.
 pub past_ascii : (xs ys : List ℕ) → AreAscii xs → IsUtf8 (xs ++ ys) → IsUtf8 ys
 past_ascii [] ys all is = is
 past_ascii (b ∷ xs) ys all is = past_ascii xs ys all.1 (around [] b (xs ++ ys) all.0 is).1
 
--- after a token, which is in UTF-8 as well,
+-- A token, and what follows it in a text in UTF-8, are in UTF-8.
 pub past_token : (token bytes : List ℕ) → IsToken token → IsUtf8 (token ++ bytes) → IsUtf8 token × IsUtf8 bytes
 past_token token bytes is utf8 =
     let ascii = token_bytes_ascii token (AreTokenBytes-from_token token is) in
     (rw append-nil at (put_ascii token [] ascii IsUtf8-nil), past_ascii token bytes ascii utf8)
 
--- and before them
+-- What stands before ASCII bytes at the end of a text in UTF-8 is in UTF-8.
 pub before_ascii : (xs ys : List ℕ) → AreAscii ys → IsUtf8 (xs ++ ys) → IsUtf8 xs
 before_ascii xs [] all is = rw append-nil at is
 before_ascii xs (b ∷ ys) all is = (around xs b ys all.0 is).0
@@ -74,41 +74,42 @@ split_white (b ∷ bytes) =
     cond_both (is_space b) _ _ (λ left. (white : List ℕ) × AreSpaces white × (b ∷ bytes ≡ white ++ left))
     (λ is. (b ∷ rest.0, and_from (is_space b) _ is rest.1, ap (λ x. b ∷ x) rest.2)) (λ other. ([], refl, refl))
 
--- which begins where the run of white space ends
+-- Bytes without the white space at their start begin where the run of white space ends.
 from_first : (bytes : List ℕ) → drop (prefix_len is_space bytes) bytes ≡ trim_start bytes
 from_first [] = refl
 from_first (b ∷ bytes) = grind (arith, one-add (prefix_len is_space bytes), from_first bytes)
 
-pub first_kept : (bytes : List ℕ) (end : ℕ) → end ≡ prefix_len is_space bytes → take (length bytes - end) (drop end bytes) ≡ trim_start bytes
+pub first_kept : (bytes : List ℕ) (end : ℕ) → end ≡ prefix_len is_space bytes
+    → take (length bytes - end) (drop end bytes) ≡ trim_start bytes
 first_kept bytes end is = grind (arith, is, take_rest, from_first bytes)
 
--- nothing is left of white space,
+-- Nothing is left of white space without white space at its start.
 trimmed_start : (piece : List ℕ) → AreSpaces piece → trim_start piece ≡ []
 trimmed_start [] all = refl
 trimmed_start (b ∷ piece) all = grind (arith, trimmed_start piece)
 
--- on neither side
+-- Nothing is left of white space without white space at its ends.
 pub trimmed_from_blank : (piece : List ℕ) → AreSpaces piece → trimmed piece ≡ []
 trimmed_from_blank piece all = ap trim_end (trimmed_start piece all)
 
--- a byte at the end is left out if it is white space, and else all bytes stay
+-- A byte at the end is left out if it is white space. Else all bytes stay.
 trim_end-last : (bytes : List ℕ) (b : ℕ) → trim_end (bytes ++ (b ∷ [])) ≡ (if is_space b then trim_end bytes else bytes ++ (b ∷ []))
 trim_end-last [] b = grind arith
 trim_end-last (c ∷ bytes) b = grind (arith, trim_end-last bytes b, list_all-append is_space bytes (b ∷ []))
 
--- the same, counted to the end
+-- A byte before a position is left out if it is white space. Else all bytes up to the position stay.
 pub last_trimmed : (piece : List ℕ) (end : ℕ) → 0 < end → end ≤ length piece → trim_end (take end piece)
     ≡ (if is_space (get_or piece (end - 1) 0) then trim_end (take (end - 1) piece) else take end piece)
 last_trimmed piece end some within = grind (arith, take_more piece (end - 1) 0, trim_end-last (take (end - 1) piece))
 
--- so nothing is left out of bytes of which the last is no white space
+-- Nothing is left out of bytes of which the last is no white space.
 pub nothing_after : (piece : List ℕ) → (0 < length piece → is_space (get_or piece (length piece - 1) 0) ≡ false) → trim_end piece ≡ piece
 nothing_after [] other = refl
 nothing_after (b ∷ bytes) other = grind (arith, take_all (length bytes) bytes, last_trimmed (b ∷ bytes) (suc (length bytes)))
 
 -- ---- the white space around a value
 
--- bytes are what is left of them without white space after it, and white space
+-- Bytes are what is left of them without white space at their end, and white space.
 pub split_end : (bytes : List ℕ) → (white : List ℕ) × AreSpaces white × (bytes ≡ trim_end bytes ++ white)
 split_end [] = ([], refl, refl)
 split_end (b ∷ bytes) =
@@ -124,13 +125,13 @@ white_around value =
     let last = split_end (trim_start value) in
     (first.0, last.0, first.1, last.1, first.2 ∙ ap (λ bytes. first.0 ++ bytes) last.2)
 
--- It is in UTF-8 if the value is,
+-- A value in UTF-8 is so without the white space around it.
 pub utf8_trimmed : (value : List ℕ) → IsUtf8 value → IsUtf8 (trimmed value)
 utf8_trimmed value utf8 =
     let (before, after, first, last, same) = white_around value in
     before_ascii _ after (spaces_ascii after last) (past_ascii before _ (spaces_ascii before first) (rw same at utf8))
 
--- and the other way.
+-- A value is in UTF-8 if it is so without the white space around it.
 pub utf8_around : (value : List ℕ) → IsUtf8 (trimmed value) → IsUtf8 value
 utf8_around value utf8 =
     let (before, after, first, last, same) = white_around value in
@@ -144,7 +145,7 @@ blank_from_trimmed value none =
 
 -- ---- HTTP's reading
 
--- what is read stays with more white space around it, and with another kept text
+-- What is read is read with more white space around it, too, and with another kept text.
 pub white_more : {text value : List ℕ} {media : MediaType} (kept before after : List ℕ) → AreSpaces before → AreSpaces after
     → HttpReads text (record media { kept = kept }) → before ++ (text ++ after) ≡ value → HttpReads value media
 white_more {value = value} kept before after first last reads same =
@@ -152,7 +153,7 @@ white_more {value = value} kept before after first last reads same =
     (simp append_assoc) ∙ (ap (λ bytes. before ++ (bytes ++ after)) reads.spelled ∙ same) in
     rw (← whole) (grind (arith, spaces-append))
 
--- so a value is a media type if it is one without the white space around it
+-- A value is a media type if it is one without the white space around it.
 pub reads_around : (value : List ℕ) (media : MediaType) → HttpReads (trimmed value) media → HttpReads value media
 reads_around value media reads =
     let (before, after, first, last, same) = white_around value in white_more media.kept before after first last reads (sym same)

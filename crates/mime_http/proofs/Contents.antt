@@ -2,54 +2,54 @@
 use Rattle.mime_http.proofs.Common.{AreHeaderBytes, one-add, AreTokenBytes-from_token, Bool, IsBoundary, IsContent, IsToken, List, WrittenIsMeant, [], and_parts, ap, append-nil, append_assoc, arith, cases_Bool, cond, drop, drop-append-add, drop-length, drop_of_length-le, eqb-true, escaped, false, false_from_ne_true, get_or, if◌then◌else◌, is_bchar, is_charset, is_quoted_byte, is_quoted_text_byte, is_token_byte, length, list_all, list_all-wider, lowered, lowered_value, lowered_value-either, nat_tests, no_byte, not, quoted_pair, refl, suc, sym, take, take-append-add, take-length, take_rest, text_byte, to_ascii_lowercase, true, unescaped, zero, ℕ, ⊎_elim, ◌&&◌, ◌*◌, ◌++◌, ◌+◌, ◌-◌, ◌<◌, ◌==◌, ◌||◌, ◌∙◌, ◌∷◌, ◌≡◌, ◌≢◌, ◌≤◌, Form, flat_map-append, text_of_pairs, Token, bit_and, drop-cons, form_of, is_plain, is_token_value, list_all-append, prefix_len, prefix_len-le-length, prefix_len_stops, take_more, text_in, text_of_pair, is_ascii_uppercase}
 use Rattle.mime.specs.Bytes.{backslash_byte}
 use Rattle.std.specs.Int.Bits.{or_zero_r}
-use Rattle.mime_http.proofs.{Common.drop-drop, Common.drop_more, Common.is_stop, Common.slice_range, ReadAt.run_is}
+use Rattle.mime_http.proofs.{Common.get_or-drop, Common.nat_lt, Common.drop-drop, Common.drop_more, Common.is_stop, Common.slice_range, ReadAt.run_is, ReadAt.run_goes_on}
 use Rattle.mime_search.{specs.Classes.end_of_run, specs.declared.class.Class.Class}
 use Rattle.mime_http.{specs.declared.quoted.Form.TheVariants.Quoted, proofs.Written.token_from_test, specs.declared.parameter.TheConstants.CONTROLS}
 
--- bytes that stand in quotes as they are need no backslash,
+-- Bytes of quoted text need no backslash.
 pub plain_text : (bytes : List ℕ) → list_all is_quoted_text_byte bytes ≡ true → escaped bytes ≡ bytes
 plain_text [] all = refl
 plain_text (b ∷ bytes) all = grind (arith, nat_tests, plain_text bytes)
 
--- and may stand in a header
+-- Bytes of quoted text may occur in a header.
 pub safe_text : (bytes : List ℕ) → list_all is_quoted_text_byte bytes ≡ true → AreHeaderBytes bytes
 safe_text = list_all-wider is_quoted_text_byte is_quoted_byte (λ b text. (and_parts (is_quoted_byte b) _ text).0)
 
--- a token byte is one of them,
+-- A token byte is a byte of quoted text.
 pub token_byte_text : (b : ℕ) → is_token_byte b ≡ true → is_quoted_text_byte b ≡ true
 unfolding is_token_byte is_quoted_byte
 token_byte_text b is = grind (arith, nat_tests)
 
--- so a token's bytes are,
+-- The bytes of a token are quoted text.
 pub token_text : (bytes : List ℕ) → IsToken bytes → list_all is_quoted_text_byte bytes ≡ true
 token_text bytes token = list_all-wider is_token_byte is_quoted_text_byte token_byte_text bytes (AreTokenBytes-from_token bytes token)
 
--- and a boundary's
+-- The bytes of a boundary are quoted text.
 pub boundary_text : (bytes : List ℕ) → IsBoundary bytes → list_all is_quoted_text_byte bytes ≡ true
 unfolding is_quoted_byte
 boundary_text bytes is = list_all-wider is_bchar is_quoted_text_byte (λ b is. grind (arith, nat_tests)) bytes is.all
 
 -- ---- bytes before the first backslash
 
--- what the rest of a value means byte by byte, after a backslash that begins a pair, or not
+-- What the rest of a value means byte by byte, after a backslash that begins a pair, or not.
 abbrev pub unescaped_from : Bool → List ℕ → List ℕ
 unescaped_from paired [] = []
 unescaped_from paired (b ∷ bytes) = if not paired && b == 92 then unescaped_from true bytes else b ∷ unescaped_from false bytes
 
--- what a value means, by what its rest means
+-- A value means what its bytes mean one by one.
 pub unescaped_is : (bytes : List ℕ) → unescaped bytes ≡ unescaped_from false bytes
 unescaped_is [] = refl
 unescaped_is (b ∷ []) = refl
 unescaped_is (b ∷ c ∷ bytes) = grind (arith, unescaped_is bytes, unescaped_is (c ∷ bytes))
 
--- they mean themselves
+-- Bytes before the first backslash mean themselves.
 pub unescaped_before : (bytes : List ℕ) (at : ℕ) → at ≤ length bytes → ((i : ℕ) → i < at → get_or bytes i 0 ≢ 92)
     → unescaped bytes ≡ take at bytes ++ unescaped (drop at bytes)
 unescaped_before bytes zero within none = refl
 unescaped_before [] (suc at) within none = refl
 unescaped_before (b ∷ bytes) (suc at) within none = grind (arith, nat_tests, none 0, unescaped_before bytes at, λ (i : ℕ). none (suc i))
 
--- without a backslash all do
+-- A value without a backslash means itself.
 pub unescaped_same : (bytes : List ℕ) → ((i : ℕ) → i < length bytes → get_or bytes i 0 ≢ 92) → unescaped bytes ≡ bytes
 unescaped_same bytes none = grind (arith, unescaped_before bytes (length bytes), drop-length, take-length, append-nil)
 
@@ -60,43 +60,55 @@ pub unescaped_end : (front value : List ℕ) (start at : ℕ) → start ≡ leng
 unescaped_end front value start at long within none is =
     grind (arith, take-append-add, append_assoc, unescaped_before, take_rest, is)
 
--- two bytes stand for each at most, and a backslash at the end for none
+-- Two bytes mean one byte at least, but a backslash at the end means none.
 pub length-unescaped : (bytes : List ℕ) → length bytes ≤ 2 * length (unescaped bytes) + 1
 length-unescaped [] = omega arith
 length-unescaped (b ∷ []) = grind arith
 length-unescaped (b ∷ c ∷ bytes) = grind (arith, length-unescaped bytes, length-unescaped (c ∷ bytes))
 
+-- A value means no more bytes than it has, and as many only if it means itself.
+as_many : (bytes : List ℕ) → (length (unescaped bytes) ≤ length bytes) × (length bytes ≤ length (unescaped bytes) → unescaped bytes ≡ bytes)
+as_many [] = (omega arith, λ all. refl)
+as_many (b ∷ []) = grind arith
+as_many (b ∷ c ∷ bytes) = grind (arith, as_many bytes, as_many (c ∷ bytes))
+
+-- Two values that differ mean different bytes if the longer one means itself.
+pub longer_differs : (longer shorter : List ℕ) → unescaped longer ≡ longer → length shorter ≤ length longer → longer ≢ shorter
+    → unescaped longer ≢ unescaped shorter
+longer_differs longer shorter itself long differ same =
+    let is : longer ≡ unescaped shorter = sym itself ∙ same in differ (is ∙ (as_many shorter).1 (omega (arith, long, ap length is)))
+
 -- ---- what is written for a value
 
--- it is quoted content
+-- What is written for a value is quoted content.
 pub content_of_escaped : (value : List ℕ) → AreHeaderBytes value → IsContent (escaped value)
 content_of_escaped [] all = no_byte
 content_of_escaped (b ∷ value) all = grind (arith, nat_tests, content_of_escaped value, text_byte, quoted_pair)
 
--- it means the value
+-- What is written for a value means the value.
 meant : (value : List ℕ) → unescaped (escaped value) ≡ value
 meant [] = refl
 meant (b ∷ value) = grind (arith, meant value, unescaped_is (escaped (b ∷ value)), unescaped_is (escaped value))
 
--- so a boundary means itself
+-- A boundary means itself.
 pub boundary_means_itself : (bytes : List ℕ) → IsBoundary bytes → unescaped bytes ≡ bytes
 boundary_means_itself bytes is = ap unescaped (sym (plain_text bytes (boundary_text bytes is))) ∙ meant bytes
 
--- lowercasing it is writing the value in lowercase
+-- What is written for a value in lowercase is what is written for the value, in lowercase.
 lowered_escaped : (value : List ℕ) → lowered (escaped value) ≡ escaped (lowered value)
 lowered_escaped [] = refl
 lowered_escaped (b ∷ value) = grind (arith, nat_tests, lowered_escaped value)
 
--- a text without capitals is in lowercase,
+-- A text without capitals is in lowercase.
 pub no_capital : (bytes : List ℕ) → list_all (λ b. not (is_ascii_uppercase b)) bytes ≡ true → lowered bytes ≡ bytes
 no_capital [] all = refl
 no_capital (b ∷ bytes) all = grind (arith, nat_tests, all, no_capital bytes)
 
--- so a value without capitals stays as it is written where it is read in lowercase
+-- A value without capitals is kept as it is written, whatever its name.
 pub kept_low : (name value : List ℕ) → lowered value ≡ value → lowered_value name (escaped value) ≡ escaped value
 kept_low name value low = grind (arith, lowered_escaped, low)
 
--- what is written for a value means the value
+-- What is written for a value means the value, in lowercase if it is kept in lowercase.
 pub written_is_meant : WrittenIsMeant
 written_is_meant name value = grind (arith, lowered_escaped, meant)
 
@@ -107,6 +119,12 @@ pub whole_run : (class : ℕ → Bool) (bytes : List ℕ) → (prefix_len class 
 whole_run class [] = refl
 whole_run class (b ∷ bytes) = grind (arith, nat_tests, one-add (prefix_len class bytes), whole_run class bytes)
 
+-- A value is a token exactly if a run of token bytes ends at its end, and has some.
+pub token_decides : (value : List ℕ)
+    → is_token_value value ≡ ((prefix_len is_token_byte value == length value) && nat_lt 0 (prefix_len is_token_byte value))
+token_decides [] = refl
+token_decides (b ∷ value) = grind (arith, nat_tests, one-add (prefix_len is_token_byte value), whole_run is_token_byte (b ∷ value))
+
 -- A search for a byte that no quoted string can contain passes the others.
 pub quoted_len : (bytes : List ℕ) → ((i : ℕ) → get_or bytes i 0 < 256)
     → prefix_len (λ b. not (is_stop CONTROLS b)) bytes ≡ prefix_len is_quoted_byte bytes
@@ -114,12 +132,30 @@ unfolding is_quoted_byte
 quoted_len [] few = refl
 quoted_len (b ∷ bytes) few = grind (arith, nat_tests, or_zero_r b, few 0, quoted_len bytes (λ i. few (suc i)))
 
+-- A run of a class of bytes that all bytes of a token are of ends at the end exactly if all bytes are of the class, wherever in a token at the
+-- start it begins.
+pub run_after : (class : ℕ → Bool) → ((b : ℕ) → is_token_byte b ≡ true → class b ≡ true) → (value : List ℕ) (plain : ℕ)
+    → plain ≤ prefix_len is_token_byte value
+    → (plain + prefix_len class (drop plain value) == length value) ≡ list_all class value
+run_after class wider value plain passed =
+    grind (arith, run_goes_on is_token_byte class wider value 0 plain, whole_run class value, passed)
+
+-- Searches after a token find whether all bytes may occur in a quoted string, and whether none needs a backslash.
+pub searches_decide : (value : List ℕ) (plain : ℕ) → ((i : ℕ) → get_or value i 0 < 256) → plain ≤ prefix_len is_token_byte value
+    → ((plain + prefix_len (λ b. not (is_stop CONTROLS b)) (drop plain value) == length value) ≡ list_all is_quoted_byte value)
+    × ((plain + prefix_len is_plain (drop plain value) == length value) ≡ list_all is_plain value)
+searches_decide value plain few passed =
+    let rest = quoted_len (drop plain value) (λ i. rw (get_or-drop plain value i) (few (plain + i))) in (
+      grind (arith, rest, run_after is_quoted_byte (λ b is. (and_parts (is_quoted_byte b) _ (token_byte_text b is)).0) value plain passed),
+      run_after is_plain (λ b is. (and_parts (is_quoted_byte b) _ (token_byte_text b is)).1) value plain passed,
+    )
+
 -- Bytes of quoted text are those of a quoted string that need no backslash.
 pub quoted_text : (bytes : List ℕ) → list_all is_quoted_text_byte bytes ≡ (list_all is_quoted_byte bytes && list_all is_plain bytes)
 quoted_text [] = refl
 quoted_text (b ∷ bytes) = grind (arith, nat_tests, quoted_text bytes)
 
--- a search for a byte that needs one passes those that need none
+-- A search for a quote or a backslash passes the bytes that need no backslash.
 plain_len : (class : Class) → ((b : ℕ) → is_stop class b ≡ (b == 34 || b == 92)) → (bytes : List ℕ)
     → prefix_len (λ b. not (is_stop class b)) bytes ≡ prefix_len is_plain bytes
 plain_len class stops [] = refl
@@ -129,12 +165,12 @@ pub plain_found : (class : Class) → ((b : ℕ) → is_stop class b ≡ (b == 3
     → at ≡ end_of_run class value from → at ≡ from + prefix_len is_plain (drop from value)
 plain_found class stops value from at is = omega (arith, is, plain_len class stops (drop from value))
 
--- bytes that need no backslash are written as they are
+-- Bytes that need no backslash are written as they are.
 run_written : (bytes : List ℕ) → escaped bytes ≡ take (prefix_len is_plain bytes) bytes ++ escaped (drop (prefix_len is_plain bytes) bytes)
 run_written [] = refl
 run_written (b ∷ bytes) = grind (arith, nat_tests, one-add (prefix_len is_plain bytes), run_written bytes)
 
--- up to the first that needs one
+-- A value is written as it is up to the first byte that needs a backslash.
 pub run_found : (value : List ℕ) (from at : ℕ) → at ≡ from + prefix_len is_plain (drop from value)
     → (escaped (drop from value) ≡ slice_range value from at ++ escaped (drop at value))
     × (at < length value → is_plain (get_or value at 0) ≡ false)
@@ -144,7 +180,7 @@ run_found value from at is =
     let rest : drop at value ≡ drop (at - from) (drop from value) = grind (arith, run.least, drop-drop (at - from) from value) in
     (rw (rest, long) (run_written (drop from value)), run.stops)
 
--- before another a backslash is written
+-- A backslash is written before a byte that needs one.
 pub special_written : (value text whole : List ℕ) (from at : ℕ) → at < length value → is_plain (get_or value at 0) ≡ false
     → escaped (drop from value) ≡ slice_range value from at ++ escaped (drop at value) → text ++ escaped (drop from value) ≡ whole
     → ((text ++ slice_range value from at) ++ (backslash_byte ∷ get_or value at 0 ∷ [])) ++ escaped (drop (at + 1) value) ≡ whole
@@ -153,27 +189,27 @@ special_written value text whole from at within special run is =
 
 -- ---- what is written in a form
 
--- content that is kept is written as it is
+-- Content that is kept is written as it is.
 pub kept_text : (name bytes : List ℕ) → text_in (if is_token_value bytes then Token else Quoted) name bytes ≡ text_of_pair (name, bytes)
 kept_text name bytes = grind arith
 
--- escaped a value is a token exactly if it is one
+-- What is written for a value is a token exactly if the value is one.
 all_tokens : (value : List ℕ) → list_all is_token_byte (escaped value) ≡ list_all is_token_byte value
 unfolding is_token_byte
 all_tokens [] = refl
 all_tokens (b ∷ value) = grind (arith, nat_tests, all_tokens value)
 
--- a value is written in its form
+-- A value is written in its form.
 pub form_text : (name value : List ℕ) → text_in (form_of value) name value ≡ text_of_pair (name, escaped value)
 form_text name [] = refl
 form_text name (b ∷ value) = grind (arith, all_tokens (b ∷ value), plain_text (b ∷ value), token_text (b ∷ value))
 
--- so one more is written after all
+-- A parameter in its form is written after all others.
 pub last_written : (name value essence text : List ℕ) (pairs : List (List ℕ × List ℕ)) (form : Form) → text ≡ essence ++ text_of_pairs pairs
     → form ≡ form_of value → text ++ text_in form name value ≡ essence ++ text_of_pairs (pairs ++ ((name, escaped value) ∷ []))
 last_written name value essence text pairs form is fits = grind (arith, form_text, flat_map-append, append-nil, append_assoc)
 
--- how a token and a boundary are written
+-- The rules for how a token is written.
 pub ruleset token_written = (safe_text, plain_text, token_text, token_from_test)
 
 pub ruleset boundary_written = (safe_text, plain_text, boundary_text)

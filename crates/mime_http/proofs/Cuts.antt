@@ -23,13 +23,13 @@ opens_none b (c ∷ bytes) other = rw other refl
 
 -- ---- a piece passes
 
--- a string passes to the piece after it,
+-- After a string's content and its quote, the piece after it passes.
 string_passes : {content : List ℕ} (piece : List ℕ) → IsInString content → IsWhole Outside piece → IsWhole Quoted (content ++ (34 ∷ piece))
 string_passes piece string_end whole = (refl, whole)
 string_passes piece (string_byte b content quote backslash inside) whole = (refl, rw (backslash, quote) (string_passes piece inside whole))
 string_passes piece (string_pair b content inside) whole = (refl, (refl, string_passes piece inside whole))
 
--- and a piece to its end
+-- A piece passes to its end.
 piece_passes : {piece : List ℕ} → IsPiece piece → IsWhole Outside piece
 piece_passes piece_end = tt
 piece_passes (piece_byte b [] no_comma opens rest) = (no_comma, grind (arith, nat_tests))
@@ -55,12 +55,12 @@ Continues Equals bytes = IsPiece (61 ∷ bytes)
 Continues Quoted bytes = IsPiece (61 ∷ 34 ∷ bytes)
 Continues Paired bytes = IsPiece (61 ∷ 34 ∷ 92 ∷ bytes)
 
--- a byte outside strings may stand before a piece,
+-- A byte outside strings that is no comma may stand before what goes on from it.
 byte_before : (b : ℕ) (bytes : List ℕ) → (b == 44) ≡ false → Continues (after Outside b) bytes → IsPiece (b ∷ bytes)
 byte_before b bytes on = cond_both (b == 61) _ _ (λ place. Continues place bytes → IsPiece (b ∷ bytes))
     (λ equals. subst (λ c. IsPiece (c ∷ bytes)) (sym (eqb-true b 61 equals))) (λ other. piece_byte b bytes on (opens_none b bytes other))
 
--- and so may the byte at each place
+-- At each place, a byte that ends no piece may stand before what goes on from it.
 further : (place : At) (b : ℕ) (bytes : List ℕ) → ends_piece place b ≡ false → Continues (after place b) bytes → Continues place (b ∷ bytes)
 further Outside b bytes on = byte_before b bytes on
 further Equals b bytes on = cond_both (b == 34) _ _ (λ place. Continues place bytes → IsPiece (61 ∷ b ∷ bytes))
@@ -73,7 +73,7 @@ further Quoted b bytes on = cond_both (b == 92) _ _ (λ place. Continues place b
     (λ other. more_text b other single))
 further Paired b bytes on = more_pair b
 
--- so what passes is a piece
+-- What passes is a piece.
 pub is_piece : (place : At) (bytes : List ℕ) → IsWhole place bytes → Continues place bytes
 is_piece Outside [] whole = piece_end
 is_piece Equals [] whole = piece_byte 61 [] refl refl piece_end
@@ -106,7 +106,7 @@ only_cut (comma text line lines texts is rest) = grind (
       (rw (append-nil text) (piece_passes is)) (λ place piece whole. grind (arith, nat_tests, whole)),
 )
 
--- where the piece ends that a position of a line is in, at this place
+-- The end of the piece that a position of a line is in, at this place.
 abbrev pub end_on : At → List ℕ → ℕ → ℕ
 end_on place line at = at + piece_len place (drop at line)
 
@@ -117,7 +117,7 @@ no_quote_next : (bytes : List ℕ) → (get_or bytes 0 0 == 34) ≡ false → pi
 no_quote_next [] other = refl
 no_quote_next (c ∷ bytes) other = rw other refl
 
--- a byte outside strings that is no comma and opens no string goes on with the piece,
+-- A byte outside strings that is no comma and opens no string goes on with the piece.
 pub outside_byte : (line : List ℕ) (at : ℕ) → at < length line → (get_or line at 0 == 44) ≡ false
     → (get_or line at 0 == 61 && get_or line (at + 1) 0 == 34) ≡ false → end_on Outside line (at + 1) ≡ end_on Outside line at
 outside_byte line at within on opens =
@@ -127,14 +127,14 @@ outside_byte line at within on opens =
 pub ends_outside : (line : List ℕ) (at : ℕ) → (at < length line → get_or line at 0 ≡ 44) → end_on Outside line at ≡ at
 ends_outside line at is_comma = grind (arith, nat_tests, drop_more line at 0, drop_of_length-le line {i = at}, is_comma)
 
--- bytes before the first comma or quote, but for the last of them, go on with a piece,
+-- Bytes before the first comma or quote, but for the last of them, go on with a piece.
 pub run_to : (bytes : List ℕ) (n : ℕ) → n ≤ before_mark 44 34 bytes - 1 → n + piece_len Outside (drop n bytes) ≡ piece_len Outside bytes
 run_to bytes zero less = omega arith
 run_to [] (suc n) less = absurd (omega (arith, less))
 run_to (b ∷ []) (suc n) less = grind (arith, nat_tests, less)
 run_to (b ∷ c ∷ bytes) (suc n) less = grind (arith, nat_tests, less, run_to (c ∷ bytes) n)
 
--- and all of them are a piece, if no quote is next
+-- All bytes before the first comma or quote are a piece, if no quote is next.
 pub piece_to : (bytes : List ℕ) → (get_or bytes (before_mark 44 34 bytes) 0 == 34) ≡ false
     → before_mark 44 34 bytes ≡ piece_len Outside bytes
 piece_to [] other = refl
@@ -151,13 +151,13 @@ run_outside (b ∷ bytes) =
 
 -- ---- strings
 
--- after an equals sign and a quote a piece goes on in a string,
+-- After an equals sign and a quote, a piece goes on in a string.
 pub string_opens : (line : List ℕ) (at : ℕ) → at + 1 < length line → get_or line at 0 ≡ 61 → get_or line (at + 1) 0 ≡ 34
     → end_on Quoted line (at + 1 + 1) ≡ end_on Outside line at
 string_opens line at within equals quote =
     rw (drop_more line at 0 (omega (arith, within)), equals, drop_more line (at + 1) 0 within, quote) (omega arith)
 
--- and after the quote that closes it, or at the end, it goes on outside strings
+-- After the quote that closes a string, or at the end, a piece goes on outside strings.
 string_left : (paired : Bool) (bytes : List ℕ)
     → end_on Outside bytes (min (len_from paired bytes + 1) (length bytes)) ≡ piece_len (cond paired Paired Quoted) bytes
 string_left paired [] = refl
@@ -166,7 +166,7 @@ string_left paired (b ∷ bytes) =
     let next : min (suc n + 1) (suc (length bytes)) ≡ suc (min (n + 1) (length bytes)) = omega arith in
     grind (arith, nat_tests, next, string_left (awaits_next paired b) bytes)
 
--- so it does at a position past the content
+-- At the position after a string's content and its quote, a piece goes on outside strings.
 pub string_closed : (line : List ℕ) (from to : ℕ) → from ≤ length line → to ≡ min (from + len_from false (drop from line) + 1) (length line)
     → to + piece_len Outside (drop to line) ≡ from + piece_len Quoted (drop from line)
 string_closed line from to within is =
@@ -176,12 +176,12 @@ string_closed line from to within is =
 
 -- ---- the next mark
 
--- a search that stops at two marks finds the first of them,
+-- A search that stops at two marks finds the first of them.
 pub mark_found : (class : Class) (one other : ℕ) → ((b : ℕ) → is_stop class b ≡ is_mark one other b) → (line : List ℕ) (from to : ℕ)
     → to ≡ end_of_run class line from → to ≡ from + before_mark one other (drop from line)
 mark_found class one other are line from to is = is ∙ (λ i. from + prefix_len (λ b. not (are b i)) (drop from line))
 
--- and up to a comma or an equals sign a piece goes on outside strings
+-- Up to the next comma or equals sign, a piece goes on outside strings.
 pub outside_next : (line : List ℕ) (from to : ℕ) → from ≤ length line → to ≡ from + before_mark 44 61 (drop from line)
     → IsNextOutside line from to
 outside_next line from to within is =
@@ -197,7 +197,7 @@ outside_next line from to within is =
 
 -- ---- the cut
 
--- a cut has the rest of the piece first,
+-- The cut of a rest has the rest of the piece first.
 cut_goes_on : (place : At) (piece bytes : List ℕ) → cut_from place piece bytes
     ≡ (piece ++ take (piece_len place bytes) bytes) ∷ cut_after (drop (piece_len place bytes) bytes)
 cut_goes_on place piece [] = ap (λ p. p ∷ []) (sym (append-nil piece))
@@ -208,7 +208,7 @@ cut_goes_on place piece (b ∷ bytes) = grind (
   cut_goes_on (after place b) (piece ++ (b ∷ [])) bytes,
 )
 
--- so from a position on it has the bytes up to the piece's end first
+-- The cut of a line from a position on has the bytes up to the piece's end first.
 pub cut_at_end : (line : List ℕ) (from end : ℕ) → end ≡ end_on Outside line from
     → cut (drop from line) ≡ take (end - from) (drop from line) ∷ cut_after (drop end line)
 cut_at_end line from end is =
@@ -216,20 +216,20 @@ cut_at_end line from end is =
 
 -- ---- the first piece
 
--- a comma outside strings ends a piece,
+-- A comma outside strings ends a piece.
 piece_before : (place : At) (bytes : List ℕ) → piece_len place bytes < length bytes
     → (get_or bytes (piece_len place bytes) 0 ≡ 44) × IsWhole place (take (piece_len place bytes) bytes)
 piece_before place [] less = absurd (omega (arith, less))
 piece_before place (b ∷ bytes) less = grind (arith, nat_tests, less, piece_before (after place b) bytes)
 
--- and from each place on some bytes are left of a piece,
+-- From each place on, some bytes end a piece.
 ended : (place : At) → (more : List ℕ) × IsWhole place more
 ended Outside = ([], tt)
 ended Equals = ([], tt)
 ended Quoted = (34 ∷ [], (refl, tt))
 ended Paired = (0 ∷ 34 ∷ [], (refl, (refl, tt)))
 
--- also after bytes that have no such comma
+-- Bytes without a comma outside strings begin a piece.
 more_to_whole : (place : At) (bytes : List ℕ) → length bytes ≤ piece_len place bytes → (more : List ℕ) × IsWhole place (bytes ++ more)
 more_to_whole place [] past = ended place
 more_to_whole place (b ∷ bytes) past = ⊎_elim (λ (end : ends_piece place b ≡ true). absurd (grind (arith, past, end)))
@@ -263,7 +263,7 @@ is_cut (suc most) line short {lines} {pieces} rest =
     (λ past. rw (take_all n line past, drop_of_length-le line past) (line_end line lines pieces (last_entry line refl past) rest))
     (cases_lt n (length line)))
 
--- so the pieces of the cut are those between commas
+-- The pieces of the cut are those between commas.
 pub are_cut : (lines : List (List ℕ)) → AreBetweenCommas IsPiece BeginsPiece lines (flat_map cut lines)
 are_cut [] = no_line
 are_cut (line ∷ lines) = is_cut (suc (length line)) line (omega arith) (are_cut lines)

@@ -38,7 +38,7 @@ list_any-map : {X Y : Type 0} (p : Y → Bool) (f : X → Y) (xs : List X) → l
 list_any-map p f [] = refl
 list_any-map p f (x ∷ xs) = grind (arith, list_any-map p f xs)
 
--- so a test of an offer's items is one of its pairs
+-- A test of an offer's items is a test of its pairs.
 pub has_item : (offer : MediaType) (name value : List ℕ)
     → list_any (λ item. bytes_eq item.name name && bytes_eq (unescaped item.value) (unescaped value)) (items_of offer.pairs)
     ≡ has offer (name, value)
@@ -54,8 +54,8 @@ first_is name found (pair ∷ pairs) is = grind (arith, bytes_eq-Decides pair.0 
 
 -- ---- a weight of one decimal, right after the essence
 
--- The tree with the weight in place of the parameters is well formed as well, so the weight is the only parameter, since a text is read in
--- one way,
+-- The tree with the weight in place of the parameters is well formed, too. So the weight is the only parameter, since a text is read in
+-- one way.
 pub weight_alone : (media : MediaType) (rest n : List ℕ) (d : ℕ) → Reads media.kept media → rest ≡ drop (length media.essence) media.kept
     → rest ≡ 59 ∷ (n ++ (113 ∷ 61 ∷ 48 ∷ 46 ∷ d ∷ [])) → AreSpaces n → is_ascii_digit d ≡ true
     → media.pairs ≡ (113 ∷ [], 48 ∷ 46 ∷ d ∷ []) ∷ []
@@ -74,7 +74,7 @@ weight_alone media rest n d reads after is spaces digit =
     } in
     ap (λ value. value.pairs) (one_reading media.kept media (value_of other) reads again)
 
--- so a range demands nothing else, and weighs these tenths, if the weight is written after this white space
+-- A range demands nothing else, and weighs these tenths, if the weight is written after this white space.
 pub weight_of_one_decimal : (n : List ℕ) (d weight : ℕ) (offer media : MediaType) (rest : List ℕ) → AreSpaces n → Reads media.kept media
     → rest ≡ drop (length media.essence) media.kept → length rest ≡ 6 + length n
     → HasBytesAt rest 0 (59 ∷ (n ++ (113 ∷ 61 ∷ 48 ∷ 46 ∷ d ∷ []))) → is_ascii_digit d ≡ true → weight ≡ 100 * (d - 48)
@@ -103,12 +103,12 @@ covers_itself media =
 abbrev has_meant : List (List ℕ × List ℕ) → List ℕ × List ℕ → Bool
 has_meant meant pair = list_any (λ own. bytes_eq own.0 pair.0 && bytes_eq own.1 pair.1) meant
 
--- what is demanded means what is demanded of parameters as they are meant,
+-- What is demanded of the meanings of parameters is the meaning of what is demanded of them.
 demanded-map : (pairs : List (List ℕ × List ℕ)) → demanded (map meaning_of pairs) ≡ map meaning_of (demanded pairs)
 demanded-map [] = refl
 demanded-map (pair ∷ pairs) = grind (arith, demanded-map pairs)
 
--- and all of it is there if an offer has what it means
+-- An offer has all that is demanded exactly if its meanings have all that is demanded of the meanings.
 all_by_meaning : (offer : MediaType) (pairs : List (List ℕ × List ℕ))
     → list_all (has offer) (demanded pairs) ≡ list_all (has_meant (map meaning_of offer.pairs)) (demanded (map meaning_of pairs))
 all_by_meaning offer pairs =
@@ -116,7 +116,7 @@ all_by_meaning offer pairs =
     sym (ap (list_all has_meaning) (demanded-map pairs) ∙ (list_all-map has_meaning meaning_of (demanded pairs) ∙ (λ i. list_all (λ pair.
     list_any-map (λ own. bytes_eq own.0 pair.0 && bytes_eq own.1 (unescaped pair.1)) meaning_of offer.pairs i) (demanded pairs))))
 
--- so a header says the same of media types that mean the same
+-- A header says the same of media types that mean the same.
 pub meaning_counts : MeaningCounts
 meaning_counts range other offer offered at same alike weighs =
     let all : list_all (has offer) (demanded range.pairs) ≡ list_all (has offered) (demanded other.pairs) =

@@ -10,8 +10,8 @@ pub use Rattle.mime_http.specs.LineCut.{is_mark}
 pub use Rattle.mime_http.proofs.HttpLaws.{one_printed_text, printed_is_read, same_anew, written_reads}
 -- A text is a media type or isn't, and so each line has one header, with one first bad entry if an entry is bad.
 pub use Rattle.mime_http.proofs.Lists.{utf8_or_not, read_or_not, header_of, one_header, one_first_bad, http_is_not_blank}
--- The offers that weigh more than 0 have one order.
-pub use Rattle.mime_http.proofs.Order.{weighs_within, one_order}
+-- Offers have one order and one ranking; what weighs something is an offer.
+pub use Rattle.mime_http.proofs.Order.{weighs_within, one_order, one_ranking}
 -- What the library reads is what HTTP writes there.
 pub use Rattle.mime_http.proofs.PlainIsHttp.{plain_is_http}
 -- What is read of a value is what HTTP writes: each state says what the bytes so far are.

@@ -26,7 +26,7 @@ lowest = (0, 0, 0, 0)
 abbrev pub rank_at : List Rank → ℕ → Rank
 rank_at ranks at = get_or ranks at lowest
 
--- of ranks that compare as equal each part is equal
+-- Ranks that compare as equal have equal parts.
 pub one_rank : (x y : Rank) → rank_cmp x y ≡ Equal → x ≡ y
 one_rank x y same = grind (arith, nat_tests)
 
@@ -53,7 +53,7 @@ record IsTop {X : Type 0} (f : X → Option Rank) (first : Option Rank) (xs : Li
   least : NotAbove top first
   above : All (λ x. NotAbove top (f x)) xs
 
--- so is what a fold keeps,
+-- What a fold keeps is the top of the first and the others.
 top_of : {X : Type 0} (f : X → Option Rank) (first : Option Rank) (xs : List X) → IsTop f first xs (fold (ord_max cmp) first (map f xs))
 top_of f first [] = record { among = inl refl; least = grind (arith, nat_tests); above = All-nil _ }
 top_of f first (x ∷ xs) =
@@ -68,7 +68,7 @@ top_of f first (x ∷ xs) =
       above = All-cons (λ x. NotAbove top (f x)) x xs (up_to (f x) next top (grind (arith, nat_tests)) is.least) is.above;
     }
 
--- also if what has no rank is left out first
+-- A fold keeps the same if what has no rank is left out before.
 folded : {X : Type 0} (f : X → Option Rank) (first : Option Rank) (xs : List X)
     → fold (ord_max cmp) first (map Some (filter_map f xs)) ≡ fold (ord_max cmp) first (map f xs)
 folded f first [] = refl
@@ -110,14 +110,14 @@ found_top (rank ∷ ranks) = by (fold (ord_max cmp) None (map Some all)) (top_of
 
 -- ---- the closest range
 
--- the range that a fold over the ranges keeps is the closest,
+-- The range that a fold over the ranges keeps is the closest.
 pub closest_is_kept : (ranges : List MediaType) (offer : MediaType)
     → fold (ord_max cmp) None (map (closeness offer) (enumerate_from 0 ranges)) ≡ closest ranges offer
 closest_is_kept ranges offer =
     let items = enumerate_from 0 ranges in
     sym (folded (closeness offer) None items) ∙ sym (found_top (filter_map (closeness offer) items))
 
--- and no other is closer
+-- No other range is closer than the closest.
 pub closest_is_closest : ClosestIsClosest
 closest_is_closest ranges offer =
     let items = enumerate_from 0 ranges in
@@ -143,7 +143,7 @@ beats one other = is_gt (rank_cmp one other)
 above_both : (x y z : Rank) → beats x y ≡ true → beats z y ≡ false → beats x z ≡ true
 above_both x y z above low = grind (arith, nat_tests)
 
--- of the ranks before a position that weigh something, none is above the highest, which has a first place, or weighs nothing
+-- Of the ranks before a position that weigh something, none is above the highest, which has a first place, or weighs nothing.
 pub record IsHighest (ranks : List Rank) (at : ℕ) (most : Rank) (best : Option ℕ) : Type 0 where
   pub above : (j : ℕ) → j < at → 0 < (rank_at ranks j).0 → beats (rank_at ranks j) most ≡ false
   pub first : 0 < most.0 → (place : ℕ) × (best ≡ Some place) × (rank_at ranks place ≡ most)
@@ -152,7 +152,7 @@ pub record IsHighest (ranks : List Rank) (at : ℕ) (most : Rank) (best : Option
 
 module _ {ranks : List Rank} {at : ℕ} {most : Rank} {best : Option ℕ} (x : Rank) (was : IsHighest ranks at most best)
     (next : x ≡ rank_at ranks at) where
-  -- a rank above the highest is the highest, and last,
+  -- A rank above the highest is the new highest, and stands last.
   pub highest_raised : 0 < x.0 → beats x most ≡ true → IsHighest ranks (at + 1) x (Some at)
   highest_raised heavy higher =
       let beaten = λ (j : ℕ) (less : j < at) (some : 0 < (rank_at ranks j).0). above_both x most _ higher (was.above j less some) in
@@ -163,7 +163,7 @@ module _ {ranks : List Rank} {at : ℕ} {most : Rank} {best : Option ℕ} (x : R
         none = λ light. absurd (omega (arith, heavy, light));
       }
 
-  -- and beside another the highest stays
+  -- Beside a rank that isn't above it, the highest stays.
   pub highest_stays : (0 < x.0 → beats x most ≡ false) → IsHighest ranks (at + 1) most best
   highest_stays low = record {
     above = below_more (λ j. 0 < (rank_at ranks j).0 → beats (rank_at ranks j) most ≡ false) at was.above (rw (sym next) low);
@@ -171,7 +171,7 @@ module _ {ranks : List Rank} {at : ℕ} {most : Rank} {best : Option ℕ} (x : R
     none = was.none;
   }
 
--- so the best offer is where the highest of all ranks is first
+-- The best offer stands where the highest of all ranks is first.
 pub best_is_found : {all : List Rank} {at : ℕ} {most : Rank} {best : Option ℕ} → IsHighest all at most best → length all ≤ at
     → position (is_best all) all ≡ best
 best_is_found {all} {at} {most} {best} is past =

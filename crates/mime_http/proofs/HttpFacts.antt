@@ -60,19 +60,19 @@ positions = (refl, refl, refl, refl)
 
 -- ---- what is printed
 
--- of a value that is printed with one text no other is printed
+-- If one text is printed for a value, no text of another length is.
 no_other_text : {value kept : List ℕ} (other : List ℕ) → ((kept : List ℕ) → HttpReads value (html_type kept))
     → IsPrinted value (html_type kept) → length kept ≢ length other → ¬ (IsPrinted value (html_type other))
 no_other_text {value} {kept} other reads printed differs is =
     differs (ap (λ (media : MediaType). length media.kept) (one_printed_text value (html_type kept) (html_type other) (reads kept) printed
     (reads other) is))
 
--- a value that the library rejects is printed anew,
+-- A value that the library rejects is printed anew.
 printed_anew : IsPrinted value (html_type (codes "text/html; charset=utf-8"))
 unfolding is_token_byte is_quoted_byte
 printed_anew = anew value _ (stopped-from_walk (trimmed value) refl) refl
 
--- and one that it accepts as it stands,
+-- A value that the library accepts is printed as it stands.
 printed_as_it_stands : IsPrinted plain_value (html_type (codes "text/html;charset=\"utf-8\""))
 unfolding is_token_byte is_quoted_byte
 printed_as_it_stands =
@@ -82,7 +82,7 @@ printed_as_it_stands =
     as_it_stands plain_value _
     (record { tree = tree; well_formed = (refl, refl, (refl, (refl, content, refl))); spelled = refl; valued = refl })
 
--- of the first nothing with quotes is printed, since a token needs none; of the second nothing anew, and no white space
+-- For the first value nothing with quotes is printed, since a token needs none; for the second nothing anew, and no white space.
 not_printed : ¬ (IsPrinted value (html_type (codes "text/html; charset=\"utf-8\"")))
     × ¬ (IsPrinted plain_value (html_type (codes "text/html; charset=utf-8")))
     × ¬ (IsPrinted plain_value (html_type (codes "text/html;charset=\"utf-8\" ")))
@@ -101,22 +101,22 @@ lettered letters = codes " a/b;;p=" ++ letters
 abbrev letter_parts : List ℕ → Parts
 letter_parts letters = record { top = codes "a"; sub = codes "b"; pairs = (codes "p", letters) ∷ [] }
 
--- with 34 letters these are 41 bytes, which need memory; with 33 they are 40, which need none, nor does what is no media type
+-- With 34 letters these are 41 bytes, which need memory. With 33 letters they are 40, which need none, nor does what is no media type.
 memory : NeedsMemory (lettered (codes "abcdefghijklmnopqrstuvwxyzabcdefgh"))
     × ¬ (NeedsMemory (lettered (codes "abcdefghijklmnopqrstuvwxyzabcdefg"))) × ¬ (NeedsMemory (codes "a b"))
 unfolding is_token_byte is_quoted_byte
 memory =
     let value : List ℕ = lettered (codes "abcdefghijklmnopqrstuvwxyzabcdefg") in
     let parts = letter_parts (codes "abcdefghijklmnopqrstuvwxyzabcdefg") in
-    let (reads, printed) = anew_is {value = value} parts (stopped-from_walk (codes "a/b;;p=abcdefghijklmnopqrstuvwxyzabcdefg") refl) refl refl
-    (media_of parts) (written_reads value parts refl) in (
+    let isnt = stopped-from_walk (codes "a/b;;p=abcdefghijklmnopqrstuvwxyzabcdefg") refl in
+    let (reads, printed) = anew_is {value = value} parts isnt refl refl (media_of parts) (written_reads value parts refl) in (
       anew_needs (letter_parts (codes "abcdefghijklmnopqrstuvwxyzabcdefgh"))
           (stopped-from_walk (codes "a/b;;p=abcdefghijklmnopqrstuvwxyzabcdefgh") refl) refl refl (omega arith),
       short_needs_none _ _ reads printed (omega arith),
       λ needs. none (codes "a b") _ refl (needs.media, needs.is),
     )
 
--- so memory runs out for neither; that `a b` is rejected is explained by its fault
+-- Memory runs out for neither, and `a b` is rejected for its fault.
 reasons : ¬ (HttpExplains (codes "a b") OutOfMemory) × HttpExplains (codes "a b") (Invalid (InvalidToken 1 32))
 unfolding is_token_byte
 reasons = (λ why. memory.2 why.1, (put_ascii (codes "a b") [] (omega arith) IsUtf8-nil, answered_fault (codes "a b") _ refl))

@@ -6,27 +6,27 @@ use Rattle.mime_http.specs.declared.value.FieldError.TheVariants as field
 
 -- ---- what is written anew
 
--- what is found of the parts
+-- The parts that are read of a value are found in it.
 are_found : (value : List ℕ) (parts : Parts) → answer_of value ≡ read parts → AreFound value parts
 are_found value parts is = grind (arith, http_is_answered value (media_of parts) (answered_is_http value parts is))
 
--- What is written is read,
+-- What is written of the parts of a value is read as their media type.
 pub written_reads : (value : List ℕ) (parts : Parts) → answer_of value ≡ read parts → Reads (text_of_parts parts) (media_of parts)
 written_reads value parts is = grind (arith, are_found, parts_are_read)
 
--- is in UTF-8,
+-- What is written of the parts of a value in UTF-8 is in UTF-8.
 pub written_is_utf8 : (value : List ℕ) (parts : Parts) → IsUtf8 value → answer_of value ≡ read parts → IsUtf8 (text_of_parts parts)
 written_is_utf8 value parts utf8 is =
     let found = are_found value parts is in
     put_token parts.top _ found.is_top (put_one 47 _ (omega arith) (put_token parts.sub _ found.is_sub (found.utf8 utf8)))
 
--- and takes as many bytes as are kept.
+-- As many bytes are written of parts as are kept of their media type.
 pub written_length : (parts : Parts) → length (media_of parts).kept ≡ length (text_of_parts parts)
 written_length parts = grind (arith, lengths, length-pairs)
 
 -- ---- the laws
 
--- two media types of a value, written anew, are the same
+-- Two media types of a value, written anew, are the same.
 pub same_anew : (value : List ℕ) (first second : MediaType) → HttpReads value first → HttpReads value second
     → with_pairs first first.pairs ≡ with_pairs second second.pairs
 same_anew value first second one other =
@@ -34,13 +34,13 @@ same_anew value first second one other =
     let there = http_is_answered value second other in
     cc (here.1, there.1, here.2, there.2)
 
--- so a value is one media type,
+-- A value is one media type.
 pub one_http_reading : OneHttpReading
 one_http_reading value first second one other =
     let same = same_anew value first second one other in
     (ap (λ (media : MediaType). media.essence) same, ap (λ (media : MediaType). media.pairs) same)
 
--- and one text is printed of it,
+-- One text is printed of a value.
 pub one_printed_text : OnePrintedText
 one_printed_text value first second one (as_it_stands _ _ reads) other (as_it_stands _ _ again) =
     one_reading (trimmed value) first second reads again
@@ -49,7 +49,7 @@ one_printed_text value first second one (anew _ _ isnt is) other (as_it_stands _
 one_printed_text value first second one (anew _ _ isnt is) other (anew _ _ not same) =
     is ∙ same_anew value first second one other ∙ sym same
 
--- which the library reads as it, and so HTTP
+-- What is printed of a value is read as the same media type, by the library and as HTTP defines it.
 pub printed_is_read : PrintedIsRead
 printed_is_read value media is (as_it_stands _ _ reads) =
     let kept = kept_is_read (trimmed value) media reads in (kept, plain_is_http media.kept media kept)
@@ -60,11 +60,11 @@ printed_is_read value media is (anew _ _ isnt same) =
 
 -- ---- what is read of a value
 
--- what the library reads without the white space around it is read and printed as it stands,
+-- What the library reads without the white space around it is read and printed as it stands.
 pub stands : (value : List ℕ) (media : MediaType) → Reads (trimmed value) media → HttpReads value media × IsPrinted value media
 stands value media reads = (reads_around value media (plain_is_http (trimmed value) media reads), as_it_stands value media reads)
 
--- so it needs memory if more than 40 bytes of it are kept.
+-- A value that the library reads without the white space around it needs memory if more than 40 bytes of it are kept.
 pub stands_needs : (value : List ℕ) → Explains (trimmed value) NoMemory → NeedsMemory value
 stands_needs value (media, reads, long) =
     let (is, printed) = stands value media reads in record { media = media; is = is; printed = printed; long = long }
@@ -90,21 +90,21 @@ module _ {value text : List ℕ} (parts : Parts) (isnt : ¬ (IsAccepted (trimmed
 
 -- ---- errors
 
--- Of a media type the error is want of memory,
+-- The error for a media type is that memory ran out.
 pub error_is_memory : (value : List ℕ) (error : FieldError) → IsUtf8 value → IsHttpMediaType value → HttpExplains value error
     → error ≡ field.NoMemory
 error_is_memory value (NotUtf8 pos) utf8 is why = absurd (why.0 utf8)
 error_is_memory value (Invalid fault) utf8 is why = absurd (no_fault value fault is why.1)
 error_is_memory value field.NoMemory utf8 is why = refl
 
--- which isn't needed if at most 40 bytes of it are printed,
+-- A media type of which at most 40 bytes are printed needs no memory.
 pub short_needs_none : (value : List ℕ) (media : MediaType) → HttpReads value media → IsPrinted value media → length media.kept ≤ 40
     → ¬ (NeedsMemory value)
 short_needs_none value media reads printed few needs =
     let same = one_printed_text value media needs.media reads printed needs.is needs.printed in
     absurd (omega (arith, few, needs.long, ap (λ (it : MediaType). length it.kept) same))
 
--- so then there is none.
+-- A media type of which at most 40 bytes are printed has no error.
 pub short_has_none : {T : Type 0} (value : List ℕ) (media : MediaType) → IsUtf8 value → HttpReads value media → IsPrinted value media
     → length media.kept ≤ 40 → (result : Result T FieldError) → IfErr result (HttpExplains value) → IsOk result
 short_has_none value media utf8 reads printed few (Ok mime) explained = refl
@@ -112,7 +112,7 @@ short_has_none value media utf8 reads printed few (Err error) why =
     let needs = subst (HttpExplains value) (error_is_memory value error utf8 (media, reads) why) why in
     absurd (short_needs_none value media reads printed few needs.1)
 
--- Of `*/*` three bytes are printed.
+-- For `*/*`, three bytes are printed.
 pub star_has_none : {T : Type 0} (value : List ℕ) → value ≡ codes "*/*" → IsUtf8 value × ((result : Result T FieldError)
     → IfErr result (HttpExplains value) → IsOk result)
 unfolding is_token_byte
@@ -122,7 +122,7 @@ star_has_none {T} value is =
     let (reads, printed) = stands star _ (parts_are_read (record { top = codes "*"; sub = codes "*"; pairs = [] }) refl refl tt) in
     rw is (utf8, short_has_none star _ utf8 reads printed (omega arith))
 
--- a text that has a fault isn't accepted
+-- A text that has a fault isn't accepted.
 pub not_accepted : (text : List ℕ) (fault : ParseError) → fault ≢ NoMemory → Explains text fault → ¬ (IsAccepted text)
 not_accepted text NoMemory other why = absurd (other refl)
 not_accepted text (InvalidToken pos byte) other why = rejected-from_fault text (InvalidToken pos byte) why

@@ -7,7 +7,7 @@ use Rattle.mime_http.specs.ListLaws.{no_text as no_element}
 
 -- ---- what HTTP writes has no comma outside strings
 
--- where in a line the next byte is, in each state of reading one of its pieces
+-- The place in a line of the next byte, in each state of reading one of its pieces.
 abbrev place_of : State → At
 place_of (in_value parts name []) = Equals
 place_of (in_string parts name content) = if awaits_after false content then Paired else Quoted
@@ -25,7 +25,7 @@ follows (in_string parts name content) b = ⊎_elim (λ paired. grind (arith, na
     (λ text. grind (arith, nat_tests, text, awaits_after-append false content (b ∷ []))) (cases_Bool (awaits_after false content))
 follows state b = grind (arith, nat_tests)
 
--- so what is read ends in no string, and no piece before
+-- What is read ends in no string, and no piece ends before.
 whole_from : (bytes : List ℕ) (state : State) (at : ℕ) (parts : Parts) → answer_from state at bytes ≡ read parts
     → IsWhole (place_of state) bytes
 whole_from [] state at parts is = ended state is
@@ -39,12 +39,12 @@ whole_from (b ∷ bytes) state at parts is = by_option (next state b) (λ stops.
     let it = MatchOption-at_some ⊤ Leads next goes (follows state b) in
     (it.0, rw it.1 (whole_from bytes next (at + 1) parts (rw goes at is))))
 
--- and a media type as HTTP writes it is a piece,
+-- A media type as HTTP writes it is a piece.
 http_is_piece : {value : List ℕ} {media : MediaType} → HttpReads value media → IsPiece value
 http_is_piece {value} {media} reads =
     let answered = http_is_answered value media reads in is_piece Outside value (whole_from value before_type 0 answered.0 answered.1)
 
--- as white space is
+-- White space is a piece.
 spaces_are_piece : (white : List ℕ) → AreSpaces white → IsPiece white
 spaces_are_piece [] all = piece_end
 spaces_are_piece (b ∷ white) all =
@@ -67,7 +67,7 @@ are_pieces (line_end _ _ _ _ rest) (element _ _ _ _ _ reads more) = line_end _ _
 are_pieces (comma _ line _ _ _ rest) (nothing _ _ _ white more) = comma _ line _ _ (spaces_are_piece _ white) (are_pieces rest more)
 are_pieces (comma _ line _ _ _ rest) (element _ _ _ _ _ reads more) = comma _ line _ _ (http_is_piece reads) (are_pieces rest more)
 
--- a text of one media type is printed in some way,
+-- A text of one media type is printed in some way.
 printed : (text : List ℕ) (media : MediaType) → HttpReads text media
     → (range : MediaType) × HttpReads text range × IsPrinted text range × (without_kept range ≡ without_kept media)
 printed text media reads = ⊎_elim (λ (plain : IsAccepted (trimmed text)).
@@ -78,7 +78,7 @@ printed text media reads = ⊎_elim (λ (plain : IsAccepted (trimmed text)).
     (range, white_more media.kept [] [] refl refl reads (append-nil text), anew text range rejected refl, refl))
     (accepted_or_rejected (trimmed text))
 
--- so elements are sorted as ranges
+-- Elements are sorted as ranges.
 sorted_elements : {texts : List (List ℕ)} {media : List MediaType} → AreElements texts media
     → (ranges : List MediaType) × AreSame ranges media × AreSorted texts ranges []
 sorted_elements no_element = ([], refl, no_text)
@@ -104,13 +104,13 @@ of_any no_line = no_line
 of_any (line_end text lines texts _ rest) = line_end text lines texts tt (of_any rest)
 of_any (comma text line lines texts is rest) = comma text line lines texts tt (of_any rest)
 
--- texts of which none is bad are elements,
+-- Texts of which none is bad are elements.
 elements_of : {texts : List (List ℕ)} {ranges : List MediaType} → AreSorted texts ranges [] → AreElements texts ranges
 elements_of no_text = no_element
 elements_of (blank text texts ranges _ white rest) = nothing text texts ranges white (elements_of rest)
 elements_of (a_range text range texts ranges _ utf8 reads kept rest) = element text range texts ranges utf8 reads (elements_of rest)
 
--- so what is read with nothing bad is such a list
+-- What is read with nothing bad is such a list.
 pub read_are_http_lists : ReadAreHttpLists
 read_are_http_lists lines header is none = record {
   texts = is.pieces;
@@ -142,7 +142,7 @@ one_sorting (a_bad text _ _ _ not_blank isnt rest) (a_range _ media _ _ _ utf8 r
 one_sorting (a_bad text _ _ _ not_blank isnt rest) (a_bad _ _ _ _ _ _ more) =
     let same = one_sorting rest more in (same.0, ap (λ x. trimmed text ∷ x) same.1)
 
--- so lines are read as one header
+-- Lines are read as one header.
 pub one_header : OneHeader
 one_header lines header other first second =
     let is = one_sorting (rw (only_cut first.cut, sym (only_cut second.cut)) at first.sorted) second.sorted in

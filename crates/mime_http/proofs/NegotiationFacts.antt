@@ -6,8 +6,8 @@ use Rattle.mime_http.{specs.HttpList.blank, proofs.Around.AreAscii, proofs.Aroun
 
 -- texts and how many thousandths they are
 weights : (map thousandths_of (codes "0.5" ∷ codes "1.000" ∷ codes "0.001" ∷ codes "0" ∷ []) ≡ 500 ∷ 1000 ∷ 1 ∷ 0 ∷ [])
-    -- of strings that are no weights, three digits after the dot count, and those before another byte, none need be before the dot, `2` is
-    -- worth no more than 1, and a word nothing
+    -- Of strings that are no weights, three digits after the dot count, and digits before another byte. None need be before the dot,
+    -- `2` is worth no more than 1, and a word is worth nothing.
     × (map thousandths_of (codes "0.1239" ∷ codes "0x.5" ∷ codes ".2" ∷ codes "2" ∷ codes "high" ∷ []) ≡ 123 ∷ 0 ∷ 200 ∷ 1000 ∷ 0 ∷ [])
 weights = (refl, refl)
 
@@ -68,7 +68,7 @@ not_media_type : ¬ (IsHttpMediaType (codes " a b"))
 unfolding is_token_byte
 not_media_type = rejected_is_none (codes " a b") _ refl
 
--- so an entry that is one is bad as a whole, also between two others
+-- An entry of two pieces is bad as a whole, also between two others.
 bad_between : IsHeader (codes "c/d, a b" ∷ codes "a/b " ∷ []) (record { ranges = media_of c_d ∷ media_of a_b ∷ []; bad = codes "a b" ∷ [] })
 unfolding is_token_byte
 bad_between = (bad_is_alone (codes "c/d, a b" ∷ codes "a/b " ∷ []) (codes "c/d" ∷ codes "a/b " ∷ []) (codes "c/d" ∷ []) (codes "a/b " ∷ [])
@@ -76,13 +76,13 @@ bad_between = (bad_is_alone (codes "c/d, a b" ∷ codes "a/b " ∷ []) (codes "c
     (as_range (codes "a/b ") a_b (omega arith) refl refl no_text)
     (λ blank. true≢false (sym blank)) (λ is. not_media_type is.1) (are_cut _) (are_cut _)).0
 
--- a line that has one is no list,
+-- A line with a bad entry is no list.
 not_a_list : (media : List MediaType) → ¬ (AreHttpLists (codes "c/d, a b" ∷ codes "a/b " ∷ []) media)
 not_a_list media is =
     let read = http_lists_are_read (codes "c/d, a b" ∷ codes "a/b " ∷ []) media is in
     absurd (omega (arith, ap (λ (header : Header). length header.bad) (one_header _ _ _ bad_between read.2)))
 
--- and a range prints no other text than its own
+-- A range prints no other text than its own.
 other_text : ¬ (IsHeader (codes "c/d, a b" ∷ codes "a/b " ∷ [])
     (record { ranges = record (media_of c_d) { kept = codes "C/d" } ∷ media_of a_b ∷ []; bad = codes "a b" ∷ [] }))
 other_text is =

@@ -50,7 +50,7 @@ no_less : (n : ℕ) (bytes : List ℕ) → 1000 * n ≤ number_from n bytes
 no_less n [] = omega arith
 no_less n (b ∷ bytes) = grind (arith, nat_tests, number_goes_on, no_less (step n b) bytes, three_digits_more)
 
--- so the number of thousandths is read
+-- The number of thousandths is read.
 pub read_is : (text : List ℕ) → read_number text ≡ thousandths_of text
 read_is [] = refl
 read_is (b ∷ bytes) = grind (arith, nat_tests, number_goes_on, read_is bytes, no_less, three_digits_more, worth_most)

@@ -10,7 +10,7 @@ weighs_within ranks at weighs = grind (arith, weighs, get_or_past ranks at lowes
 
 -- ---- offers with their ranks
 
--- where an offer stands
+-- The position of an offer among all offers.
 abbrev place : Reverse Rank × ℕ → ℕ
 place offer = offer.1
 
@@ -29,7 +29,7 @@ module _ {least : ℕ} {ranks : List Rank} {at : ℕ} {found : List (Reverse Ran
   still : All (HasRank least ranks (at + 1)) found
   still = λ k d within. let is = was.are k d within in (is.0, omega (arith, is.1), is.2)
 
-  -- an offer that weighs enough is one more,
+  -- An offer that weighs enough is one more.
   pub one_ranked : (offer : Reverse Rank × ℕ) → offer.1 ≡ at → offer.0.0 ≡ rank_at ranks at → least ≤ offer.0.0.0
       → Ranked least ranks (at + 1) (found ++ (offer ∷ []))
   one_ranked offer there rank weighs = record {
@@ -41,7 +41,7 @@ module _ {least : ℕ} {ranks : List Rank} {at : ℕ} {found : List (Reverse Ran
     apart = all_pairs_push (λ x y. x.1 < y.1) found offer was.apart (λ k d within. omega (arith, there, (was.are k d within).1));
   }
 
-  -- and another isn't
+  -- An offer that weighs too little isn't one more.
   pub none_more : ¬ (least ≤ (rank_at ranks at).0) → Ranked least ranks (at + 1) found
   none_more light = record {
     are = still;
@@ -68,11 +68,11 @@ first_by x y i j low differ =
 
 module _ {least : ℕ} {ranks : List Rank} {at : ℕ} (found sorted : List (Reverse Rank × ℕ)) (was : Ranked least ranks at found)
     (moved : IsPermutation found sorted) where
-  -- sorted offers have their ranks,
+  -- Sorted offers have their ranks.
   stand : All (HasRank least ranks at) sorted
   stand = All-permutation (HasRank least ranks at) found sorted moved was.are
 
-  -- and are at different positions, so each comes before those after it
+  -- Sorted offers are at different positions, so each comes before those after it.
   in_turn : IsSorted offer_cmp sorted → AllPairs (ComesBefore (rank_at ranks)) (map place sorted)
   in_turn up i j e before below =
       let d : Reverse Rank × ℕ = (record { 0 = lowest }, e) in
@@ -87,7 +87,7 @@ module _ {least : ℕ} {ranks : List Rank} {at : ℕ} (found sorted : List (Reve
       (rw ((stand i d (omega (arith, before, within))).0, (stand j d within).0) at far)
       (apart_from_distinct same_place sorted i j d distinct before within))
 
--- so they are in order
+-- Sorted offers are in order.
 pub are_ranked : (least : ℕ) (ranges offers : List MediaType) {at : ℕ} (found sorted : List (Reverse Rank × ℕ)) → at ≡ length offers
     → Ranked least (map (merit ranges) offers) at found → IsPermutation found sorted → IsSorted offer_cmp sorted
     → AreRanked least ranges offers sorted
@@ -106,7 +106,7 @@ are_ranked least ranges offers found sorted past was moved up =
       ranks = λ k d within. (stand found sorted was moved k d within).0;
     }
 
--- as are the positions of those that weigh something,
+-- The positions of the offers that weigh something are in order.
 pub in_order : {ranges offers : List MediaType} {ranked : List (Reverse Rank × ℕ)} (order : List ℕ) → AreRanked 1 ranges offers ranked
     → order ≡ map (λ offer. offer.1) ranked → AreInOrder ranges offers order
 in_order {ranges} {offers} order are is = rw is (record {
@@ -118,7 +118,7 @@ in_order {ranges} {offers} order are is = rw is (record {
   );
 })
 
--- and what all say of the ranges that decide
+-- What all offers say of the ranges that decide is the ranking.
 pub is_ranking : {ranges offers : List MediaType} {ranked : List (Reverse Rank × ℕ)} (count : ℕ) (ranking : List RankedOffer)
     → AreRanked 0 ranges offers ranked → count ≡ length ranges → ranking ≡ map (λ one. ranked_as count one.0.0 one.1) ranked
     → IsRanking ranges offers ranking
@@ -143,7 +143,7 @@ abbrev first_weighs : List Rank → List ℕ → Option ℕ
 first_weighs ranks [] = None
 first_weighs ranks (at ∷ order) = if nat_lt 0 (rank_at ranks at).0 then Some at else None
 
--- so the first of an order of all that weigh something is the best
+-- The first of an order of all that weigh something is the best.
 best_by_order : (ranks : List Rank) (order : List ℕ) → AllPairs (ComesBefore (rank_at ranks)) order
     → ((at : ℕ) → 0 < (rank_at ranks at).0 → Contains order at) → position (is_best ranks) ranks ≡ first_weighs ranks order
 best_by_order ranks [] first all = best_is_found {at = length ranks} {most = lowest} {best = None} (record {

@@ -7,12 +7,12 @@ use Rattle.mime_http.proofs.{Around.white_more, ReadBack.answered_is_http, ReadF
 
 -- ---- side by side
 
--- the parts of what was walked up to the last semicolon
+-- The pairs of what was walked up to the last semicolon.
 abbrev closed_pairs : ClosedParameters → List (List ℕ × List ℕ)
 closed_pairs [] = []
 closed_pairs ((n, parameter) ∷ closed) = closed_pairs closed ++ (pair_of parameter ∷ [])
 
--- HTTP's state after the bytes that lead the library to its own: in a list,
+-- HTTP's state after the bytes that lead the library to its own state in a list.
 abbrev state_in : Parts → ListState → State
 state_in parts (walked.in_spaces n) = after_semicolon parts
 state_in parts (walked.in_name n name) = in_name parts name
@@ -20,31 +20,31 @@ state_in parts (walked.in_value n name value) = in_value parts name value
 state_in parts (walked.in_quotes n name content) = in_string parts name content
 state_in parts (walked.after_quotes n name content m) = before_semicolon (with_parameter parts name content)
 
--- and before one
+-- HTTP's state after the bytes that lead the library to its own state.
 abbrev state_of : Begun → State
 state_of (walked.in_type []) = before_type
 state_of (walked.in_type (t ∷ top)) = in_type (t ∷ top)
 state_of (walked.in_subtype top sub) = in_subtype top sub
 state_of (walked.in_list top sub list) = state_in (record { top = top; sub = sub; pairs = closed_pairs list.closed }) list.position
 
--- HTTP goes on where the library does, and stops where it stops, but at white space and at a semicolon,
+-- HTTP goes on where the library does, and stops where it stops, but at white space and at a semicolon.
 abbrev Follows : ℕ → Option State → Option Begun → Type 0
 Follows b after grown = (is_some grown || not (is_space b || b == 59)) ≡ true → after ≡ option_map state_of grown
 
--- within a list,
+-- HTTP follows the library within a list.
 in_list : (b : ℕ) (top sub : List ℕ) (closed : ClosedParameters) (position : ListState)
     → let begun = walked.in_list top sub (list_at closed position) in Follows b (next (state_of begun) b) (grow begun b)
 in_list b top sub closed (walked.in_value n name []) = grind (arith, nat_tests)
 in_list b top sub closed position = grind (arith, nat_tests)
 
--- and in each state
+-- HTTP follows the library in each state.
 side_by_side : (b : ℕ) (begun : Begun) → Follows b (next (state_of begun) b) (grow begun b)
 side_by_side b (walked.in_list top sub list) = in_list b top sub list.closed list.position
 side_by_side b (walked.in_type []) = grind (arith, nat_tests)
 side_by_side b (walked.in_subtype top []) = grind (arith, nat_tests)
 side_by_side b begun = grind (arith, nat_tests)
 
--- so over each byte of a text that the library walks
+-- HTTP follows the library over each byte of a text that the library walks.
 over_front : (front : List ℕ) (begun last : Begun) → walk_from begun front ≡ Some last → (at : ℕ) (bytes : List ℕ)
     → answer_from (state_of begun) at (front ++ bytes) ≡ answer_from (state_of last) (at + length front) bytes
 over_front [] begun last goes at bytes = grind (arith, same_Some begun last goes)
@@ -54,17 +54,17 @@ over_front (b ∷ front) begun last goes at bytes =
 
 -- ---- what the library reads
 
--- the parts of a tree
+-- The parts of a tree.
 abbrev parts_of : SyntaxTree → Parts
 parts_of tree = record { top = tree.top; sub = tree.sub; pairs = pairs_of_tail tree.tail }
 
--- the pairs of a list are those that were closed, and the last ones
+-- The pairs of a list are those that were closed, and the last ones.
 pairs_closed : (closed : ClosedParameters) (rest : Parameters)
     → pairs_of_list (with_closed closed rest) ≡ closed_pairs closed ++ pairs_of_list rest
 pairs_closed [] rest = refl
 pairs_closed ((n, parameter) ∷ closed) rest = pairs_closed closed (more n parameter rest) ∙ sym (append_assoc (closed_pairs closed) _ _)
 
--- so the tree's parts are the answer at the end of a list,
+-- The parts of a tree are HTTP's answer at the end of a list.
 list_ends : (top sub : List ℕ) (closed : ClosedParameters) (position : ListState) (tree : SyntaxTree)
     → tree_of (walked.in_list top sub (list_at closed position)) ≡ Some tree
     → answer_at_end (state_of (walked.in_list top sub (list_at closed position))) ≡ read (parts_of tree)
@@ -72,11 +72,11 @@ list_ends top sub closed (walked.in_spaces n) tree is = grind (arith, pairs_clos
 list_ends top sub closed (walked.in_value n name []) tree is = absurd (none-some tree is)
 list_ends top sub closed position tree is = grind (arith, pairs_closed)
 
--- and of any text
-ends : (begun : Begun) (tree : SyntaxTree) → tree_of begun ≡ Some tree → answer_at_end (state_of begun) ≡ read (parts_of tree)
-ends (walked.in_subtype top (s ∷ sub)) tree is = grind arith
-ends (walked.in_list top sub list) tree is = list_ends top sub list.closed list.position tree is
-ends begun tree is = absurd (none-some tree is)
+-- The parts of a tree are HTTP's answer at the end of a text.
+tree_ends : (begun : Begun) (tree : SyntaxTree) → tree_of begun ≡ Some tree → answer_at_end (state_of begun) ≡ read (parts_of tree)
+tree_ends (walked.in_subtype top (s ∷ sub)) tree is = grind arith
+tree_ends (walked.in_list top sub list) tree is = list_ends top sub list.closed list.position tree is
+tree_ends begun tree is = absurd (none-some tree is)
 
 -- What the library reads is what HTTP writes.
 pub plain_is_http : PlainIsHttp
@@ -84,14 +84,14 @@ plain_is_http value media reads =
     let (begun, tree, (goes, is)) = walk-accepted value (media, reads) in
     let own : Reads value (value_of tree) = grind (arith, accepted-from_walk value begun tree goes is) in
     let answered : answer_of value ≡ read (parts_of tree) =
-    grind (arith, append-nil value, over_front value (walked.in_type []) begun goes 0 [], ends begun tree is) in
+    grind (arith, append-nil value, over_front value (walked.in_type []) begun goes 0 [], tree_ends begun tree is) in
     let same : media_of (parts_of tree) ≡ with_pairs media media.pairs =
     grind (arith, pairs_of_tail-lowered tree.tail, one_reading value (value_of tree) media own reads) in
     white_more _ [] [] refl refl (rw same at (answered_is_http value (parts_of tree) answered)) (append-nil value)
 
 -- ---- where it stops
 
--- A byte at fault, after white space, is HTTP's, too, if it is neither white space nor a semicolon,
+-- A byte at fault for the library, after white space, is HTTP's fault, too, if it is neither white space nor a semicolon.
 pub same_byte : (before text after : List ℕ) (pos byte : ℕ) → AreSpaces before → IsDeadAt text pos byte → is_space byte ≡ false
     → byte ≢ 59 → IsHttpFault (before ++ (text ++ after)) (InvalidToken (length before + pos) byte)
 same_byte before text after pos byte white dead space other = by_option (walk text)
@@ -107,7 +107,7 @@ same_byte before text after pos byte white dead space other = by_option (walk te
     answered_fault _ _ answer)
     (λ begun goes. absurd (not_viable-at_dead text pos byte dead (viable-from_walk text begun goes)))
 
--- and so is what is missing at the end.
+-- What is missing for the library at the end, after white space, is missing for HTTP, too.
 pub same_lack : (before text : List ℕ) (fault : ParseError) → AreSpaces before → fault ≢ NoMemory
     → ((pos byte : ℕ) → fault ≢ InvalidToken pos byte) → Explains text fault → IsHttpFault (before ++ text) fault
 same_lack before text NoMemory white other nor why = absurd (other refl)

@@ -101,12 +101,12 @@ choices :
     × (best_offer (all "*/*") [] ≡ None)
 choices = (refl, refl, refl, refl, refl, refl, refl, refl, refl, refl, refl)
 
--- the best of two is the second, which weighs more than 0,
+-- The best of two is the second, which weighs more than 0.
 acceptable : (offer : MediaType) × (slice_get (all "text/html,image/jpeg") 1 ≡ Some offer)
     × (0 < given_weight (all "*/*,text/html;q=0") offer)
 acceptable = best_is_acceptable (all "*/*,text/html;q=0") (all "text/html,image/jpeg") 1 refl
 
--- and not the first, which weighs 0
+-- The best of two isn't the first, which weighs 0.
 not_acceptable : ¬ (best "*/*,text/html;q=0" "text/html,image/jpeg" ≡ Some 0)
 not_acceptable is =
     let ranges = all "*/*,text/html;q=0" in
@@ -146,7 +146,7 @@ said : (ranked_as 2 (500, 2, 0, 1) 3 ≡ record { offer = 3; weight = 500; range
     × (ranked_as 2 (0, 0, 0, 0) 3 ≡ record { offer = 3; weight = 0; range = None })
 said = (refl, refl)
 
--- a ranking of one offer has it alone,
+-- A ranking of one offer has it alone.
 one_offer : IsRanking (all "a/b,c/d;q=0.5") (all "c/d") (record { offer = 0; weight = 500; range = Some 1 } ∷ [])
 one_offer = record {
   order = 0 ∷ [];
@@ -158,7 +158,7 @@ one_offer = record {
   given = refl;
 }
 
--- and one that leaves it out is none
+-- A list that leaves the offer out is no ranking.
 no_offer : ¬ (IsRanking (all "a/b,c/d;q=0.5") (all "c/d") [])
 no_offer is =
     let inside = (is.all 0).1 (omega arith) in

@@ -3,17 +3,17 @@ use Rattle.mime_http.proofs.Common.{Answer, arith, AreHttpParameters, AreSpaces,
 
 -- ---- what the bytes are in each state
 
--- a media type of these parts, with white space around it,
+-- A media type of these parts, with white space around it.
 pub data Whole (parts : Parts) : List ℕ → Type 0 where
   whole : (before parameters after : List ℕ) → AreSpaces before → IsToken parts.top → IsToken parts.sub
       → AreHttpParameters parameters (map lowered_pair parts.pairs) → AreSpaces after
       → Whole parts (before ++ (parts.top ++ (47 ∷ (parts.sub ++ (parameters ++ after)))))
 
--- one, a semicolon and white space,
+-- A media type of these parts, a semicolon and white space.
 pub data Opened (parts : Parts) : List ℕ → Type 0 where
   opened : (first after : List ℕ) → Whole parts first → AreSpaces after → Opened parts (first ++ (59 ∷ after))
 
--- and these bytes behind others
+-- Bytes behind others.
 pub data Behind (Front : List ℕ → Type 0) (bytes : List ℕ) : List ℕ → Type 0 where
   behind : (front : List ℕ) → Front front → Behind Front bytes (front ++ bytes)
 
@@ -30,30 +30,30 @@ Spells (in_string parts name content) front =
 
 -- ---- a byte more
 
--- after bytes of a class,
+-- A byte of a class after bytes of the class is one more of them.
 one_more : (class : ℕ → Bool) (bytes : List ℕ) (b : ℕ) → list_all class bytes ≡ true → class b ≡ true
     → list_all class (bytes ++ (b ∷ [])) ≡ true
 one_more class bytes b all is = grind (arith, list_all-append)
 
--- token bytes,
+-- A token byte after token bytes makes a token.
 token_more : (token : List ℕ) (b : ℕ) → AreTokenBytes token → is_token_byte b ≡ true → IsToken (token ++ (b ∷ []))
 token_more [] b all is = one_more is_token_byte [] b all is
 token_more (t ∷ token) b all is = one_more is_token_byte (t ∷ token) b all is
 
--- content, with more content,
+-- Content before content is content.
 pub content_more : {content more : List ℕ} → IsContent content → IsContent more → IsContent (content ++ more)
 content_more no_byte is = is
 content_more (text_byte b content text rest) is = text_byte b _ text (content_more rest is)
 content_more (quoted_pair b content fits rest) is = quoted_pair b _ fits (content_more rest is)
 
--- and bytes behind others
+-- A byte after bytes behind others is behind the others, too.
 more : {Front : List ℕ → Type 0} {bytes front : List ℕ} (b : ℕ) → Behind Front bytes front
     → Behind Front (bytes ++ (b ∷ [])) (front ++ (b ∷ []))
 more b (behind front is) = simp append_assoc (behind front is)
 
 -- ---- a media type
 
--- parameters after others
+-- Parameters after others are parameters.
 parameters_more : {bytes more : List ℕ} {pairs others : List (List ℕ × List ℕ)} → AreHttpParameters bytes pairs
     → AreHttpParameters more others → AreHttpParameters (bytes ++ more) (pairs ++ others)
 parameters_more no_more are = are
@@ -62,19 +62,19 @@ parameters_more (semicolon before after _ _ white space all) are =
 parameters_more (semicolon_and before after parameter _ pair _ white space is all) are =
     simp append_assoc (semicolon_and before after parameter _ pair _ white space is (parameters_more all are))
 
--- a type and a subtype,
+-- A type and a subtype behind white space are a media type.
 essence_read : {top sub front : List ℕ} → IsToken top → IsToken sub → Behind AreSpaces (top ++ (47 ∷ sub)) front
     → Whole (record { top = top; sub = sub; pairs = [] }) front
 essence_read {top} {sub} is_top is_sub (behind before white) =
     subst (λ x. Whole (record { top = top; sub = sub; pairs = [] }) (before ++ (top ++ (47 ∷ x)))) (append-nil sub)
     (whole before [] [] white is_top is_sub no_more refl)
 
--- with white space after it,
+-- A media type may have white space after it.
 space_after : {parts : Parts} {front : List ℕ} (b : ℕ) → is_space b ≡ true → Whole parts front → Whole parts (front ++ (b ∷ []))
 space_after b space (whole before parameters after first top sub are last) =
     simp append_assoc (whole before parameters _ first top sub are (one_more is_space after b last space))
 
--- with a parameter after a semicolon,
+-- A media type may have a parameter after a semicolon.
 parameter_after : {parts : Parts} {bytes front : List ℕ} (name value : List ℕ) → IsHttpParameter bytes (lowered_pair (name, value))
     → Behind (Opened parts) bytes front → Whole (with_parameter parts name value) front
 parameter_after {parts} {bytes} name value is (behind _ (opened _ space (whole before parameters after first top sub are last) white)) =
@@ -83,24 +83,24 @@ parameter_after {parts} {bytes} name value is (behind _ (opened _ space (whole b
     (rw (map-append lowered_pair parts.pairs ((name, value) ∷ []))
     (parameters_more are (semicolon_and after space bytes [] (lowered_pair (name, value)) [] last white is no_more))) refl)
 
--- and with none,
-nothing_after : {parts : Parts} {front : List ℕ} → Opened parts front → Whole parts front
-nothing_after {parts} (opened _ space (whole before parameters after first top sub are last) white) =
+-- A media type may have a semicolon after it with no parameter.
+opened_is_whole : {parts : Parts} {front : List ℕ} → Opened parts front → Whole parts front
+opened_is_whole {parts} (opened _ space (whole before parameters after first top sub are last) white) =
     let more = rw (append-nil (map lowered_pair parts.pairs)) at (parameters_more are (semicolon after space [] [] last white no_more)) in
     subst (Whole parts) (simp (append_assoc, append-nil)) (whole before _ [] first top sub more refl)
 
--- which may go on with white space
+-- A media type may have white space after a semicolon.
 space_inside : {parts : Parts} {front : List ℕ} (b : ℕ) → is_space b ≡ true → Opened parts front → Opened parts (front ++ (b ∷ []))
 space_inside b space (opened first after is white) = simp append_assoc (opened first _ is (one_more is_space after b white space))
 
 -- ---- the state after a byte
 
 module _ (b : ℕ) (front : List ℕ) where
-  -- the bytes with it are what it says, if there is one
+  -- The bytes with the next byte are what the next state says, if there is one.
   abbrev Fits : Option State → Type 0
   Fits after = MatchOption after ⊤ (λ next. Spells next (front ++ (b ∷ [])))
 
-  -- so it is in each state
+  -- The bytes with the next byte are what the next state says, in each state.
   after_state : (state : State) → Spells state front → Fits (next state b)
   after_state before_type is = grind (arith, cond_both, token_more, behind, one_more)
   after_state (in_type top) is = grind (arith, cond_both, token_more, AreTokenBytes-from_token, more b is.1, eqb-true)
@@ -108,7 +108,7 @@ module _ (b : ℕ) (front : List ℕ) where
       let whole = essence_read is.0 is.1 is.2 in
       grind (arith, cond_both, token_more, more b is.2, append_assoc, space_after, opened, eqb-true, whole)
   after_state (before_semicolon parts) is = grind (arith, cond_both, space_after, opened, eqb-true)
-  after_state (after_semicolon parts) is = grind (arith, cond_both, space_inside, token_more, behind, opened, nothing_after, eqb-true)
+  after_state (after_semicolon parts) is = grind (arith, cond_both, space_inside, token_more, behind, opened, opened_is_whole, eqb-true)
   after_state (in_name parts name) is = grind (arith, cond_both, token_more, AreTokenBytes-from_token, more b is.1, eqb-true)
   after_state (in_value parts name (v ∷ value)) is =
       let whole = parameter_after name (v ∷ value) (with_token name (v ∷ value) is.0 is.1) is.2 in
@@ -119,7 +119,7 @@ module _ (b : ℕ) (front : List ℕ) where
       grind (arith, cond_both, IsOpenContent-push, more b is.2, append_assoc, IsContent-closed, eqb-true, whole)
   after_state begun is = grind (arith, cond_both, token_more, more b is.2, append_assoc, eqb-true)
 
--- the bytes are what the next state says
+-- The bytes with a byte that leads to a state are what the state says.
 pub spelled_after : (state after : State) (b : ℕ) (front : List ℕ) → next state b ≡ Some after → Spells state front
     → Spells after (front ++ (b ∷ []))
 spelled_after state after b front goes is =
@@ -127,25 +127,25 @@ spelled_after state after b front goes is =
 
 -- ---- the whole value
 
--- a media type of these parts is what HTTP writes
+-- A media type of these parts is what HTTP writes.
 whole_is_http : {parts : Parts} {value : List ℕ} → Whole parts value → HttpReads value (media_of parts)
 whole_is_http {parts} (whole before parameters after first top sub are last) = grind arith
 
--- so are the parts that are an answer
+-- The parts that are an answer are what HTTP writes.
 abbrev pub IsRead : List ℕ → Answer → Type 0
 IsRead value (read parts) = HttpReads value (media_of parts)
 IsRead value (rejected fault) = ⊤
 
--- at the end,
+-- The answer at the end is what HTTP writes.
 pub read_at_end : (state : State) (value : List ℕ) → Spells state value → IsRead value (answer_at_end state)
 read_at_end (in_subtype top (s ∷ sub)) value is = whole_is_http (essence_read is.0 is.1 is.2)
 read_at_end (before_semicolon parts) value is = whole_is_http is
-read_at_end (after_semicolon parts) value is = whole_is_http (nothing_after is)
+read_at_end (after_semicolon parts) value is = whole_is_http (opened_is_whole is)
 read_at_end (in_value parts name (v ∷ value)) front is =
     whole_is_http (parameter_after name (v ∷ value) (with_token name (v ∷ value) is.0 is.1) is.2)
 read_at_end other value is = tt
 
--- and before more bytes
+-- The answer after more bytes is what HTTP writes.
 pub read_from : (bytes : List ℕ) (state : State) (at : ℕ) (front : List ℕ) → Spells state front
     → IsRead (front ++ bytes) (answer_from state at bytes)
 read_from [] state at front is = rw (append-nil front) (read_at_end state front is)
@@ -154,6 +154,6 @@ read_from (b ∷ bytes) state at front is =
     read_from bytes after (at + 1) (front ++ (b ∷ [])) (spelled_after state after b front goes is) in
     grind (arith, rest, append_assoc)
 
--- so what is read of a value is what HTTP writes
+-- What is read of a value is what HTTP writes.
 pub answered_is_http : (value : List ℕ) (parts : Parts) → answer_of value ≡ read parts → HttpReads value (media_of parts)
 answered_is_http value parts is = subst (IsRead value) is (read_from value before_type 0 [] refl)

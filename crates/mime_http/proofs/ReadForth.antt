@@ -4,7 +4,7 @@ use Rattle.mime_http.proofs.{Around.around, Around.past_ascii, Around.put_ascii,
 
 -- ---- a parameter
 
--- what is written of a pair is in UTF-8 if its value is
+-- What is written of a pair is in UTF-8 if its value is.
 utf8_pair : (name value : List ℕ) → IsToken name → IsUtf8 value → IsUtf8 (text_of_pair (name, value))
 utf8_pair name value named utf8 =
     let quoted = put_one 34 [] (omega arith) IsUtf8-nil in
@@ -12,7 +12,7 @@ utf8_pair name value named utf8 =
     put_ascii (59 ∷ 32 ∷ []) _ (omega arith)
     (put_token name _ named (put_one 61 _ (omega arith) (IsUtf8-append _ _ quote (IsUtf8-append value _ utf8 quote))))
 
--- after a semicolon a parameter is read that is this pair
+-- After a semicolon a parameter is read that is this pair.
 record ReadsOne (text bytes : List ℕ) (pair : List ℕ × List ℕ) : Type 0 where
   found : List ℕ × List ℕ
   same : lowered_pair found ≡ pair
@@ -21,7 +21,7 @@ record ReadsOne (text bytes : List ℕ) (pair : List ℕ × List ℕ) : Type 0 w
   reads : (parts : Parts) (at : ℕ) → answer_from (after_semicolon parts) at (text ++ bytes)
       ≡ answer_from (before_semicolon (with_parameter parts found.0 found.1)) (at + length text) bytes
 
--- so it is for each that HTTP writes
+-- Each parameter that HTTP writes is read as its pair.
 reads_one : {text : List ℕ} {pair : List ℕ × List ℕ} → IsHttpParameter text pair → (bytes : List ℕ) → EndsToken bytes
     → ReadsOne text bytes pair
 unfolding is_token_byte is_quoted_byte
@@ -55,8 +55,8 @@ reads_one (with_string name content named is) bytes ends = record {
 
 -- ---- parameters and the white space after them
 
--- before a semicolon or the end, and after a semicolon that no parameter follows, white space changes nothing, a semicolon may follow,
--- and the end
+-- Before a semicolon or the end, and after a semicolon that no parameter follows, white space changes nothing, a semicolon may follow, and
+-- the end.
 record IsBetween (parts : Parts) (state : State) : Type 0 where
   white : KeepsSpace state
   semicolon : next state 59 ≡ Some (after_semicolon parts)
@@ -69,7 +69,7 @@ inside : (parts : Parts) → IsBetween parts (after_semicolon parts)
 unfolding is_token_byte
 inside parts = record { white = keeps_inside parts; semicolon = refl; end = refl }
 
--- up to the end of the bytes parameters are read that are these pairs
+-- Up to the end of the bytes parameters are read that are these pairs.
 record ReadsOn (bytes : List ℕ) (pairs : List (List ℕ × List ℕ)) : Type 0 where
   ends : EndsToken bytes
   found : List (List ℕ × List ℕ)
@@ -79,23 +79,23 @@ record ReadsOn (bytes : List ℕ) (pairs : List (List ℕ × List ℕ)) : Type 0
   reads : (parts : Parts) (state : State) → IsBetween parts state → (at : ℕ)
       → answer_from state at bytes ≡ read (record parts { pairs = parts.pairs ++ found })
 
--- white space, before bytes that don't go on a token, doesn't either
+-- White space, before bytes that don't go on a token, doesn't go on one either.
 white_ends : (white bytes : List ℕ) → AreSpaces white → EndsToken bytes → EndsToken (white ++ bytes)
 white_ends [] bytes all ends = ends
 white_ends (b ∷ white) bytes all ends = space_is_no_token b (and_parts (is_space b) _ all).0
 
 module _ (before after bytes : List ℕ) (first : AreSpaces before) (second : AreSpaces after) where
-  -- after white space, a semicolon and white space
+  -- Reading goes on over white space, a semicolon and white space.
   after_white : {parts : Parts} {state : State} → IsBetween parts state → (at : ℕ)
       → answer_from state at (before ++ (59 ∷ (after ++ bytes)))
       ≡ answer_from (after_semicolon parts) (at + length before + 1 + length after) bytes
   after_white {parts} {state} between at = grind (arith, over_white, between.white, between.semicolon, keeps_inside)
 
-  -- bytes are in UTF-8 if all are
+  -- The bytes after a semicolon and white space are in UTF-8 if all are.
   utf8_past : IsUtf8 (before ++ (59 ∷ (after ++ bytes))) → IsUtf8 bytes
   utf8_past utf8 = past_ascii after bytes (spaces_ascii after second) (around before 59 (after ++ bytes) (omega arith) utf8).1
 
--- what HTTP writes is read so
+-- The parameters that HTTP writes are read as their pairs.
 reads_on : {text : List ℕ} {pairs : List (List ℕ × List ℕ)} → AreHttpParameters text pairs → (after : List ℕ) → AreSpaces after
     → ReadsOn (text ++ after) pairs
 unfolding is_token_byte
@@ -135,14 +135,14 @@ reads_on (semicolon_and b a parameter rest pair pairs first second is_one is) af
           ∙ from.reads more (before_semicolon more) (outside more) _ ∙ rw (append_assoc parts.pairs _ _) refl;
     })
 
--- what is read is a type, a subtype, and parameters that are safe in a header, and are written in UTF-8 if the value is
+-- What is read is a type, a subtype, and parameters that are safe in a header, and are written in UTF-8 if the value is.
 pub record AreFound (value : List ℕ) (parts : Parts) : Type 0 where
   pub is_top : IsToken parts.top
   pub is_sub : IsToken parts.sub
   pub safe : AllByRecursion IsSafePair parts.pairs
   pub utf8 : IsUtf8 value → IsUtf8 (text_of_pairs parts.pairs)
 
--- So are the parts of a value, which are those of the media type.
+-- The parts of a value are read, which are those of the media type.
 pub http_is_answered : (value : List ℕ) (media : MediaType) → HttpReads value media
     → (parts : Parts) × (answer_of value ≡ read parts) × (media_of parts ≡ with_pairs media media.pairs) × AreFound value parts
 unfolding is_token_byte

@@ -13,32 +13,32 @@ covers_so : (offer range : MediaType) (g : ℕ → ℕ) (at : ℕ)
 covers_so offer range g at = grind (arith)
 
 module _ (g : ℕ → ℕ) (same : (x y : ℕ) → nat_cmp (g x) (g y) ≡ nat_cmp x y) where
-  -- if moved places are in the same order, then so are ranks,
+  -- If moved places are in the same order, then so are ranks.
   same_order : (x y : Rank) → rank_cmp (moved g x) (moved g y) ≡ rank_cmp x y
   same_order x y = ap (ordering_then (ordering_then (ordering_then (nat_cmp x.0 y.0) (nat_cmp x.1 y.1)) (nat_cmp x.2 y.2))) (same x.3 y.3)
 
-  -- so is which is above all,
+  -- Of moved ranks, the same is above all.
   same_top : (all : List Rank) (one : Rank) → is_top (map (moved g) all) (moved g one) ≡ is_top all one
   same_top all one = list_all-map (λ other. is_le (rank_cmp other (moved g one))) (moved g) all
       ∙ (λ i. list_all (λ other. is_le (same_order other one i)) all)
 
-  -- the highest is found,
+  -- Of moved ranks, the highest is found.
   same_found : (all ranks : List Rank)
       → find (is_top (map (moved g) all)) (map (moved g) ranks) ≡ option_map (moved g) (find (is_top all) ranks)
   same_found all [] = refl
   same_found all (one ∷ ranks) = rw (same_top all one) (grind (arith, same_found all ranks))
 
-  -- and the place of the best is the same
+  -- Of moved ranks, the best has the same position.
   same_best : (all : List Rank) → position (is_best (map (moved g) all)) (map (moved g) all) ≡ position (is_best all) all
   same_best all =
       position-map (is_best (map (moved g) all)) (moved g) all ∙ (λ i. position (λ one. nat_lt 0 one.0 && same_top all one i) all)
 
   module _ (all : List Rank) (none : moved g lowest ≡ lowest) where
-    -- an offer ranks so,
+    -- An offer's rank is moved.
     rank_so : (at : ℕ) → rank_at (map (moved g) all) at ≡ moved g (rank_at all at)
     rank_so at = ap (get_or (map (moved g) all) at) (sym none) ∙ get_or-map (moved g) all at lowest
 
-    -- and comes before the same others
+    -- An offer comes before the same others after all ranks are moved.
     same_turn : (at other : ℕ) → ComesBefore (rank_at all) at other → ComesBefore (rank_at (map (moved g) all)) at other
     same_turn at other before = grind (arith, rank_so at, rank_so other, same_order (rank_at all at) (rank_at all other), before)
 
@@ -53,20 +53,20 @@ abbrev ranks_from : MediaType → ℕ → List MediaType → List Rank
 ranks_from offer at ranges = filter_map (closeness offer) (enumerate_from at ranges)
 
 module _ (offer : MediaType) (k : ℕ) where
-  -- a range before others covers as closely at its new position,
+  -- A range before others covers as closely at its new position.
   moved_first : (range : MediaType) (at to : ℕ) (rest : List Rank) → shifted k at ≡ to
       → cons_option (closeness offer (to, range)) (map (moved (shifted k)) rest)
       ≡ map (moved (shifted k)) (cons_option (closeness offer (at, range)) rest)
   moved_first range at to rest there = rw (sym there, covers_so offer range (shifted k) at) (grind arith)
 
-  -- so do ranges one position later,
+  -- Ranges cover as closely one position later.
   later : (at : ℕ) (ranges : List MediaType) → k ≤ at
       → ranks_from offer (at + 1) ranges ≡ map (moved (shifted k)) (ranks_from offer at ranges)
   later at [] after = refl
   later at (range ∷ ranges) after = ap (cons_option (closeness offer (at + 1, range))) (later (at + 1) ranges (omega (arith, after)))
       ∙ moved_first range at (at + 1) _ (grind (arith, nat_tests))
 
-  -- and with one that covers nothing before them
+  -- Ranges cover as closely with a range before them that covers nothing.
   one_range_more : (range : MediaType) (after : List MediaType) → closeness offer (0, range) ≡ None
       → (at : ℕ) (before : List MediaType) → k ≡ at + length before
       → ranks_from offer at (before ++ (range ∷ after)) ≡ map (moved (shifted k)) (ranks_from offer at (before ++ after))
@@ -85,7 +85,7 @@ module _ (before after : List MediaType) (range : MediaType) where
   none_stays : moved raised lowest ≡ lowest
   none_stays = grind (arith, nat_tests, length-append before after)
 
-  -- each offer ranks so,
+  -- Each offer's rank is moved.
   merit_so : (offer : MediaType) → closeness offer (0, range) ≡ None
       → merit (before ++ (range ∷ after)) offer ≡ moved raised (merit (before ++ after) offer)
   merit_so offer none =
@@ -95,14 +95,14 @@ module _ (before after : List MediaType) (range : MediaType) where
       ∙ same_found g (λ x y. grind (arith, nat_tests)) old old in
       rw kept (grind (arith, nat_tests, length-append before after, length-append before (range ∷ after)))
 
-  -- and so do all
+  -- The ranks of all offers are moved.
   merits_so : (offers : List MediaType) → ((offer : MediaType) → Contains offers offer → closeness offer (0, range) ≡ None)
       → map (merit (before ++ (range ∷ after))) offers ≡ map (moved raised) (map (merit (before ++ after)) offers)
   merits_so [] none = refl
   merits_so (offer ∷ offers) none = λ i. merit_so offer (none offer (zero, omega arith, refl)) i
       ∷ merits_so offers (λ other there. none other (Contains-append_right (offer ∷ []) offers other there)) i
 
--- so a range that covers none of the offers changes nothing
+-- A range that covers none of the offers changes nothing.
 pub stranger_changes_nothing : StrangerChangesNothing
 stranger_changes_nothing before after offers range none =
     let old = map (merit (before ++ after)) offers in

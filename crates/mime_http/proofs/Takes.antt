@@ -116,10 +116,6 @@ pieces_within place piece (b ∷ bytes) =
     grind (arith, pieces_within Outside [] bytes, pieces_within (after place b) (piece ++ (b ∷ [])) bytes)
 
 module _ {keeps_bad : Bool} where
-  -- At first all are left.
-  pub none_taken : {old : Held} {all : List (List ℕ)} → AreLeft keeps_bad old old all all
-  none_taken = record { takes = λ new taken. taken; nothing = λ sorted. sorted }
-
   -- After some are taken, those behind them are left.
   pub rest_left : (some : List (List ℕ)) {old now new : Held} {all rest : List (List ℕ)} → AreLeft keeps_bad old now all (some ++ rest)
       → Takes keeps_bad some now new → AreLeft keeps_bad old new all rest

@@ -1,62 +1,62 @@
 -- What is written of parameters is read as them, and is written item by item.
 use Rattle.mime_http.proofs.Common.{SyntaxTree, All-push, All-filter, if◌then◌else◌, AllByRecursion, AreParameters, Bool, IsContent, IsParameter, IsSafe, IsSafePair, IsToken, IsToken-lowered, List, MediaType, Parameter, Parameters, Parts, Reads, [], ap, append-nil, append_assoc, ap₂, arith, bytes_eq, cond_both, false, final, is_token_byte, is_token_value, length, length-append, length-lowered, list_all-lowered, listed, lowered, lowered-lowered, lowered_list, lowered_parameter, lowered_value, lowered_value-either, lowered_value-lowered, map, media_of, more, nat_tests, no_list, not, others, pair_of, pairs_of_list, pairs_of_tail, pairs_of_tail-lowered, plain, quoted, refl, subst, suc, sym, text_of_list, text_of_pair, text_of_pairs, text_of_parameter, text_of_parts, true, value_of, with_pair, with_pairs, ℕ, ◌++◌, ◌∙◌, ◌∷◌, ◌≡◌, Item, NameIs, bytes_eq-Decides, false_from_ne_true, flat_map-append, items_of, ◌+◌, ◌≤◌, Decides, filter, All-from_recursion, recursion_from_All, lowered_pair}
 
--- the test for a token holds for tokens alone
+-- The test for a token holds for tokens alone.
 pub token_from_test : (value : List ℕ) → is_token_value value ≡ true → IsToken value
 token_from_test [] is = absurd cc
 token_from_test (b ∷ value) is = is
 
--- it holds for a value exactly if it does in lowercase
+-- A value is a token exactly if it is one in lowercase.
 test-lowered : (value : List ℕ) → is_token_value (lowered value) ≡ is_token_value value
 unfolding is_token_byte
 test-lowered [] = refl
 test-lowered (b ∷ value) = list_all-lowered is_token_byte (λ x. grind (arith, nat_tests)) (b ∷ value)
 
--- and so under any name
+-- A value is a token exactly if it is one as it is kept under any name.
 test-either : (name value : List ℕ) → is_token_value (lowered_value name value) ≡ is_token_value value
 test-either name value = lowered_value-either (λ v. is_token_value v ≡ is_token_value value) name value refl (test-lowered value)
 
--- in lowercase a value takes as many bytes,
+-- A value has as many bytes as it is kept with.
 pub length-lowered_value : (name value : List ℕ) → length (lowered_value name value) ≡ length value
 length-lowered_value name value = lowered_value-either (λ v. length v ≡ length value) name value refl (length-lowered value)
 
--- so lengths are compared by these
+-- The rules by which lengths of texts in lowercase are compared.
 pub ruleset lengths = (length-append, length-lowered, length-lowered_value)
 
--- pairs take as many,
+-- The text of pairs has as many bytes as that of the pairs in lowercase.
 pub length-pairs : (pairs : List (List ℕ × List ℕ)) → length (text_of_pairs (map lowered_pair pairs)) ≡ length (text_of_pairs pairs)
 length-pairs [] = refl
 length-pairs ((name, value) ∷ pairs) =
     grind (arith, length-pairs pairs, test-either, lengths)
 
--- the parameter of a pair: its value is a token, or in quotes
+-- The parameter of a pair: its value is a token, or in quotes.
 abbrev parameter_of : List ℕ × List ℕ → Parameter
 parameter_of (name, value) = if is_token_value value then plain name value else quoted name value []
 
--- the list of the parameters of pairs, each after a space
+-- The list of the parameters of pairs, each after a space.
 abbrev list_of : List ℕ × List ℕ → List (List ℕ × List ℕ) → Parameters
 list_of pair [] = final (32 ∷ []) (parameter_of pair)
 list_of pair (next ∷ pairs) = more (32 ∷ []) (parameter_of pair) (list_of next pairs)
 
--- they are well formed if the pairs are safe,
+-- The parameters of safe pairs are well formed.
 well_formed_list : (pair : List ℕ × List ℕ) (pairs : List (List ℕ × List ℕ)) → AllByRecursion IsSafePair (pair ∷ pairs)
     → AreParameters (list_of pair pairs)
 well_formed_list (name, value) [] (is, all) = grind (arith, token_from_test)
 well_formed_list (name, value) (next ∷ pairs) (is, all) = grind (arith, token_from_test, well_formed_list next pairs)
 
--- are what is written of the pairs, and read as them,
+-- The parameters of pairs are written as the pairs are, and read as the pairs.
 written_list : (pair : List ℕ × List ℕ) (pairs : List (List ℕ × List ℕ))
     → (59 ∷ text_of_list (list_of pair pairs) ≡ text_of_pairs (pair ∷ pairs)) × (pairs_of_list (list_of pair pairs) ≡ pair ∷ pairs)
 written_list (name, value) [] = grind (arith, append-nil)
 written_list (name, value) (next ∷ pairs) = grind (arith, written_list next pairs, append-nil, append_assoc)
 
--- and in lowercase those of the pairs in lowercase
+-- The parameters of pairs, in lowercase, are those of the pairs in lowercase.
 lowered_all : (pair : List ℕ × List ℕ) (pairs : List (List ℕ × List ℕ))
     → lowered_list (list_of pair pairs) ≡ list_of (lowered_pair pair) (map lowered_pair pairs)
 lowered_all (name, value) [] = grind (arith, test-either name value)
 lowered_all (name, value) (next ∷ pairs) = grind (arith, test-either name value, lowered_all next pairs)
 
--- So a type, a subtype and pairs are read as they are written,
+-- A type, a subtype and safe pairs are read as they are written.
 pub parts_are_read : (parts : Parts) → IsToken parts.top → IsToken parts.sub → AllByRecursion IsSafePair parts.pairs
     → Reads (text_of_parts parts) (media_of parts)
 parts_are_read parts is_top is_sub safe = go parts.pairs safe
@@ -75,20 +75,20 @@ parts_are_read parts is_top is_sub safe = go parts.pairs safe
           valued = grind (arith, lowered_all pair pairs, low, append_assoc);
         }
 
--- what holds of all pairs holds of those of other names, and of one more
+-- What holds of all pairs and of one more holds of those of other names and of that one.
 all_others : (P : List ℕ × List ℕ → Type 0) (name : List ℕ) (pairs : List (List ℕ × List ℕ)) (pair : List ℕ × List ℕ)
     → AllByRecursion P pairs → P pair → AllByRecursion P (others name pairs ++ (pair ∷ []))
 all_others P name [] pair all last = (last, tt)
 all_others P name (first ∷ pairs) pair all last = grind (arith, all_others P name pairs pair)
 
--- pairs of other names stay as they are, before the new one
+-- Pairs of other names stay as they are, before the new one.
 others_stay : (name : List ℕ) (pairs : List (List ℕ × List ℕ)) (pair : List ℕ × List ℕ)
     → map lowered_pair (others name (map lowered_pair pairs) ++ (pair ∷ []))
     ≡ others (lowered name) (map lowered_pair pairs) ++ (lowered_pair pair ∷ [])
 others_stay name [] pair = refl
 others_stay name (first ∷ pairs) pair = grind (arith, others_stay name pairs pair, lowered-lowered, lowered_value-lowered)
 
--- an essence with the parameters of other names and this one after it is read as the value with this one in place of those of its name
+-- An essence with the parameters of other names, and this one after them, is read as the value with this one in place of those of its name.
 pub with_pair_is_read : (text : List ℕ) (value : MediaType) (name content : List ℕ) → Reads text value → IsSafe value → IsToken name
     → IsContent content
     → Reads (value.essence ++ text_of_pairs (others name value.pairs ++ ((name, content) ∷ [])))
@@ -106,52 +106,52 @@ with_pair_is_read text value name content reads safe named is =
 
 -- ---- those of other names, item by item
 
--- whether an item is of a name,
+-- Whether an item is of a name.
 abbrev pub is_named : List ℕ → Item → Bool
 is_named name item = if item.name_ignores_case then bytes_eq (lowered item.name) (lowered name) else bytes_eq item.name name
 
--- as that is decided
+-- The test for a name decides whether an item is of it.
 name_decides : (name text : List ℕ) (flag : Bool)
     → Decides (if flag then bytes_eq (lowered text) (lowered name) else bytes_eq text name) (NameIs text flag name)
 name_decides name text true = bytes_eq-Decides (lowered text) (lowered name)
 name_decides name text false = bytes_eq-Decides text name
 
--- the pairs of items of other names
+-- The pairs of the items of other names.
 abbrev pub other_items : List ℕ → List Item → List (List ℕ × List ℕ)
 other_items name items = map (λ item. (item.name, item.value)) (filter (λ item. not (is_named name item)) items)
 
--- those of the items of pairs are the others
+-- The items of pairs have the same pairs of other names as the pairs.
 others_of : (name : List ℕ) (pairs : List (List ℕ × List ℕ)) → other_items name (items_of pairs) ≡ others name pairs
 others_of name [] = refl
 others_of name (pair ∷ pairs) = grind (arith, others_of name pairs)
 
--- of the items that are left, those of other names are still to be written after this text, and to be counted
+-- Of the items that are left, those of other names are still to be written after this text, and to be counted.
 pub record Left (name whole text : List ℕ) (total count : ℕ) (items : List Item) : Type 0 where
   pub written : text ++ text_of_pairs (other_items name items) ≡ whole
   pub counted : count + length (other_items name items) ≡ total
 
--- at first all are left,
+-- At first all items are left.
 pub all_left : (name essence : List ℕ) (pairs : List (List ℕ × List ℕ)) {items : List Item} {text : List ℕ} → items ≡ items_of pairs
     → text ≡ essence → Left name (essence ++ text_of_pairs (others name pairs)) text (length (others name pairs)) 0 items
 all_left name essence pairs are is = grind (arith, others_of)
 
--- an item of another name is written,
+-- An item of another name is written and counted.
 pub copied : {name whole text : List ℕ} {total count : ℕ} {items next : List Item} {item : Item} → Left name whole text total count items
     → items ≡ item ∷ next → ¬ (NameIs item.name item.name_ignores_case name)
     → Left name whole (text ++ text_of_pair (item.name, item.value)) total (count + 1) next
 copied left is other = grind (arith, false_from_ne_true, name_decides, append_assoc)
 
--- and at last all is written and counted
+-- If no items are left, all is written and counted.
 pub none_left : {name whole text : List ℕ} {total count : ℕ} {items : List Item} → Left name whole text total count items → items ≡ []
     → (text ≡ whole) × (count ≡ total)
 none_left {text = text} left none = (sym (append-nil text) ∙ (rw none at left.written), omega (arith, rw none at left.counted))
 
--- those of other names are no more than all
+-- The pairs of other names are no more than all pairs.
 pub others_within : (name : List ℕ) (pairs : List (List ℕ × List ℕ)) → length (others name pairs) ≤ length pairs
 others_within name [] = omega arith
 others_within name (pair ∷ pairs) = grind (arith, others_within name pairs)
 
--- each parameter is written with a byte at least
+-- Each pair is written with a byte at least.
 pub pairs_within_text : (pairs : List (List ℕ × List ℕ)) → length pairs ≤ length (text_of_pairs pairs)
 pairs_within_text [] = omega arith
 pairs_within_text (pair ∷ pairs) = omega (arith, pairs_within_text pairs, length-append (text_of_pair pair) (text_of_pairs pairs))

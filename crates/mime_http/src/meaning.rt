@@ -32,9 +32,14 @@ fn differ_but_mean_the_same(value: &[u8], other: &[u8]) -> bool
     requires { value.now ≢ other.now }
     ensures { result ≡ bytes_eq (unescaped value.now) (unescaped other.now) }
 {
-    // Long values may begin alike. A search for backslashes is then faster than the loop.
-    let are_long = value.len() >= BLOCK && other.len() >= BLOCK;
-    if are_long && !has_backslash(value) && !has_backslash(other) {
+    // Long values may begin alike. A search for a backslash is then faster than the loop. If the longer value has none, the other value means
+    // as many bytes only if it has none either.
+    let longer = if value.len() < other.len() {
+        other
+    } else {
+        value
+    };
+    if longer.len() >= BLOCK && !has_backslash(longer) {
         return false;
     }
     let mut left = value;

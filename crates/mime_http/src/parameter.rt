@@ -66,11 +66,12 @@ fn form_of(value: &str) -> Option<Form>
     ensures { result ≡ (if list_all is_quoted_byte value.now then Some (form_of value.now) else None) }
 {
     let bytes = value.as_bytes();
-    if is_token_text(value) {
+    let plain = token_end_far(bytes, 0);
+    if plain == bytes.len() && plain > 0 {
         Some(Form::Token)
-    } else if first_stop(bytes, 0, &CONTROLS) < bytes.len() {
+    } else if first_stop(bytes, plain, &CONTROLS) < bytes.len() {
         None
-    } else if special_from(bytes, 0) < bytes.len() {
+    } else if special_from(bytes, plain) < bytes.len() {
         Some(Form::Escaped)
     } else {
         Some(Form::Quoted)

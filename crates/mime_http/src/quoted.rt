@@ -1,6 +1,6 @@
 //! The content of a quoted string: what it means, and how a value is written.
 
-ghost use Rattle.std.specs.Prelude.{◌≡◌, ◌++◌, ◌≤◌, ◌+◌, OnOk, IsOk, is_ok, if◌then◌else◌, length, take, drop, string_bytes};
+ghost use Rattle.std.specs.Prelude.{◌≡◌, ◌++◌, ◌≤◌, ◌+◌, ◌&&◌, OnOk, IsOk, is_ok, if◌then◌else◌, length, nat_lt, not, slice_index, take, drop, string_bytes};
 ghost use Rattle.std.specs.{List.prefix_len, Vec.vec_items, Vec.vec_len, Vec.vec_capacity};
 ghost use Rattle.mime_http.specs.{Forms.is_plain, Unescaped.unescaped, Written.escaped};
 
@@ -65,6 +65,14 @@ pub(crate) enum Form {
     Escaped,
 }
 
+/// Returns `true` if a quote or a backslash is at `pos`.
+#[inline(always)]
+fn is_special_at(value: &[u8], pos: usize) -> bool
+    ensures { result ≡ (nat_lt pos (length value.now) && not (is_plain (slice_index value.now pos))) }
+{
+    pos < value.len() && (value[pos] == b'"' || value[pos] == b'\\')
+}
+
 /// Returns the position of the first quote or backslash at or after `from`, or the value's length if there is none.
 #[inline(always)]
 #[tactic(auto, using(crate::proofs::Contents::plain_found))]
@@ -73,9 +81,12 @@ pub(crate) fn special_from(value: &[u8], from: usize) -> usize
     ensures special { result ≡ from + prefix_len is_plain (drop from value.now) }
     ensures within { result ≤ length value.now }
 {
-    // This test is faster than the search if another quote or backslash follows.
-    if from < value.len() && (value[from] == b'"' || value[from] == b'\\') {
+    // These tests are faster than the search if another quote or backslash follows soon.
+    if is_special_at(value, from) {
         return from;
+    }
+    if from < value.len() && is_special_at(value, from + 1) {
+        return from + 1;
     }
     first_stop(value, from, &Class::of(b'"', b'\\'))
 }

@@ -1,6 +1,6 @@
 //! Reads the media type of a header's value from bytes.
 
-ghost use Rattle.std.specs.Prelude.{◌≡◌, ◌≢◌, ◌≤◌, IsFalse, codes, length, Some, IfOk, IfErr, IfSome, IsOk, MatchResult};
+ghost use Rattle.std.specs.Prelude.{◌≡◌, ◌≢◌, ◌<◌, ◌≤◌, IsFalse, codes, length, Some, IfOk, IfErr, IfSome, IsOk, MatchResult};
 ghost use Rattle.std.specs.Fmt.InlineText.{inline_text};
 ghost use Rattle.std.specs.Str.{IsUtf8, IsValidUpTo, valid_up_to};
 ghost use Rattle.mime.specs.Values.{IsAccepted, MediaType};
@@ -9,7 +9,6 @@ ghost use Rattle.mime_http.specs.HttpMediaType.{HttpReads, IsHttpMediaType};
 ghost use Rattle.mime_http.specs.HttpList.{trim_end, trimmed, IsPrinted};
 ghost use Rattle.mime_http.specs.HttpFaults.{HttpExplains, IsHttpFault, fault_position};
 ghost use Rattle.mime_http.specs.HttpPrinted.{not_utf8_text};
-ghost use Rattle.mime_http.specs.Reader.{Holds, Parts, answer_of, read, text_of_parts};
 
 use crate::list::{is_space, trim_start};
 use crate::reader::write_anew;
@@ -145,54 +144,48 @@ fn same_fault(value: &[u8], fault: ParseError) -> Option<ParseError>
     }
 }
 
-/// The maximum length in bytes of a text that is written anew without a block.
-const ROOM: usize = 128;
-
-/// Writes a value anew, as `write_anew` does, with its fault as the error.
-fn write_value(value: &str, room: &mut [u8]) -> Result<usize, FieldError>
-    ensures written { IfOk result (λ len. (parts : Parts) × (answer_of value.now ≡ read parts) × Holds room.new len (text_of_parts parts)) }
-    ensures explained { IfErr result (λ error. HttpExplains value.now error) }
-    ensures room { length room.new ≡ length room.old }
-{
-    match write_anew(value.as_bytes(), room) {
-        Ok(len) => Ok(len),
-        Err(fault) => Err(FieldError::Invalid(fault)),
-    }
-}
-
-/// Reads the text that is written anew for a value.
-fn read_written(alloc: Global, value: &str, text: &[u8]) -> Result<Mime, FieldError>
+/// Reads a value that `mime` rejects by writing it anew into `room`. This allocates only if more than 40 bytes are printed: a block for
+/// them, unless they fit in `room`, and one for the media type.
+#[cycle(rejected)]
+#[inline(never)]
+fn read_into(alloc: Global, value: &str, room: &mut [u8]) -> Result<Mime, FieldError>
     requires other { ¬ (IsAccepted (trimmed value.now)) }
-    requires written { (parts : Parts) × (answer_of value.now ≡ read parts) × (text.now ≡ text_of_parts parts) }
+    requires room { 40 ≤ length room.now }
     ensures http { IfOk result (λ mime. HttpReads value.now mime.media × IsPrinted value.now mime.media) }
     ensures explained { IfErr result (λ error. HttpExplains value.now error) }
 {
+    let len = match write_anew(value.as_bytes(), room) {
+        Ok(len) => len,
+        Err(fault) => return Err(FieldError::Invalid(fault)),
+    };
+    if len > room.len() {
+        return read_in_block(alloc, value, len);
+    }
     // SAFETY: the text that is written anew for a value in UTF-8 is UTF-8.
-    let text = unsafe { str::from_utf8_unchecked(text) };
+    let text = unsafe { str::from_utf8_unchecked(&room[..len]) };
     match Mime::from_str(alloc, text) {
         Ok(mime) => Ok(mime),
         Err(_) => Err(FieldError::NoMemory),
     }
 }
 
-/// Reads a value by writing it anew, into a block if it doesn't fit in `ROOM` bytes. If at most 40 bytes are printed, this doesn't
-/// allocate.
-#[inline(never)]
-fn read_anew(alloc: Global, value: &str) -> Result<Mime, FieldError>
-    requires { ¬ (IsAccepted (trimmed value.now)) }
+/// Reads a value that is written anew in `len` bytes, which are more than 40.
+#[cycle(rejected)]
+#[inline(always)]
+fn read_in_block(alloc: Global, value: &str, len: usize) -> Result<Mime, FieldError>
+    requires other { ¬ (IsAccepted (trimmed value.now)) }
+    requires long { 40 < len }
+    requires memory { HttpExplains value.now FieldError.NoMemory }
     ensures http { IfOk result (λ mime. HttpReads value.now mime.media × IsPrinted value.now mime.media) }
     ensures explained { IfErr result (λ error. HttpExplains value.now error) }
 {
-    let mut room = [0; ROOM];
-    let len = write_value(value, &mut room)?;
-    if len <= ROOM {
-        return read_written(alloc, value, &room[..len]);
-    }
-    let Ok(mut block) = vec![in alloc; 0u8; len] else {
+    let Ok(mut text) = vec![in alloc; 0u8; len] else {
         return Err(FieldError::NoMemory);
     };
-    let len = write_value(value, &mut block)?;
-    read_written(alloc, value, &block[..len])
+    match read_into(alloc, value, &mut text) {
+        Ok(mime) => Ok(mime),
+        Err(error) => Err(error),
+    }
 }
 
 /// Reads a value. `fault` is the fault or `NoMemory` that `mime` returns for the value without the white space around it. The result is
@@ -220,7 +213,7 @@ pub(crate) fn read_rejected(
             }
         }
     }
-    match read_anew(alloc, value) {
+    match read_into(alloc, value, &mut [0; 128]) {
         Ok(mime) => Ok(mime),
         Err(error) => Err(error),
     }

@@ -14,6 +14,7 @@ use mime_examples::compress::is_compressible;
 use mime_examples::counts::{count, no_counts, sorted};
 use mime_examples::disposition::{Disposition, read_disposition};
 use mime_examples::document::received;
+use mime_examples::field_caret::caret_below;
 use mime_examples::file_name::{file_name, with_file_name, written_and_read};
 use mime_examples::files::type_of_file;
 use mime_examples::handler::handler_of;
@@ -29,6 +30,7 @@ use mime_examples::plain::is_plain;
 use mime_examples::reply::{form_with, page_in};
 use mime_examples::route::takes;
 use mime_examples::static_file::type_for;
+use mime_http::content_type;
 use std::alloc::{AllocError, Global};
 use std::fmt::{Display, Write};
 
@@ -65,6 +67,15 @@ pub(crate) fn show_caret_line(alloc: Global, out: &mut String, text: &str) {
     };
     if let Ok(line) = caret_line(alloc, text, &error) {
         show_text(out, Some(line.as_str()));
+    }
+}
+
+pub(crate) fn show_caret_below(alloc: Global, out: &mut String, value: &str) {
+    let Some(error) = content_type(alloc, value.as_bytes()).err() else {
+        return show_text(out, None);
+    };
+    if let Ok(lines) = caret_below(alloc, value.as_bytes(), &error) {
+        show_text(out, Some(lines.as_str()));
     }
 }
 

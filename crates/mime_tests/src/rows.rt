@@ -33,11 +33,12 @@ use crate::http::{
 };
 use crate::items::{show_again, show_items, show_list};
 use crate::recipes::{
-    show_accepts_html, show_bare_of, show_body_parts, show_caret_line, show_chosen, show_counts,
-    show_described, show_disposition, show_disposition_of, show_explained, show_file_name,
-    show_form_with, show_handler_of, show_has_param, show_in_order, show_is_compressible,
-    show_is_json, show_is_plain, show_may_delimit, show_page_in, show_quality_of, show_received,
-    show_status, show_takes, show_type_for, show_type_of_file, show_vendor_json, show_whether,
+    show_accepts_html, show_bare_of, show_body_parts, show_caret_below, show_caret_line,
+    show_chosen, show_counts, show_described, show_disposition, show_disposition_of,
+    show_explained, show_file_name, show_form_with, show_handler_of, show_has_param, show_in_order,
+    show_is_compressible, show_is_json, show_is_plain, show_may_delimit, show_page_in,
+    show_quality_of, show_received, show_status, show_takes, show_type_for, show_type_of_file,
+    show_vendor_json, show_whether,
 };
 use crate::relations::{show_against, show_compared, show_names, show_pair, show_sets};
 use crate::short::show_short_verdicts;
@@ -130,6 +131,7 @@ fn show_of_recipes(rt: &HostRuntime, out: &mut String, word: &str, strings: &[St
     match word {
         "accepts_html" => show_accepts_html(alloc, out, one),
         "bare_of" => show_bare_of(alloc, out, one),
+        "caret_below" => show_caret_below(alloc, out, one),
         "caret_line" => show_caret_line(alloc, out, one),
         "chosen" => show_chosen(alloc, out, strings),
         "count" => show_counts(rt, out, strings),

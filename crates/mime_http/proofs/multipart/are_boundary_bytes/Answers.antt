@@ -10,5 +10,5 @@ loop-byte-preserved c =
     let within : i < length bytes = search rules in
     let byte = get_or bytes i 0 in
     let fits : byte < 256 = search (c.type_inv.bytes i, rules) in
-    rw (list_all_more is_bchar bytes i 0 within)
-    (ap₂ (λ all mark. all && mark) c.loop-byte.invariant (get_or-map-range_with_len is_bchar 0 256 byte byte false (omega (arith, fits)) (omega arith)))
+    let marked = get_or-map-range_with_len is_bchar 0 256 byte byte false (omega (arith, fits)) (omega arith) in
+    rw (list_all_more is_bchar bytes i 0 within) (ap₂ (λ all mark. all && mark) c.loop-byte.invariant marked)

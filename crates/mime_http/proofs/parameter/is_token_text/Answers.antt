@@ -5,4 +5,5 @@ use Rattle.mime_http.proofs.parameter.is_token_text.Goals as goal
 
 pub returns-then-not-is_empty : goal.returns-then-not-is_empty
 returns-then-not-is_empty c =
-    grind (arith, nat_tests, whole_run is_token_byte c.args.text.now, c.token_end_far.ensures.end, c.as_bytes.ensures.value, c.is_empty.ensures, c.if-not-is_empty.true)
+    let run = whole_run is_token_byte c.args.text.now in
+    grind (arith, nat_tests, run, c.token_end_far.ensures.end, c.as_bytes.ensures.value, c.is_empty.ensures, c.if-not-is_empty.true)

@@ -3,7 +3,7 @@ use Rattle.mime_http.proofs.Common.{AreHeaderBytes, IfOk-weaker, IsSafe, IsToken
 use Rattle.mime_http.proofs.{Contents.content_of_escaped, Written.pairs_within_text, Written.with_pair_is_read}
 use Rattle.mime_http.proofs.parameter.mime_with.Goals as goal
 
--- what is written is read as the media type with the parameter
+-- What is written is read as the media type with the parameter.
 is_read : {media : MediaType} {text kept : List ℕ} (name value : List ℕ)
     → text ≡ media.essence ++ text_of_pairs (others name media.pairs ++ ((name, escaped value) ∷ [])) → Reads kept media
     → ((kept : List ℕ) (media : MediaType) → Reads kept media → IsSafe media) → IsToken name → AreHeaderBytes value

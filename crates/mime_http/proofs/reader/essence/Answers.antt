@@ -3,7 +3,7 @@ use Rattle.mime_http.proofs.Common.{List, MissingSlash, MissingSubtype, None, So
 use Rattle.mime_http.proofs.{ReadAt.IsRun, ReadAt.neither, ReadAt.one_part, ReadAt.over, ReadAt.over_byte, ReadAt.over_subtype, ReadAt.over_white_at, ReadAt.parts_joined, ReadAt.run_is, ReadAt.stuck, ReadAt.token_part, Runs.keeps_before, Runs.type_begins}
 use Rattle.mime_http.proofs.reader.essence.Goals as goal
 
--- up to the slash
+-- Reading goes on over white space and the type up to the slash.
 to_slash : (value : List ℕ) (top slash : ℕ) → IsRun is_space value 0 top → top < slash → slash ≤ length value
     → IsRun is_token_byte value top slash → answer_of value ≡ answer_at value (in_type (slice_range value top slash)) slash
 to_slash value top slash white some within run =
@@ -11,7 +11,7 @@ to_slash value top slash white some within run =
     ∙ over value top slash before_type (in_type (slice_range value top slash)) run.least within
     (type_begins _ (token_part value top slash some within run) top (drop slash value))
 
--- over it
+-- Reading goes on over the slash.
 over_slash : (value top : List ℕ) (slash : ℕ) → slash < length value → slice_index value slash ≡ 47
     → answer_at value (in_type top) slash ≡ answer_at value (in_subtype top []) (slash + 1)
 unfolding is_token_byte

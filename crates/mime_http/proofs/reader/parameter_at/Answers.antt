@@ -3,14 +3,15 @@ use Rattle.mime_http.proofs.Common.{IsParameterAt, List, drop, drop_more, one-ad
 use Rattle.mime_http.{specs.Reader.Parts, specs.declared.reader.Spans.Spans, proofs.ReadAt.IsRun, proofs.ReadAt.neither, proofs.ReadAt.one_part, proofs.ReadAt.over_byte, proofs.ReadAt.over_name, proofs.ReadAt.parts_joined, proofs.ReadAt.run_end, proofs.ReadAt.run_is, proofs.ReadAt.stuck}
 use Rattle.mime_http.proofs.reader.parameter_at.Goals as goal
 
--- a name begins with a token byte, and ends where the run of them after it does
+-- A name begins with a token byte, and ends where the run of them after it does.
 name_run : (value : List ℕ) (name equals : ℕ) → name < length value → is_token_byte (slice_index value name) ≡ true
     → equals ≡ run_end is_token_byte value (name + 1) → (name < equals) × IsRun is_token_byte value name equals
 name_run value name equals within is end =
-    let same : equals ≡ run_end is_token_byte value name = grind (arith, drop_more, one-add (prefix_len is_token_byte (drop (name + 1) value))) in
+    let rest = prefix_len is_token_byte (drop (name + 1) value) in
+    let same : equals ≡ run_end is_token_byte value name = grind (arith, drop_more, one-add rest) in
     (omega (arith, end), run_is is_token_byte value name equals same)
 
--- a name is read, and the equals sign after it
+-- A name is read, and the equals sign after it.
 to_value : (parts : Parts) (value : List ℕ) (name equals : ℕ) → name < equals → equals < length value
     → slice_index value equals ≡ 61 → IsRun is_token_byte value name equals
     → answer_at value (after_semicolon parts) name ≡ answer_at value (in_value parts (slice_range value name equals) []) (equals + 1)
@@ -30,7 +31,7 @@ returns-then-not-is_at c = λ parts.
     (λ more. neither (is_token_byte (slice_index value equals.result)) (slice_index value equals.result == 61) _ _ (run.stops more)
     (ne_eqb (slice_index value equals.result) 61 (c.is_at.ensures.no c.if-not-is_at.true more))) ∙ ap rejected (sym c.fault_at.ensures)
 
--- a name, the sign, and a value are a parameter
+-- A name, the sign, and a value are a parameter.
 parameter_is : (value : List ℕ) (name equals : ℕ) (spans : Spans) → name < equals → equals < length value → slice_index value equals ≡ 61
     → IsRun is_token_byte value name equals → spans.first ≡ equals + 1
     → IsParameterAt value (slice_range value name equals) (λ parts. in_value parts (slice_range value name equals) []) (equals + 1) spans

@@ -3,19 +3,19 @@ use Rattle.mime_http.proofs.Common.{IsClosedAt, IsContent, List, answer_at, ap, 
 use Rattle.mime_http.{specs.Reader.Parts, proofs.Contents.token_byte_text, proofs.ReadAt.IsRun, proofs.ReadAt.content_on, proofs.ReadAt.fault_after, proofs.ReadAt.no_token_value, proofs.ReadAt.one_part, proofs.ReadAt.over_byte, proofs.ReadAt.over_content, proofs.ReadAt.parts_joined, proofs.ReadAt.run_is, proofs.ReadAt.text_content, proofs.ReadAt.token_part, proofs.ReadAt.token_value, proofs.reader.string_at.Goals.else-begin-plain-via-then-begin-plain+else-plain-close, proofs.reader.string_at.Goals.else-begin-plain-via-else-begin-plain}
 use Rattle.mime_http.proofs.reader.string_at.Goals as goal
 
--- the quote opens the string
+-- The quote opens the string.
 opens : (parts : Parts) (name value : List ℕ) (quote : ℕ) → quote < length value → slice_index value quote ≡ 34
     → answer_at value (in_value parts name []) quote ≡ answer_at value (in_string parts name []) (quote + 1)
 unfolding is_token_byte
 opens parts name value quote within is =
     over_byte value quote (in_value parts name []) (in_string parts name []) within (ap (next (in_value parts name [])) is)
 
--- token bytes are content
+-- Token bytes are content.
 run_content : (value : List ℕ) (from plain : ℕ) → IsRun is_token_byte value from plain → IsContent (slice_range value from plain)
 run_content value from plain run =
     text_content _ (list_all-wider is_token_byte is_quoted_text_byte token_byte_text (slice_range value from plain) run.all)
 
--- so the string is closed from its begin on
+-- The string is closed from its begin on if it is so after token bytes.
 closed_from : (value : List ℕ) (from plain close : ℕ) → IsRun is_token_byte value from plain → IsClosedAt value plain close
     → IsClosedAt value from close
 closed_from value from plain close run closed = record {

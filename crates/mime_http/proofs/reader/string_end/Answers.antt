@@ -3,7 +3,7 @@ use Rattle.mime_http.proofs.Common.{IsContent, List, MissingQuote, Parts, [], an
 use Rattle.mime_http.proofs.{ReadAt.at_byte, ReadAt.at_end, ReadAt.content_on, ReadAt.fault_after, ReadAt.no_part, ReadAt.no_text, ReadAt.one_part, ReadAt.over_byte, ReadAt.pair_content, ReadAt.stuck, ReadAt.text_after, ReadAt.text_content, reader.string_end.Goals.then-paired-value-via-then-paired-value, reader.string_end.Goals.then-paired-value-via-else-paired-value+then-not-is_quoted_byte}
 use Rattle.mime_http.proofs.reader.string_end.Goals as goal
 
--- a byte that a backslash can't pair is the string's fault, and so is the end
+-- A byte that a backslash can't pair is the string's fault, and so is the end.
 unpaired : (value : List ℕ) (at : ℕ) (parts : Parts) (name content : List ℕ) → at < length value → slice_index value at ≡ 92
     → (at + 1 < length value → is_quoted_byte (slice_index value (at + 1)) ≡ false) → awaits_after false content ≡ false
     → answer_at value (in_string parts name content) at ≡ rejected (fault_at value (at + 1) MissingQuote)
@@ -49,10 +49,11 @@ loop-at-preserved-then-byte-eq92 c =
       content = content_on value c.args.from at (at + 1 + 1) keeps.least (omega arith) keeps.content after;
     }
 
--- quoted text goes on the content
+-- Quoted text goes on the content.
 text_goes_on : (value : List ℕ) (from at to : ℕ) → from ≤ at → at < to → IsContent (slice_range value from at)
     → list_all is_quoted_text_byte (slice_range value at to) ≡ true → IsContent (slice_range value from to)
-text_goes_on value from at to least more content text = content_on value from at to least (omega (arith, more)) content (text_content _ text)
+text_goes_on value from at to least more content text =
+    content_on value from at to least (omega (arith, more)) content (text_content _ text)
 
 pub loop-at-preserved-then-at-from-eq0 : goal.loop-at-preserved-then-at-from-eq0
 loop-at-preserved-then-at-from-eq0 c =

@@ -14,7 +14,8 @@ returns c =
       λ name. record {
         content = slice_range value begin end.result;
         read = λ parts. over_value parts name value begin end.result some end.ensures.within run;
-        written = rw (token_value _ (token_part value begin end.result some end.ensures.within run)) (append-nil (slice_range value begin end.result));
+        written = rw (token_value _ (token_part value begin end.result some end.ensures.within run))
+            (append-nil (slice_range value begin end.result));
         least = omega arith;
         apart = omega arith;
         some = run.least;

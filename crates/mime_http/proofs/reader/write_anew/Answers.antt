@@ -3,7 +3,7 @@ use Rattle.mime_http.proofs.Common.{Holds, IsEssenceAt, List, Parts, after_semic
 use Rattle.mime_http.proofs.{ReadAt.length-part, ReadAt.nothing_between, ReadAt.one_written, ReadAt.over_byte, ReadAt.over_white_at, ReadAt.run_end, ReadAt.run_is, Runs.keeps_after, Runs.keeps_inside}
 use Rattle.mime_http.proofs.reader.write_anew.Goals as goal
 
--- up to what follows the white space after a semicolon
+-- Reading goes on up to what follows the white space after a semicolon.
 to_next : (parts : Parts) (value : List ℕ) (at to : ℕ) → answer_of value ≡ answer_at value (before_semicolon parts) at
     → at < length value → slice_index value at ≡ 59 → to ≡ run_end is_space value (at + 1) → to ≤ length value
     → answer_of value ≡ answer_at value (after_semicolon parts) to
@@ -36,7 +36,8 @@ pub returns-in-Err-parameter_at-clause-answer : goal.returns-in-Err-parameter_at
 returns-in-Err-parameter_at-clause-answer c =
     let keeps = c.loop-at.invariant in
     let next = c.spaces_end-at-in-loop-at in
-    to_next keeps.parts c.args.value.now c.loop-at.at next.result keeps.read c.loop-at-test.true c.if-byte-ne59.false next.ensures.end next.ensures.within
+    to_next keeps.parts c.args.value.now c.loop-at.at next.result keeps.read c.loop-at-test.true c.if-byte-ne59.false
+    next.ensures.end next.ensures.within
     ∙ c.in-Err-parameter_at.ensures keeps.parts
 
 pub loop-at-preserved-then-is_token_at : goal.loop-at-preserved-then-is_token_at
@@ -56,7 +57,8 @@ loop-at-preserved-then-is_token_at c =
     let text = ap (λ xs. text_of_parts keeps.parts ++ xs) one ∙ one_written keeps.parts name is.content in
     record {
       parts = parts;
-      read = to_next keeps.parts value c.loop-at.at next.result keeps.read c.loop-at-test.true c.if-byte-ne59.false next.ensures.end next.ensures.within
+      read = to_next keeps.parts value c.loop-at.at next.result keeps.read c.loop-at-test.true c.if-byte-ne59.false
+          next.ensures.end next.ensures.within
           ∙ is.read keeps.parts
           ∙ over_white_at (before_semicolon parts) (keeps_after parts) value spans.end at.result white at.ensures.within;
       holds = subst (Holds put.new.room put.result) text (put.ensures.holds (text_of_parts keeps.parts) keeps.holds);
@@ -66,7 +68,7 @@ loop-at-preserved-then-is_token_at c =
       room = put.ensures.room ∙ keeps.room;
     }
 
--- where no white space is, none is at the last of the semicolons there
+-- If no white space is at a position, none is at the last of the semicolons there.
 none_after : (value : List ℕ) (from to : ℕ) → from ≤ to → (from < length value → is_space (slice_index value from) ≡ false)
     → (from < to → is_space (slice_index value to) ≡ false) → to < length value → is_space (slice_index value to) ≡ false
 none_after value from to least here there within = grind (arith, cases_lt)
@@ -80,7 +82,8 @@ loop-at-preserved c =
     let inside = run_is is_space value (c.loop-at.at + 1) next.result next.ensures.end in
     record {
       parts = keeps.parts;
-      read = to_next keeps.parts value c.loop-at.at next.result keeps.read c.loop-at-test.true c.if-byte-ne59.false next.ensures.end next.ensures.within
+      read = to_next keeps.parts value c.loop-at.at next.result keeps.read c.loop-at-test.true c.if-byte-ne59.false
+          next.ensures.end next.ensures.within
           ∙ nothing_between keeps.parts value next.result inside.stops (c.is_token_at.ensures.no c.if-is_token_at.false)
           ∙ last.ensures.same keeps.parts;
       holds = keeps.holds;

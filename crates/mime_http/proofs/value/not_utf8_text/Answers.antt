@@ -4,7 +4,7 @@ use Rattle.std.specs.{Fmt.WritesInCalls, Fmt.InlineText.inline_text, Fmt.InlineT
 use Rattle.mime_http.specs.HttpPrinted.{not_utf8_text as printed}
 use Rattle.mime_http.proofs.value.not_utf8_text.Goals as goal
 
--- what calls wrote is appended
+-- What calls wrote is appended.
 appended : {n : ℕ} (text new : InlineText n) (parts : List (List ℕ)) → FoldsTo AppendsIfIntact text parts new → IsIntact text
     → inline_text new ≡ inline_text text ++ concat parts
 appended text new [] calls intact = grind (arith, append-nil, calls)

@@ -4,8 +4,8 @@ use Rattle.mime_http.proofs.HttpLaws.{not_accepted, stands_needs}
 use Rattle.mime_http.proofs.value.read_rejected.Goals.{in-InvalidToken-default-eq32, in_default+in_default-same_fault}
 use Rattle.mime_http.proofs.value.read_rejected.Goals as goal
 
-pub read_anew-requires : goal.read_anew-requires
-read_anew-requires c = elim c.match-fault.branch [
+pub read_into-requires-clause-other : goal.read_into-requires-clause-other
+read_into-requires-clause-other c = elim c.match-fault.branch [
   | in-InvalidToken-default-eq32 w ↦ not_accepted (trimmed c.args.value.now) c.args.fault (search rules) c.requires
   | in_default+in_default-same_fault w ↦ not_accepted (trimmed c.args.value.now) c.args.fault (search rules) c.requires
 ]

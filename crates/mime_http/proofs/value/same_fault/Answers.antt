@@ -3,10 +3,10 @@ use Rattle.mime_http.proofs.Common.{MissingQuote, append_assoc, rules, AreSpaces
 use Rattle.mime_http.proofs.{ReadFaults.open_after, Around.split_end, PlainIsHttp.same_byte, PlainIsHttp.same_lack, Around.split_white}
 use Rattle.mime_http.proofs.value.same_fault.Goals as goal
 
--- what stands around a value, and how long it is
-around : (value : List ℕ) → (before after : List ℕ) × AreSpaces before × (value ≡ before ++ (trimmed value ++ after))
+-- A value is what is left of it, with white space around it.
+around_value : (value : List ℕ) → (before after : List ℕ) × AreSpaces before × (value ≡ before ++ (trimmed value ++ after))
     × (length before + length (trim_start value) ≡ length value) × (length (trimmed value) + length after ≡ length (trim_start value))
-around value =
+around_value value =
     let (before, white, start) = split_white value in
     let (after, space, end) = split_end (trim_start value) in
     let begin : length before + length (trim_start value) ≡ length value =
@@ -17,12 +17,12 @@ around value =
 
 pub overflow_sub-pos : goal.overflow_sub-pos
 overflow_sub-pos c =
-    let (before, after, white, whole, begin, end) = around c.args.value.now in omega (arith, begin, ap length c.trim_start-text.ensures)
+    let (before, after, white, whole, begin, end) = around_value c.args.value.now in omega (arith, begin, ap length c.trim_start-text.ensures)
 
 pub overflow_add-pos : goal.overflow_add-pos
 overflow_add-pos c =
     let value = c.args.value.now in
-    let (before, after, white, whole, begin, end) = around value in
+    let (before, after, white, whole, begin, end) = around_value value in
     let dead = subst (Explains (trimmed value)) c.in-InvalidToken.is c.requires in
     let within = slice_get_within (trimmed value) c.in-InvalidToken.pos c.in-InvalidToken.byte dead.there in
     omega (arith, begin, end, within, ap length c.trim_start-text.ensures)
@@ -30,10 +30,11 @@ overflow_add-pos c =
 pub returns-in-InvalidToken : goal.returns-in-InvalidToken
 returns-in-InvalidToken c =
     let value = c.args.value.now in
-    let (before, after, white, whole, begin, end) = around value in
+    let (before, after, white, whole, begin, end) = around_value value in
     let dead = subst (Explains (trimmed value)) c.in-InvalidToken.is c.requires in
     let space = sym c.is_space.ensures ∙ c.if-not-is_space.true in
-    let first : length before ≡ length value - length c.trim_start-text.result.now = omega (arith, begin, ap length c.trim_start-text.ensures) in
+    let first : length before ≡ length value - length c.trim_start-text.result.now =
+    omega (arith, begin, ap length c.trim_start-text.ensures) in
     rw (← whole, first) at (same_byte before (trimmed value) after _ _ white dead space c.if-byte-ne59.true)
 
 pub returns-in-MissingQuote : goal.returns-in-MissingQuote
@@ -42,7 +43,8 @@ returns-in-MissingQuote c =
     let (before, white, first) = split_white value in
     let (after, space, last) = split_end (trim_start value) in
     let same : value ≡ (before ++ trimmed value) ++ after = grind (arith, first, last, append_assoc) in
-    rw (same, c.in-MissingQuote.is) (open_after (before ++ trimmed value) after space (same_lack before (trimmed value) MissingQuote white (λ is. absurd cc) (λ pos byte is. absurd cc) (search rules)))
+    let lacks = same_lack before (trimmed value) MissingQuote white (λ is. absurd cc) (λ pos byte is. absurd cc) (search rules) in
+    rw (same, c.in-MissingQuote.is) (open_after (before ++ trimmed value) after space lacks)
 
 pub returns-in_default-2 : goal.returns-in_default-2
 returns-in_default-2 c =
@@ -50,4 +52,5 @@ returns-in_default-2 c =
     let (before, white, first) = split_white value in
     let none : trimmed value ≡ trim_start value =
     subst (λ text. trim_end text ≡ text) c.trim_start-text.ensures (c.ends_in_space.ensures c.if-ends_in_space.false) in
-    rw (first, sym none) (same_lack before (trimmed value) c.args.fault white c.in_default.not-NoMemory c.in_default.not-InvalidToken c.requires)
+    rw (first, sym none)
+    (same_lack before (trimmed value) c.args.fault white c.in_default.not-NoMemory c.in_default.not-InvalidToken c.requires)

@@ -2,7 +2,7 @@
 use Rattle.mime_http.proofs.Common.{FoldsTo, arith, List, [], concat-append, refl, subst, sym, ℕ, ◌++◌, ◌∙◌, ◌∷◌}
 use Rattle.mime_http.proofs.value.FieldErrorDisplay.fmt.Goals as goal
 
--- two runs of writes in a row are one
+-- Two runs of writes in a row are one.
 more_calls : {W : Type 0} (took : W → List ℕ → W → Type 0) (w : W) (xs : List (List ℕ)) (v : W) (ys : List (List ℕ)) (u : W)
     → FoldsTo took w xs v → FoldsTo took v ys u → FoldsTo took w (xs ++ ys) u
 more_calls took w [] v ys u p q = subst (λ x. FoldsTo took x ys u) (sym p) q
