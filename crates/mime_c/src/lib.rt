@@ -5,7 +5,7 @@
 //! answers. include/mime.h describes them in plain words.
 #![tactic(auto)]
 
-ghost use Rattle.std.specs.Prelude.{◌≡◌, ◌≢◌, ◌+◌, ◌<◌, ◌≤◌, true, false, [], ◌∷◌, length, IfOk, IfErr, IsOk, MatchResult};
+ghost use Rattle.std.specs.Prelude.{◌≡◌, ◌+◌, ◌<◌, ◌≤◌, ◌∷◌, length, IfOk, IfErr, IsOk, MatchResult};
 ghost use Rattle.std.specs.Str.{IsUtf8, IsValidUpTo, valid_up_to};
 ghost use Rattle.mime.specs.Values.{Reads};
 ghost use Rattle.mime.specs.CutLaws.{IsRead};
@@ -416,8 +416,8 @@ pub extern "C" fn mime_best(
     let Ok((offered, entries)) = Accept::from_line_counting_bad(alloc, offers) else {
         return MIME_NO_MEMORY;
     };
-    if let Some(at) = entries.first {
-        *best = at;
+    if let Some(first) = entries.first {
+        *best = first;
         return MIME_BAD_OFFER;
     }
     let Ok(header) = accepted(alloc, is_there, accept) else {
@@ -450,8 +450,8 @@ pub extern "C" fn mime_order(
     let Ok((offered, entries)) = Accept::from_line_counting_bad(alloc, offers) else {
         return MIME_NO_MEMORY;
     };
-    if let Some(at) = entries.first {
-        *count = at;
+    if let Some(first) = entries.first {
+        *count = first;
         return MIME_BAD_OFFER;
     }
     let Ok(header) = accepted(alloc, is_there, accept) else {

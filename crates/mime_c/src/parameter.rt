@@ -1,6 +1,7 @@
 //! The calls for parameters. Two calls write what a parameter means, and one call writes a media type with a parameter.
 
-ghost use Rattle.std.specs.Prelude.{◌≡◌, false, ◌↔◌, ◌<◌, ◌≤◌, IsTrue, length};
+ghost use Rattle.std.specs.Prelude.{◌≡◌, false, ◌↔◌, ◌<◌, ◌≤◌, ◌==◌, ◌&&◌, not, IsTrue, length};
+ghost use Rattle.mime.specs.Bytes.{backslash_byte};
 ghost use Rattle.mime_http.specs.Unescaped.{unescaped};
 ghost use Rattle.mime_c.specs.Strings.{string_of, written};
 ghost use Rattle.mime_c.specs.Writing.{HasWritten};
@@ -10,7 +11,7 @@ use crate::{
     MIME_BAD_PARAMETER, MIME_NO_BOUNDARY, MIME_NO_MEMORY, MIME_NO_ROOM, MIME_OK, copy,
     number_of_error, text_of,
 };
-use mime_http::{boundary, content_type, unescape_into, with_parameter};
+use mime_http::{boundary, content_type, with_parameter};
 use mime_search::{Class, first_stop};
 use std::alloc::Global;
 
@@ -56,6 +57,13 @@ pub extern "C" fn mime_boundary(
     }
 }
 
+/// Returns `true` if a byte is a backslash that begins a quoted pair. `is_paired` is `true` for the second byte of a quoted pair.
+fn begins_quoted_pair(is_paired: bool, byte: u8) -> bool
+    ensures { result ≡ (not is_paired && byte == backslash_byte) }
+{
+    !is_paired && byte == b'\\'
+}
+
 /// Returns `true` if a value has a backslash. A value without a backslash means itself.
 fn has_backslash(value: &[u8]) -> bool
     ensures { result ≡ false → unescaped value.now ≡ value.now }
@@ -63,7 +71,7 @@ fn has_backslash(value: &[u8]) -> bool
     first_stop(value, 0, &Class::of(b'\\', b'\\')) < value.len()
 }
 
-/// Writes the bytes that a value means to the start of `out`, and returns their number.
+/// Writes the bytes that a value means to the start of `out`, and returns their number. A backslash and the byte after it mean that byte.
 fn put_unescaped(out: &mut [u8], value: &[u8]) -> usize
     requires { length value.now < length out.old }
     ensures written { HasWritten out.old out.new result (unescaped value.now) }
@@ -73,7 +81,17 @@ fn put_unescaped(out: &mut [u8], value: &[u8]) -> usize
     if !has_backslash(value) {
         return copy(out, 0, value);
     }
-    unescape_into(value, out)
+    let mut end = 0;
+    let mut is_paired = false;
+    for (at, &byte) in value.iter().enumerate() {
+        if begins_quoted_pair(is_paired, byte) {
+            is_paired = true;
+            continue;
+        }
+        end = copy(out, end, &[byte]);
+        is_paired = false;
+    }
+    end
 }
 
 /// Writes the bytes that a parameter's value means (RFC 9110, 5.6.4) to `out`, which must have at least `value.len() + 1` bytes, and sets

@@ -60,7 +60,7 @@ pub use crate::accept::{Accept, BadEntries};
 pub use crate::list::trimmed;
 pub use crate::multipart::{boundary, is_boundary};
 pub use crate::parameter::{with_boundary, with_charset, with_parameter};
-pub use crate::quoted::{unescape, unescape_into};
+pub use crate::quoted::unescape;
 pub use crate::range::{covers, weight_of};
 pub use crate::ranking::{RankedOffer, first_entry, has_weight, lacking, rank_offers};
 pub use crate::value::{FieldError, content_type};

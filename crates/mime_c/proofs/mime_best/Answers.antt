@@ -18,7 +18,7 @@ returns-in_default c =
     offers_have_no_memory (λ none. true≢false (sym (subst IsOk c.in_default.is (c.from_line_counting_bad.ensures.nothing none.0))))
 
 pub returns-in-Some : goal.returns-in-Some
-returns-in-Some c = an_offer_is_bad c.in-Some.at (rw c.in-Some.is at c.in-Ok.ensures.first)
+returns-in-Some c = an_offer_is_bad c.in-Some.first (rw c.in-Some.is at c.in-Ok.ensures.first)
 
 pub returns-in_default-accepted : goal.returns-in_default-accepted
 returns-in_default-accepted c =
