@@ -100,8 +100,8 @@ next-good old new piece positions mime found reads star =
     (piece.now, found.gives.0.1 mime.media reads, star, found.out_of_memory)
 
 -- a call returns `NoMemory`, which ends the run
-pub next-out_of_memory : (old now new : Iteration) (piece : Bor (List ℕ)) (positions : Positions) → IsFound old (Some (piece, Some positions)) now
-    → Explains piece.now error.NoMemory → new ≡ record now { left = []; out_of_memory = true } → IsNext old (Some (Err NoMemory)) new
+pub next-out_of_memory : (old now new : Iteration) (piece : Bor (List ℕ)) (positions : Positions)
+    → IsFound old (Some (piece, Some positions)) now → Explains piece.now error.NoMemory → new ≡ record now { left = []; out_of_memory = true } → IsNext old (Some (Err NoMemory)) new
 next-out_of_memory old now new piece positions found (value, reads, long) is =
     let others = has_cut now.left in
     next-some old now new (piece, Some positions) (Err NoMemory) found

@@ -19,14 +19,15 @@ last_plus-later at [] ys found is = subst (λ n. last_plus n ys ≡ Some found) 
 last_plus-later at (x ∷ xs) ys found is =
     rw (last_plus-later (at + 1) xs ys found (subst (λ n. last_plus n ys ≡ Some found) (omega arith) is)) refl
 
--- bytes without a plus are token bytes, and keep the last plus
+-- A byte of a token other than the plus is a token byte.
 pub token_byte : (b : ℕ) → is_token_except_plus b ≡ true → is_token_byte b ≡ true
 token_byte b is = (and_parts (is_token_byte b) _ is).0
 
--- bytes without a plus are of both kinds of runs
+-- A byte of a token other than the plus is in both kinds of runs.
 pub token_bytes-wider : (with_plus : Bool) (b : ℕ) → is_token_except_plus b ≡ true → token_bytes with_plus b ≡ true
 token_bytes-wider with_plus b is = search rules
 
+-- Such bytes have no last plus.
 no_plus : (at : ℕ) (xs : List ℕ) → IsTrue (list_all is_token_except_plus xs) → last_plus at xs ≡ None
 no_plus at [] all = refl
 no_plus at (x ∷ xs) all =
@@ -34,15 +35,17 @@ no_plus at (x ∷ xs) all =
     let other : eqb x plus_byte ≡ false = not-true _ (and_parts (is_token_byte x) _ parts.0).1 in
     rw (no_plus (at + 1) xs parts.1, other) refl
 
+-- The last plus of bytes stays that if such bytes follow.
 last_plus-run : (at : ℕ) (xs ys : List ℕ) → IsTrue (list_all is_token_except_plus ys) → last_plus at (xs ++ ys) ≡ last_plus at xs
 last_plus-run at [] ys all = no_plus at ys all
 last_plus-run at (x ∷ xs) ys all = rw (last_plus-run (at + 1) xs ys all) refl
 
--- token bytes were given so far, and then others up to a plus
+-- The plus is a token byte.
 pub is_token_plus : is_token_byte plus_byte ≡ true
 unfolding is_token_byte
 is_token_plus = refl
 
+-- Token bytes were given so far, and then others up to a plus.
 abbrev pub passing_plus : {old mid new : Remaining} {stop : Option ℕ} → Passing is_token_byte old mid
     → Passes is_token_except_plus mid new stop → option_eq eqb stop (Some plus_byte) ≡ true → Passing is_token_byte old new
 passing_plus {old} {mid} {new} {stop} p passes test =
@@ -97,7 +100,7 @@ pluses_other {old} {mid} {new} {b} {count} p gives token other =
 
 -- ---- a subtype
 
--- token bytes were given so far, and then others up to the end, or to a byte that is no plus
+-- Token bytes were given so far, and then others up to the end, or to a byte that is no plus.
 pub subtype_at : {old mid new : Remaining} (stop plus : Option ℕ) (at : ℕ) → (p : Passing is_token_byte old mid) → last_plus at p.run ≡ plus
     → Passes is_token_except_plus mid new stop → option_eq eqb stop (Some plus_byte) ≡ false → PassesSubtype at old new (plus, stop)
 subtype_at {new = new} stop plus at p is passes other = record {

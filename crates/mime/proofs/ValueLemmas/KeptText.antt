@@ -227,7 +227,9 @@ list-there : (top sub : List ℕ) (tail : Tail) (s : ℕ) → IsTail tail → se
 list-there top sub no_list s well is = absurd cc
 list-there top sub (listed list) s well is =
     let position : length top + 1 + length sub ≡ s = cc in
-    (list, well, sym (ap (λ n. drop (n + 1) (text_of (tree_with top sub (listed list)))) (sym position) ∙ drop-to_semicolon top sub (text_of_list list)), refl)
+    let whole = text_of (tree_with top sub (listed list)) in
+    let rest = ap (λ n. drop (n + 1) whole) (sym position) ∙ drop-to_semicolon top sub (text_of_list list) in
+    (list, well, sym rest, refl)
 
 -- The list of an accepted text has the pairs that are counted.
 pub pairs-from_positions : (text : List ℕ) (positions : Positions) (s : ℕ) → HasPositions text positions → positions.semicolon ≡ Some s

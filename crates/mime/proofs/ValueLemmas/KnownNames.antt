@@ -14,39 +14,42 @@ use Rattle.mime.specs.Inner.Pairs.{without_spaces, cut_of, has_equals}
 use Rattle.mime.proofs.LowercaseLemmas.{length-lowered}
 use Rattle.mime.proofs.ValueLemmas.Pairs.{cut_of-name}
 
--- an equals sign isn't before the first one
+-- An equals sign isn't before the first one.
 pub first_equals-le : (text : List ℕ) (n : ℕ) → get_or text n 0 ≡ equals_byte → first_position equals_byte text ≤ n
 first_equals-le text n is = ⊎_elim
     (λ (before : n < first_position equals_byte text).
-    absurd (true≢false (sym (subst (λ b. not (b == equals_byte) ≡ true) is (prefix_len_passes (λ b. not (b == equals_byte)) text n 0 before)))))
+    absurd (true≢false (sym (subst (λ b. not (b == equals_byte) ≡ true) is
+    (prefix_len_passes (λ b. not (b == equals_byte)) text n 0 before)))))
     (λ (after : first_position equals_byte text ≤ n). after)
     (cases_lt n (first_position equals_byte text))
 
--- at the first position of an equals sign there is one, or the text ends
+-- The byte at the first position of an equals sign is one, unless the text ends.
 get_or-first_equals : (text : List ℕ) → first_position equals_byte text < length text
     → get_or text (first_position equals_byte text) 0 == equals_byte ≡ true
 get_or-first_equals text within =
     grind (arith, nat_tests, prefix_len_stops (λ b. not (b == equals_byte)) text 0 within)
 
--- the first position of an equals sign isn't that of any other byte
+-- The first position of an equals sign isn't that of any other byte.
 pub first_equals-other : (text : List ℕ) (n : ℕ) → n < length text → get_or text n 0 ≢ equals_byte → first_position equals_byte text ≢ n
 first_equals-other text n within other is =
     other (subst (λ k. get_or text k 0 ≡ equals_byte) is (eqb-true _ equals_byte (get_or-first_equals text (omega (arith, within, is)))))
 
--- lowercasing neither adds an equals sign nor takes one away
+-- Lowercasing neither adds an equals sign nor removes one.
 has_equals-lowered : (text : List ℕ) → has_equals (lowered text) ≡ has_equals text
 has_equals-lowered [] = refl
 has_equals-lowered (b ∷ text) =
     let equals : (to_ascii_lowercase b == equals_byte) ≡ (b == equals_byte) = grind (arith, nat_tests) in
     rw (equals, has_equals-lowered text)
 
+-- Texts that are the same but for case both have an equals sign, or neither.
 has_equals-case : (text other : List ℕ) → lowered text ≡ lowered other → has_equals text ≡ has_equals other
 has_equals-case text other is = sym (has_equals-lowered text) ∙ ap has_equals is ∙ has_equals-lowered other
 
--- the text before the first equals sign is as long as its position says, and has none
+-- The text before the first equals sign is as long as its position says.
 length-before_equals : (text : List ℕ) → length (before_byte equals_byte text) ≡ first_position equals_byte text
 length-before_equals text = length-prefix_len (λ b. not (b == equals_byte)) text
 
+-- The text before the first equals sign has none.
 has_equals-before : (text : List ℕ) → has_equals (before_byte equals_byte text) ≡ false
 has_equals-before [] = refl
 has_equals-before (b ∷ text) = ⊎_elim
@@ -56,18 +59,19 @@ has_equals-before (b ∷ text) = ⊎_elim
     subst (λ n. has_equals (take n (b ∷ text)) ≡ false) on (rw other (has_equals-before text)))
     (cases_Bool (b == equals_byte))
 
--- a name that is a text but for case is as long, and so no equals sign is in the text
+-- A name that is a text but for case is as long as the text.
 pub first_equals-named : (list text : List ℕ) → lowered (cut_of list).name ≡ lowered text
     → first_position equals_byte (without_spaces list) ≡ length text
 first_equals-named list text is =
     sym (length-before_equals (without_spaces list)) ∙ ap length (cut_of-name list _ refl)
     ∙ sym (length-lowered (cut_of list).name) ∙ ap length is ∙ length-lowered text
 
+-- A text that is a list's first name but for case has no equals sign.
 pub has_equals-named : (list text : List ℕ) → lowered (cut_of list).name ≡ lowered text → has_equals text ≡ false
 has_equals-named list text is =
     sym (has_equals-case (cut_of list).name text is) ∙ ap has_equals (sym (cut_of-name list _ refl)) ∙ has_equals-before (without_spaces list)
 
--- bytes that are a text without an equals sign but for case end at the first one, if that isn't after them
+-- Bytes that are a text without an equals sign, but for case, end at the first one, if that isn't after them.
 pub first_equals-taken : (body text : List ℕ) → lowered (take (length text) body) ≡ lowered text → has_equals text ≡ false
     → first_position equals_byte body ≤ length text → first_position equals_byte body ≡ length text
 first_equals-taken body text is none least = ⊎_elim

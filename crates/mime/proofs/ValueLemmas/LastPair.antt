@@ -35,13 +35,19 @@ named-token : (p : Parameter) → IsParameter p → IsToken (pair_of p).0
 named-token (plain name value) well = well.0
 named-token (quoted name content n) well = well.0
 
--- A parameter in lowercase is its text in lowercase, if it is a charset, and else only up to the equals sign.
+-- A charset in lowercase is its text in lowercase.
 parameter-charset : (p : Parameter) → IsParameter p → is_charset (pair_of p).0 ≡ true
     → text_of_parameter (lowered_parameter p) ≡ lowered (text_of_parameter p)
 parameter-charset (plain name value) well is = rw (is, lowered-append name (equals_byte ∷ value)) refl
 parameter-charset (quoted name content n) well is =
-    rw (is, lowered-append name (equals_byte ∷ quote_byte ∷ (content ++ (quote_byte ∷ n))), lowered-append content (quote_byte ∷ n), lowered-spaces n well.2) refl
+    rw (
+      is,
+      lowered-append name (equals_byte ∷ quote_byte ∷ (content ++ (quote_byte ∷ n))),
+      lowered-append content (quote_byte ∷ n),
+      lowered-spaces n well.2,
+    ) refl
 
+-- Another parameter in lowercase is its text in lowercase up to the equals sign.
 parameter-other : (p : Parameter) → is_charset (pair_of p).0 ≡ false
     → text_of_parameter (lowered_parameter p) ≡ lowered (pair_of p).0 ++ (equals_byte ∷ after_name p)
 parameter-other (plain name value) is = rw is refl
@@ -57,16 +63,17 @@ end_within list =
     let body = without_spaces list in
     omega (arith, length-drop (first_position equals_byte body + 1) body, length-drop (leading_spaces list) list)
 
--- A list is lowercased so.
+-- A list with one pair has only so much of it lowercased.
 abbrev pub IsLastLowered : List ℕ → Type 0
 IsLastLowered list =
     let body = without_spaces list in
     let k = lowered_len list (before_byte equals_byte body) (after_byte equals_byte body) in
     lowered (take k list) ++ drop k list ≡ lowered_within 1 list
 
--- The first of a list's pairs, which no other pair follows, is lowercased so.
-only_pair : (n : List ℕ) (p : Parameter) (between rest : List ℕ) → AreSpaces n → IsParameter p → IsFollow semicolon_byte (between ++ rest) rest
-    → lowered (between ++ rest) ≡ between ++ rest → IsLastLowered (n ++ (text_of_parameter p ++ (between ++ rest)))
+-- A parameter that no other follows is lowercased by this length.
+only_pair : (n : List ℕ) (p : Parameter) (between rest : List ℕ) → AreSpaces n → IsParameter p
+    → IsFollow semicolon_byte (between ++ rest) rest → lowered (between ++ rest) ≡ between ++ rest
+    → IsLastLowered (n ++ (text_of_parameter p ++ (between ++ rest)))
 only_pair n p between rest white well follows low = go (is_charset (pair_of p).0) refl
   where
     tail : List ℕ
@@ -118,7 +125,7 @@ only_pair n p between rest white well follows low = go (is_charset (pair_of p).0
         ∙ ap (λ x. n ++ (x ++ tail)) (sym (parameter-other p is)) ∙ sym whole
         )
 
--- A list with one pair is lowercased so.
+-- Each list with one pair is lowercased by this length.
 pub lowered_last : (list : List ℕ) → HasPairs 1 list → IsLastLowered list
 lowered_last list (blank n, well, is, counted) = absurd (omega (arith, counted))
 lowered_last list (final n p, (white, well), is, counted) =
@@ -148,7 +155,7 @@ lone_charset-lowered (suc zero) list has (name, content, only, is) =
     sym (append-nil (lowered list))
     ∙ rw (k, take_all (length list) list (omega arith), drop_all (length list) list (omega arith)) at (lowered_last list has)
 
--- So is the text that such a list ends.
+-- A text that such a list ends is lowercased as a whole.
 pub lone_charset-text : (count semicolon : ℕ) (text : List ℕ) → HasPairs count (drop (semicolon + 1) text)
     → IsLoneCharset (pairs_within count (drop (semicolon + 1) text)) → lowered text ≡ with_pairs_lowered count semicolon text
 lone_charset-text count semicolon text has lone =

@@ -3,4 +3,5 @@ use Rattle.mime.proofs.ValueLemmas.KeptText.{length-kept}
 use Rattle.mime.proofs.value.kept.kept_len.Goals as goal
 
 pub returns-then-positions-ne0-clause-kept : goal.returns-then-positions-ne0-clause-kept
-returns-then-positions-ne0-clause-kept c = length-kept c.args.positions.pair_count c.args.positions.semicolon c.args.text.now c.if-positions-ne0.true
+returns-then-positions-ne0-clause-kept c =
+    let at = c.args.positions in length-kept at.pair_count at.semicolon c.args.text.now c.if-positions-ne0.true

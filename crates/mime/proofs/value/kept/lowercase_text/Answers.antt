@@ -29,7 +29,8 @@ loop-init c =
 pub overflow_add-low : goal.overflow_add-low
 overflow_add-low c =
     let cut = c.cut-pair.ensures in
-    omega (arith, low_within c.loop.left _ _ _ _ cut.value_start cut.value c.low_len.ensures, lowered_to-sizes _ _ _ _ _ c.loop.invariant.lowered)
+    let within = low_within c.loop.left _ _ _ _ cut.value_start cut.value c.low_len.ensures in
+    omega (arith, within, lowered_to-sizes _ _ _ _ _ c.loop.invariant.lowered)
 
 pub overflow_add-start : goal.overflow_add-start
 overflow_add-start c =
@@ -45,12 +46,14 @@ lowercase_start-requires c =
     omega (arith, within, size, c.len.ensures, lowered_to-sizes _ _ _ _ _ c.loop.invariant.lowered)
 
 -- what a turn leaves
-next_turn : (c : goal.After-len-in-loop) → let new = put_mid c.loop.from (length c.loop.bytes - c.loop.from) c.loop.bytes c.lowercase_start.new.bytes in
+next_turn : (c : goal.After-len-in-loop)
+    → let new = put_mid c.loop.from (length c.loop.bytes - c.loop.from) c.loop.bytes c.lowercase_start.new.bytes in
     IsLoweredTo new c.cut-pair.result.rest (length new - length c.cut-pair.result.rest) (c.args.count - (c.loop.counter + 1) + 1)
     (with_pairs_lowered c.args.count c.args.semicolon c.args.text.now)
 next_turn c =
     let cut = c.cut-pair.ensures in
-    lowered_to-more c.loop.bytes c.loop.left c.lowercase_start.new.bytes c.cut-pair.result.rest c.loop.from c.low_len.result _ _ _ c.loop.invariant.lowered
+    lowered_to-more c.loop.bytes c.loop.left c.lowercase_start.new.bytes c.cut-pair.result.rest c.loop.from c.low_len.result _ _ _
+    c.loop.invariant.lowered
     (omega (arith, c.loop-test.true)) (c.low_len.ensures ∙ rw (cut.name, cut.value) refl)
     (c.lowercase_start.ensures ∙ rw (c.len.ensures, cut.value_start) refl) cut.rest
 
