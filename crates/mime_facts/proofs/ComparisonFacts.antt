@@ -1,18 +1,11 @@
 -- Values and texts for which each definition of equality and order is true, and others for which it is false, by computation.
 use Rattle.std.proofs.Common.{◌≡◌, ◌<◌, inl, inr, List, ℕ, true, false, [], ◌∷◌, map, None, refl, ap, ◌∙◌, subst, arith, codes}
 use Rattle.std.proofs.lemmas.Bool.{false≢true}
-use Rattle.std.specs.declared.cmp.Ordering.TheVariants.{Less, Equal, Greater}
-use Rattle.std.specs.List.{slice_index}
+use Rattle.std.specs.{declared.cmp.Ordering.TheVariants.Less, declared.cmp.Ordering.TheVariants.Equal, declared.cmp.Ordering.TheVariants.Greater, List.slice_index}
 use Rattle.std.specs.Prelude.{IsTrue}
-use Rattle.mime.specs.Bytes.{is_token_byte, is_quoted_byte}
-use Rattle.mime.specs.Grammar.{quoted, final, listed}
-use Rattle.mime.specs.Values.{MediaType, Reads}
-use Rattle.mime.specs.Difference.{FirstDifference, reaches_value, DifferInValue}
-use Rattle.mime.specs.Comparison.{Same, IsListBefore, IsTextBefore, IsPairBefore, Before, IsOrderOf, pair_cmp, media_cmp, HasNoSemicolon, TextIs}
-use Rattle.mime.proofs.GrammarLemmas.Content.{IsContent-taken}
-use Rattle.mime.proofs.GrammarLemmas.Readings.{one_reading}
-use Rattle.mime_facts.proofs.StandardFacts.{media, reads}
-use Rattle.mime_facts.proofs.ValueFacts.{differ, plain_value, reads_capitals}
+use Rattle.mime.specs.{Bytes.is_token_byte, Bytes.is_quoted_byte, Grammar.quoted, Grammar.final, Grammar.listed, Values.MediaType, Values.Reads, Difference.FirstDifference, Difference.reaches_value, Difference.DifferInValue, Comparison.Same, Comparison.IsListBefore, Comparison.IsTextBefore, Comparison.IsPairBefore, Comparison.Before, Comparison.IsOrderOf, Comparison.pair_cmp, Comparison.media_cmp, Comparison.HasNoSemicolon, Comparison.TextIs}
+use Rattle.mime.proofs.{GrammarLemmas.Content.IsContent-taken, GrammarLemmas.Readings.one_reading}
+use Rattle.mime_facts.proofs.{StandardFacts.media, StandardFacts.reads, ValueFacts.differ, ValueFacts.plain_value, ValueFacts.reads_capitals}
 
 -- values with one parameter, two of them equal and kept otherwise
 abbrev with_pair : List ℕ → List ℕ → List ℕ → MediaType
@@ -64,6 +57,7 @@ longer_after : ¬ (IsTextBefore (codes "ab") (codes "a"))
 longer_after (inl less) = absurd (omega (arith, less))
 longer_after (inr rest) = rest.1
 
+-- A greater text isn't before a lesser one.
 greater_after : ¬ (IsTextBefore (codes "b") (codes "ab"))
 greater_after (inl less) = absurd (omega (arith, less))
 greater_after (inr rest) = absurd (omega (arith, rest.0))
@@ -77,6 +71,7 @@ none_before_itself (inr rest) = rest.1
 pairs_before : IsPairBefore (codes "p", codes "y") (codes "q", codes "x") × IsPairBefore (codes "p", codes "x") (codes "p", codes "y")
 pairs_before = (inl (inl (omega arith)), inr (refl, inl (omega arith)))
 
+-- The lesser name is first.
 lesser_name_first : ¬ (IsPairBefore (codes "q", codes "x") (codes "p", codes "y"))
 lesser_name_first (inl (inl less)) = absurd (omega (arith, less))
 lesser_name_first (inl (inr rest)) = rest.1
@@ -90,6 +85,7 @@ values_before = (
   inr (refl, inl (inr (refl, inl (omega arith)))),
 )
 
+-- A value without parameters is before one with the same essence and parameters.
 bare_first : ¬ (Before plain_x plain_value)
 bare_first (inl (inl less)) = absurd (omega (arith, less))
 bare_first (inl (inr (a, inl less))) = absurd (omega (arith, less))
@@ -101,7 +97,9 @@ bare_first (inr rest) = rest.1
 orders : IsOrderOf plain_x plain_y Less × IsOrderOf quoted_x plain_x Equal × IsOrderOf plain_y plain_x Greater
 orders = (values_before.2, (refl, refl), values_before.2)
 
-no_orders : ¬ (IsOrderOf plain_x plain_value Less) × ¬ (IsOrderOf plain_x plain_value Equal) × ¬ (IsOrderOf plain_value plain_x Greater)
+-- No other answer is the order of the two values.
+no_orders : ¬ (IsOrderOf plain_x plain_value Less) × ¬ (IsOrderOf plain_x plain_value Equal)
+    × ¬ (IsOrderOf plain_value plain_x Greater)
 no_orders = (bare_first, (λ is. let pairs = is.1 in absurd cc), bare_first)
 
 -- the order as a function says the same
@@ -115,6 +113,7 @@ answers = (refl, refl, refl, refl, refl)
 
 -- ---- a text against a value
 
+-- A text has no semicolon, or has one.
 no_semicolon : HasNoSemicolon (codes "a/b") × ¬ (HasNoSemicolon (codes "a/b;"))
 no_semicolon = (refl, λ is. false≢true is)
 
@@ -156,6 +155,7 @@ case_is_none is = is.differ refl
 end_is_none : ¬ (FirstDifference (codes "a") (codes "ab") 1)
 end_is_none is = absurd (omega (arith, is.within))
 
+-- Nothing after the first difference is a difference.
 later_is_none : ¬ (FirstDifference (codes "ab") (codes "cd") 1)
 later_is_none is = differ (codes "a") (codes "c") refl is.equal_before
 
@@ -167,11 +167,13 @@ reaching_bytes = refl
 pub letters_reach_the_value : DifferInValue (codes "a/b") (codes "A/c")
 letters_reach_the_value = record { at = 2; first = differ_at_end; reaches = refl; other_reaches = refl }
 
+-- A quote against a letter doesn't reach the value.
 no_quote_reaches_it : ¬ (DifferInValue (codes "\"") (codes "x"))
 no_quote_reaches_it is =
     let at : is.at ≡ 0 = omega (arith, is.first.within) in
     false≢true (subst (λ n. IsTrue (reaches_value (slice_index (codes "\"") n))) at is.reaches)
 
+-- A letter against a quote doesn't reach the value.
 no_quote_reaches_it_there : ¬ (DifferInValue (codes "x") (codes "\""))
 no_quote_reaches_it_there is =
     let at : is.at ≡ 0 = omega (arith, is.first.within) in

@@ -1,17 +1,9 @@
 -- Texts for which each definition of the cut is true, and others for which it is false: the list `e, a/b`.
 use Rattle.std.proofs.Common.{◌≡◌, ℕ, true, false, List, [], ◌∷◌, length, map, refl, ap, subst, arith, codes}
 use Rattle.std.proofs.lemmas.Bool.{true≢false, false≢true}
-use Rattle.mime.specs.Bytes.{is_token_byte}
-use Rattle.mime.specs.Values.{IsAccepted, IsRejected}
-use Rattle.mime.specs.Faults.{IsViable}
-use Rattle.mime.specs.Cut.{is_following_byte, BeginsCharacter, IsCharacter, IsSplit, CutItem, good, bad, ItemsOf, is_read, is_rejected, is_empty, Cut, whole, unfinished, goes_on, Pieces, last, next, steps_of, TakesSteps}
-use Rattle.mime.specs.CutLaws.{IsItem, text_of_pieces, items_of_rest, joined, IsRead, kept_item}
-use Rattle.mime.proofs.GrammarLemmas.Begun.{in_type}
-use Rattle.mime.proofs.CutLemmas.Cuts.{empty-rejected, split-not_viable, split-from_dead, split_unique, items_of_unique, cut_unique, takes_unique}
-use Rattle.mime.proofs.ValueLemmas.KeptText.{kept_is_read}
-use Rattle.mime.proofs.GrammarLemmas.Readings.{rejected-from_walk}
+use Rattle.mime.specs.{Bytes.is_token_byte, Values.IsAccepted, Values.IsRejected, Faults.IsViable, Cut.is_following_byte, Cut.BeginsCharacter, Cut.IsCharacter, Cut.IsSplit, Cut.CutItem, Cut.good, Cut.bad, Cut.ItemsOf, Cut.is_read, Cut.is_rejected, Cut.is_empty, Cut.Cut, Cut.whole, Cut.unfinished, Cut.goes_on, Cut.Pieces, Cut.last, Cut.next, Cut.steps_of, Cut.TakesSteps, CutLaws.IsItem, CutLaws.text_of_pieces, CutLaws.items_of_rest, CutLaws.joined, CutLaws.IsRead, CutLaws.kept_item}
+use Rattle.mime.proofs.{GrammarLemmas.Begun.in_type, CutLemmas.Cuts.empty-rejected, CutLemmas.Cuts.split-not_viable, CutLemmas.Cuts.split-from_dead, CutLemmas.Cuts.split_unique, CutLemmas.Cuts.items_of_unique, CutLemmas.Cuts.cut_unique, CutLemmas.Cuts.takes_unique, ValueLemmas.KeptText.kept_is_read, GrammarLemmas.Readings.rejected-from_walk, GrammarLemmas.Viability.viable-from_walk, GrammarLemmas.Viability.accepted_is_viable}
 use Rattle.mime_facts.proofs.ValueFacts.{differ, plain_value, reads_capitals, keeps_no_capitals}
-use Rattle.mime.proofs.GrammarLemmas.Viability.{viable-from_walk, accepted_is_viable}
 
 -- ---- characters
 
@@ -55,7 +47,8 @@ unfolding is_token_byte
 e_is_viable = viable-from_walk (codes "e") (in_type (codes "e")) refl
 
 -- a good piece is read as its value, and a bad one is viable, rejected and not empty
-items_of_cuts : IsItem (good (codes "A/B") plain_value) × IsItem (bad (codes "e")) × ¬ (IsItem (bad (codes "A/B"))) × ¬ (IsItem (bad []))
+items_of_cuts : IsItem (good (codes "A/B") plain_value) × IsItem (bad (codes "e")) × ¬ (IsItem (bad (codes "A/B")))
+    × ¬ (IsItem (bad []))
 items_of_cuts = (
   reads_capitals,
   (e_is_viable, e_is_rejected, differ (codes "e") [] refl),
@@ -77,6 +70,7 @@ no_item_of_empty piece items (is_read value reads) none = absurd (empty-rejected
 no_item_of_empty piece items (is_rejected is some) none = absurd (some none)
 no_item_of_empty piece items (is_empty is) none = refl
 
+-- A piece that isn't empty has an item.
 not_without_item : ¬ (ItemsOf (codes "e") [])
 not_without_item items = absurd (cc (items_of_unique _ _ _ items item_of_e))
 
@@ -84,6 +78,7 @@ not_without_item items = absurd (cc (items_of_unique _ _ _ items item_of_e))
 abbrev pub list_items : List CutItem
 list_items = bad (codes "e") ∷ good (codes "A/B") plain_value ∷ []
 
+-- The cut of `e,A/B` has a bad piece and a value, and no rest.
 pub cut_of_list : Cut (codes "e,A/B") list_items []
 cut_of_list =
     goes_on _ _ _ _ (bad (codes "e") ∷ []) _ _ split_at_comma item_of_e (whole (codes "A/B") plain_value reads_capitals)
@@ -92,6 +87,7 @@ cut_of_list =
 pub no_item_left_out : ¬ (Cut (codes "e,A/B") (good (codes "A/B") plain_value ∷ []) [])
 no_item_left_out cut = absurd (cc (cut_unique _ _ _ cut_of_list _ _ cut).0)
 
+-- The value isn't left out of the cut.
 nothing_left : ¬ (Cut (codes "e,A/B") (bad (codes "e") ∷ []) (codes "A/B"))
 nothing_left cut = absurd (omega (arith, ap length (cut_unique _ _ _ cut_of_list _ _ cut).1))
 
@@ -99,11 +95,13 @@ nothing_left cut = absurd (omega (arith, ap length (cut_unique _ _ _ cut_of_list
 pub rest_of_text : Cut (codes "e") [] (codes "e")
 rest_of_text = unfinished (codes "e") e_is_viable e_is_rejected
 
+-- A text that may still become a media type has no item.
 no_item_yet : ¬ (Cut (codes "e") (bad (codes "e") ∷ []) [])
 no_item_yet cut = absurd (omega (arith, ap length (cut_unique _ _ _ rest_of_text _ _ cut).0))
 
 -- an accepted text is no rest
-no_accepted_rest : (text : List ℕ) (items : List CutItem) (rest : List ℕ) → Cut text items rest → IsAccepted text → items ≡ [] → ⊥
+no_accepted_rest : (text : List ℕ) (items : List CutItem) (rest : List ℕ) → Cut text items rest → IsAccepted text
+    → items ≡ [] → ⊥
 no_accepted_rest text items rest (whole t value reads) accepted none = absurd cc
 no_accepted_rest text items rest (unfinished t viable is) accepted none = is accepted
 no_accepted_rest text items rest (goes_on t p c l first others r split of_piece cut) accepted none =
@@ -115,6 +113,7 @@ no_accepted_rest text items rest (goes_on t p c l first others r split of_piece 
 pub pieces_of_list : Pieces (codes "e,A/B") ((codes "e", codes ",") ∷ []) (codes "A/B")
 pieces_of_list = next _ _ _ _ [] (codes "A/B") split_at_comma (last (codes "A/B") (accepted_is_viable _ (plain_value, reads_capitals)))
 
+-- The pieces of `e,A/B` write the text, in five steps.
 written_pieces :
     (text_of_pieces ((codes "e", codes ",") ∷ []) (codes "A/B") ≡ codes "e,A/B")
     × (steps_of ((codes "e", codes ",") ∷ []) (codes "A/B") ≡ 5)
@@ -124,6 +123,7 @@ written_pieces = (refl, refl)
 pub steps_of_list : TakesSteps (codes "e,A/B") 5
 steps_of_list = record { pieces = (codes "e", codes ",") ∷ []; end = codes "A/B"; cut = pieces_of_list; counted = refl }
 
+-- `e,A/B` is cut in no other number of steps.
 pub no_other_steps : (n : ℕ) → TakesSteps (codes "e,A/B") n → n ≡ 5
 no_other_steps n takes = takes_unique _ n 5 takes steps_of_list
 
@@ -148,5 +148,6 @@ joined_values = (refl, refl, refl)
 pub read_value : IsRead plain_value
 read_value = (codes "A/B", reads_capitals)
 
+-- A value whose kept text has capitals wasn't read.
 unread_value : ¬ (IsRead (record plain_value { kept = codes "A/B" }))
 unread_value (text, reads) = keeps_no_capitals (kept_is_read text _ reads)

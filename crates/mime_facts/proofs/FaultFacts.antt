@@ -1,17 +1,9 @@
 -- Texts for which each definition of a fault is true, and others for which it is false.
 use Rattle.std.proofs.Common.{◌≡◌, ℕ, List, [], ◌∷◌, ◌++◌, length, get_or, Some, None, refl, sym, ap, ◌∙◌, arith, length-append, codes}
-use Rattle.std.proofs.Math.Seq.{get_or-append_seam}
-use Rattle.std.proofs.lemmas.Option.{same_Some}
-use Rattle.mime.specs.Bytes.{is_token_byte}
-use Rattle.mime.specs.Values.{MediaType, Reads}
-use Rattle.mime.specs.Faults.{IsViable, IsLongestPrefix, completion_of, last_byte_of, EndsIn, Lacks, IsUnclosed, IsDeadAt, IsFault, Explains}
-use Rattle.mime.specs.declared.scan.fault.ParseError.{ParseError}
-use Rattle.mime.specs.declared.scan.fault.ParseError.TheVariants.{MissingSlash, MissingSubtype, MissingEqual, MissingValue, MissingQuote, InvalidToken, NoMemory}
-use Rattle.mime.proofs.GrammarLemmas.Faults.{one_fault, completed_is_rejected, fault-from_lacks}
-use Rattle.mime.proofs.GrammarLemmas.Readings.{one_reading, stopped-from_walk}
-use Rattle.mime_facts.proofs.StandardFacts.{slash_fault-from_walk, no_slash, no_subtype, no_equals, no_value, no_quote, space_in_type}
-use Rattle.mime_facts.proofs.ValueFacts.{plain_value, reads_capitals, text_of_41, text_of_40, value_of_40, reads_41, reads_40, reads_dropped}
-use Rattle.mime.proofs.GrammarLemmas.Viability.{accepted_is_viable, not_viable-at_dead, prefix_unique, viable-from_lacks}
+use Rattle.std.proofs.{Math.Seq.get_or-append_seam, lemmas.Option.same_Some}
+use Rattle.mime.specs.{Bytes.is_token_byte, Values.MediaType, Values.Reads, Faults.IsViable, Faults.IsLongestPrefix, Faults.completion_of, Faults.last_byte_of, Faults.EndsIn, Faults.Lacks, Faults.IsUnclosed, Faults.IsDeadAt, Faults.IsFault, Faults.Explains, declared.scan.fault.ParseError.ParseError, declared.scan.fault.ParseError.TheVariants.MissingSlash, declared.scan.fault.ParseError.TheVariants.MissingSubtype, declared.scan.fault.ParseError.TheVariants.MissingEqual, declared.scan.fault.ParseError.TheVariants.MissingValue, declared.scan.fault.ParseError.TheVariants.MissingQuote, declared.scan.fault.ParseError.TheVariants.InvalidToken, declared.scan.fault.ParseError.TheVariants.NoMemory}
+use Rattle.mime.proofs.{GrammarLemmas.Faults.one_fault, GrammarLemmas.Faults.completed_is_rejected, GrammarLemmas.Faults.fault-from_lacks, GrammarLemmas.Readings.one_reading, GrammarLemmas.Readings.stopped-from_walk, GrammarLemmas.Viability.accepted_is_viable, GrammarLemmas.Viability.not_viable-at_dead, GrammarLemmas.Viability.prefix_unique, GrammarLemmas.Viability.viable-from_lacks}
+use Rattle.mime_facts.proofs.{StandardFacts.slash_fault-from_walk, StandardFacts.no_slash, StandardFacts.no_subtype, StandardFacts.no_equals, StandardFacts.no_value, StandardFacts.no_quote, StandardFacts.space_in_type, ValueFacts.plain_value, ValueFacts.reads_capitals, ValueFacts.text_of_41, ValueFacts.text_of_40, ValueFacts.value_of_40, ValueFacts.reads_41, ValueFacts.reads_40, ValueFacts.reads_dropped}
 
 -- what lacks something is viable, and what has a byte at fault isn't
 viable_texts : IsViable (codes "A/B") × IsViable (codes "a/b;p") × ¬ (IsViable (codes "a b"))
@@ -47,10 +39,12 @@ completions = (refl, refl, refl, refl, refl, refl, refl, refl, refl, refl)
 ends_in_slash : EndsIn (codes "a/") 47
 ends_in_slash = (codes "a", refl)
 
+-- A text doesn't end in its first byte.
 ends_in_no_letter : ¬ (EndsIn (codes "a/") 97)
 ends_in_no_letter (prefix, is) =
     let size : length prefix ≡ 1 = omega (arith, ap length is, length-append prefix (97 ∷ [])) in
-    let at : get_or (codes "a/") (length prefix) 0 ≡ 97 = ap (λ t. get_or t (length prefix) 0) is ∙ get_or-append_seam prefix 97 [] 0 in
+    let at : get_or (codes "a/") (length prefix) 0 ≡ 97 =
+    ap (λ t. get_or t (length prefix) 0) is ∙ get_or-append_seam prefix 97 [] 0 in
     absurd (omega (arith, sym (ap (λ n. get_or (codes "a/") n 0) size) ∙ at))
 
 -- a text that lacks something lacks nothing else

@@ -2,8 +2,7 @@
 use Rattle.std.proofs.Common.{◌≡◌, true, false, [], ◌∷◌, map, refl, codes}
 use Rattle.std.proofs.lemmas.Bool.{true≢false, false≢true}
 use Rattle.std.specs.List.{list_all, list_any}
-use Rattle.mime.specs.Bytes.{is_token_byte, is_quoted_byte, is_quoted_text_byte, slash_byte, plus_byte, semicolon_byte, equals_byte, quote_byte, backslash_byte, space_byte, tab_byte, comma_byte}
-use Rattle.mime.specs.Grammar.{plain, quoted, Parameters, blank, final, more, no_list, listed, is_space, AreSpaces, text_of_parameter, text_of_list, text_of_tail, text_of, AreTokenBytes, IsToken, IsContent, IsParameter, AreParameters, IsTail, IsWellFormed}
+use Rattle.mime.specs.{Bytes.is_token_byte, Bytes.is_quoted_byte, Bytes.is_quoted_text_byte, Bytes.slash_byte, Bytes.plus_byte, Bytes.semicolon_byte, Bytes.equals_byte, Bytes.quote_byte, Bytes.backslash_byte, Bytes.space_byte, Bytes.tab_byte, Bytes.comma_byte, Grammar.plain, Grammar.quoted, Grammar.Parameters, Grammar.blank, Grammar.final, Grammar.more, Grammar.no_list, Grammar.listed, Grammar.is_space, Grammar.AreSpaces, Grammar.text_of_parameter, Grammar.text_of_list, Grammar.text_of_tail, Grammar.text_of, Grammar.AreTokenBytes, Grammar.IsToken, Grammar.IsContent, Grammar.IsParameter, Grammar.AreParameters, Grammar.IsTail, Grammar.IsWellFormed}
 use Rattle.mime.proofs.GrammarLemmas.Content.{IsContent-taken, content-taken, content-closed}
 
 -- ---- bytes
@@ -31,7 +30,8 @@ quoted_text_bytes = (refl, refl)
 
 -- the bytes with a role of their own
 flags :
-    slash_byte ∷ plus_byte ∷ semicolon_byte ∷ equals_byte ∷ quote_byte ∷ backslash_byte ∷ space_byte ∷ tab_byte ∷ comma_byte ∷ []
+    slash_byte ∷ plus_byte ∷ semicolon_byte ∷ equals_byte ∷ quote_byte ∷ backslash_byte ∷ space_byte ∷ tab_byte
+    ∷ comma_byte ∷ []
     ≡ codes "/+;=\"\\ \t,"
 flags = refl
 

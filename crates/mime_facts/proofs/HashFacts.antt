@@ -1,25 +1,17 @@
 -- What values feed a hasher, by computation; texts that a prefix-free input keeps from others, and an input that isn't prefix-free.
 use Rattle.std.proofs.Common.{◌≡◌, ◌≢◌, ℕ, false, List, [], ◌∷◌, ◌++◌, None, refl, ap, codes}
 use Rattle.std.proofs.lemmas.Bool.{false≢true}
-use Rattle.std.specs.Char.{encode_utf8}
-use Rattle.std.specs.Hash.{HashWrites}
-use Rattle.std.specs.List.{concat}
-use Rattle.mime.specs.Bytes.{is_token_byte}
-use Rattle.mime.specs.Grammar.{no_list}
-use Rattle.mime.specs.Values.{MediaType, OwnedMedia, Reads}
-use Rattle.mime.specs.Inner.HashInput.{media_input}
-use Rattle.mime.specs.HashLaws.{IsReadInUtf8, RespectsEquality, IsPrefixFree}
-use Rattle.mime.proofs.ValueLemmas.Hash.{fed-read}
-use Rattle.mime.proofs.ValueLemmas.KeptText.{kept_is_read}
-use Rattle.mime_facts.proofs.ComparisonFacts.{quoted_x, plain_x, plain_y}
-use Rattle.mime_facts.proofs.StandardFacts.{media, reads}
-use Rattle.mime_facts.proofs.ValueFacts.{differ, plain_value, reads_capitals, keeps_no_capitals}
+use Rattle.std.specs.{Char.encode_utf8, Hash.HashWrites, List.concat}
+use Rattle.mime.specs.{Bytes.is_token_byte, Grammar.no_list, Values.MediaType, Values.OwnedMedia, Values.Reads, Inner.HashInput.media_input, HashLaws.IsReadInUtf8, HashLaws.RespectsEquality, HashLaws.IsPrefixFree}
+use Rattle.mime.proofs.{ValueLemmas.Hash.fed-read, ValueLemmas.KeptText.kept_is_read}
+use Rattle.mime_facts.proofs.{ComparisonFacts.quoted_x, ComparisonFacts.plain_x, ComparisonFacts.plain_y, StandardFacts.media, StandardFacts.reads, ValueFacts.differ, ValueFacts.plain_value, ValueFacts.reads_capitals, ValueFacts.keeps_no_capitals}
 use Rattle.std.specs.Hash as fed
 
 -- the value of `a/bx`
 abbrev longer_value : MediaType
 longer_value = media (codes "a/bx") 1 None [] (codes "a/bx")
 
+-- `a/bx` is read as this value.
 reads_longer : Reads (codes "a/bx") longer_value
 unfolding is_token_byte
 reads_longer = reads (codes "a") (codes "bx") no_list (refl, refl, tt)
@@ -44,10 +36,12 @@ fed_with_text = (
 
 -- ---- values that were read from valid UTF-8
 
+-- The value of `A/B` was read from valid UTF-8.
 read_plain : IsReadInUtf8 plain_value
 unfolding encode_utf8
 read_plain = (codes "A/B", (codes "A/B", (refl, refl)), reads_capitals)
 
+-- The value of `a/bx` was read from valid UTF-8.
 read_longer : IsReadInUtf8 longer_value
 unfolding encode_utf8
 read_longer = (codes "a/bx", (codes "a/bx", (refl, refl)), reads_longer)

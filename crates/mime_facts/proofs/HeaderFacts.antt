@@ -3,24 +3,13 @@
 use Rattle.std.proofs.Common.{◌≡◌, ℕ, Bool, true, false, ◌⊎◌, inl, inr, List, [], ◌∷◌, ◌++◌, map, Option, Some, None, refl, sym, codes}
 use Rattle.std.proofs.lemmas.Bool.{false≢true}
 use Rattle.std.specs.List.{list_any}
-use Rattle.mime.specs.Bytes.{is_token_byte, is_quoted_byte}
-use Rattle.mime.specs.Grammar.{IsContent}
-use Rattle.mime.specs.Values.{MediaType, Reads, IsAccepted, IsRejected, type_of, subtype_of}
-use Rattle.mime.specs.Items.{IsFirstAccepted}
-use Rattle.mime.specs.Laws.{AcceptedOrRejected, suffix_text, EssenceIsParts, HaveSameParts, SameEssence, IsDecided, HasAnswer}
-use Rattle.mime.specs.HeaderLaws.{AreHeaderBytes, IsSafePair, IsSafe, KeptIsSafe, text_with_parameter, with_parameter, ParameterIsRead}
-use Rattle.mime.specs.Cut.{good, Cut, whole}
-use Rattle.mime.specs.CutLaws.{is_separator, IsHttpList, no_element, separated, one_element, more_elements, HttpListIsCut}
-use Rattle.mime.proofs.CutLemmas.Containment.{http_list_is_cut}
-use Rattle.mime.proofs.CutLemmas.Cuts.{cut_unique}
-use Rattle.mime.proofs.GrammarLemmas.Content.{IsContent-taken, content-taken}
-use Rattle.mime_facts.proofs.ComparisonFacts.{quoted_x, reads_quoted}
-use Rattle.mime_facts.proofs.CutFacts.{no_item_left_out}
-use Rattle.mime_facts.proofs.StandardFacts.{media, plus_twice}
-use Rattle.mime_facts.proofs.ValueFacts.{differ, plain_value, reads_capitals, exact_item}
+use Rattle.mime.specs.{Bytes.is_token_byte, Bytes.is_quoted_byte, Grammar.IsContent, Values.MediaType, Values.Reads, Values.IsAccepted, Values.IsRejected, Values.type_of, Values.subtype_of, Items.IsFirstAccepted, Laws.AcceptedOrRejected, Laws.suffix_text, Laws.EssenceIsParts, Laws.HaveSameParts, Laws.SameEssence, Laws.IsDecided, Laws.HasAnswer, HeaderLaws.AreHeaderBytes, HeaderLaws.IsSafePair, HeaderLaws.IsSafe, HeaderLaws.KeptIsSafe, HeaderLaws.text_with_parameter, HeaderLaws.with_parameter, HeaderLaws.ParameterIsRead, Cut.good, Cut.Cut, Cut.whole, CutLaws.is_separator, CutLaws.IsHttpList, CutLaws.no_element, CutLaws.separated, CutLaws.one_element, CutLaws.more_elements, CutLaws.HttpListIsCut}
+use Rattle.mime.proofs.{CutLemmas.Containment.http_list_is_cut, CutLemmas.Cuts.cut_unique, GrammarLemmas.Content.IsContent-taken, GrammarLemmas.Content.content-taken}
+use Rattle.mime_facts.proofs.{ComparisonFacts.quoted_x, ComparisonFacts.reads_quoted, CutFacts.no_item_left_out, StandardFacts.media, StandardFacts.plus_twice, ValueFacts.differ, ValueFacts.plain_value, ValueFacts.reads_capitals, ValueFacts.exact_item}
 
 -- ---- accepted and rejected
 
+-- A text that isn't accepted is rejected.
 rejected_text : AcceptedOrRejected → ¬ (IsAccepted (codes "e")) → IsRejected (codes "e")
 rejected_text law no_value = by (law (codes "e"))
   where
@@ -38,6 +27,7 @@ suffix_texts = (refl, refl)
 abbrev two_pluses : MediaType
 two_pluses = media (codes "a/b+c+d") 1 (Some 5) [] (codes "a/b+c+d")
 
+-- The essence of `a/b+c+d` is its parts.
 essence_of_parts : EssenceIsParts → codes "a/b+c+d" ≡ type_of two_pluses ++ (codes "/" ++ (subtype_of two_pluses ++ codes "+d"))
 essence_of_parts law = law _ two_pluses plus_twice
 
@@ -54,8 +44,10 @@ same_parts = (
   λ is. absurd (cc is.2),
 )
 
+-- Values have the same parts exactly if their essences are the same.
 essence_of_both : SameEssence → (text : List ℕ) (value : MediaType) → Reads text value
-    → (HaveSameParts plain_value value → value.essence ≡ codes "a/b") × (codes "a/b" ≡ value.essence → HaveSameParts plain_value value)
+    → (HaveSameParts plain_value value → value.essence ≡ codes "a/b") × (codes "a/b" ≡ value.essence
+    → HaveSameParts plain_value value)
 essence_of_both law text value reads =
     let is = law (codes "A/B") text plain_value value reads_capitals reads in (λ same. sym (is.1 same), is.0)
 
@@ -138,5 +130,7 @@ no_such_list = (
   λ list. no_item_left_out (http_list_is_cut _ _ list),
 )
 
-cut_of_elements : HttpListIsCut → Cut (codes " ,A/B,\t,A/B,") (good (codes "A/B") plain_value ∷ good (codes "A/B") plain_value ∷ []) []
+-- The list's cut has its two elements.
+cut_of_elements : HttpListIsCut
+    → Cut (codes " ,A/B,\t,A/B,") (good (codes "A/B") plain_value ∷ good (codes "A/B") plain_value ∷ []) []
 cut_of_elements law = law _ _ two_elements

@@ -1,19 +1,9 @@
 -- Calls of `next` for which each definition of a run is true, and others for which it is false: over `e`, `e,A/B`, `*/*` and long ones.
 use Rattle.std.proofs.Common.{◌≡◌, ℕ, true, false, List, [], ◌∷◌, ◌++◌, length, Some, None, Result, Ok, Err, refl, sym, ap, subst, arith, codes, Bor}
-use Rattle.std.proofs.lemmas.Bool.{true≢false}
-use Rattle.std.proofs.lemmas.Option.{none-some}
-use Rattle.mime.specs.Bytes.{is_token_byte}
-use Rattle.mime.specs.Grammar.{no_list}
-use Rattle.mime.specs.Values.{MediaType, OwnedMedia, Reads}
-use Rattle.mime.specs.Cut.{CutItem, good, bad, Cut, whole, goes_on}
-use Rattle.mime.specs.Runs.{Iteration, HasEnded, IsFirstItem, FirstNeedsMemory, HasNoItem, GivesItem, IsNext}
-use Rattle.mime.specs.CutLaws.{AreGiven, none_left, a_value, a_piece, no_memory}
-use Rattle.mime.specs.declared.iter.Bad.{Bad}
-use Rattle.mime.specs.declared.iter.Bad.TheVariants.{Piece, NoMemory}
-use Rattle.mime_facts.proofs.CutFacts.{split_at_comma, e_is_viable, item_of_e, cut_of_list, rest_of_text, no_item_left_out}
+use Rattle.std.proofs.{lemmas.Bool.true≢false, lemmas.Option.none-some}
+use Rattle.mime.specs.{Bytes.is_token_byte, Grammar.no_list, Values.MediaType, Values.OwnedMedia, Values.Reads, Cut.CutItem, Cut.good, Cut.bad, Cut.Cut, Cut.whole, Cut.goes_on, Runs.Iteration, Runs.HasEnded, Runs.IsFirstItem, Runs.FirstNeedsMemory, Runs.HasNoItem, Runs.GivesItem, Runs.IsNext, CutLaws.AreGiven, CutLaws.none_left, CutLaws.a_value, CutLaws.a_piece, CutLaws.no_memory, declared.iter.Bad.Bad, declared.iter.Bad.TheVariants.Piece, declared.iter.Bad.TheVariants.NoMemory}
+use Rattle.mime_facts.proofs.{CutFacts.split_at_comma, CutFacts.e_is_viable, CutFacts.item_of_e, CutFacts.cut_of_list, CutFacts.rest_of_text, CutFacts.no_item_left_out, StandardFacts.media, StandardFacts.reads, ValueFacts.differ, ValueFacts.plain_value, ValueFacts.text_of_41, ValueFacts.text_of_40, ValueFacts.value_of_40, ValueFacts.reads_41, ValueFacts.reads_40, ValueFacts.reads_dropped}
 use Rattle.mime.proofs.CutLemmas.Cuts.{cut_unique, takes_unique, takes-viable, empty-cut}
-use Rattle.mime_facts.proofs.StandardFacts.{media, reads}
-use Rattle.mime_facts.proofs.ValueFacts.{differ, plain_value, text_of_41, text_of_40, value_of_40, reads_41, reads_40, reads_dropped}
 
 -- an iterator over a text, at its start and at its end
 abbrev begun : List ℕ → Iteration
@@ -30,18 +20,21 @@ memory_ran_out i = record i { out_of_memory = true }
 abbrev star_value : MediaType
 star_value = media (codes "*/*") 1 None [] (codes "*/*")
 
+-- `*/*` is read as this value.
 reads_star : Reads (codes "*/*") star_value
 unfolding is_token_byte
 reads_star = reads (codes "*") (codes "*") no_list (refl, refl, tt)
 
 -- The first item of an accepted text's cut is the text, with its value.
-only_item : (text : List ℕ) (value : MediaType) → Reads text value → (piece : List ℕ) (other : MediaType) (items : List CutItem) (rest : List ℕ)
+only_item : (text : List ℕ) (value : MediaType) → Reads text value
+    → (piece : List ℕ) (other : MediaType) (items : List CutItem) (rest : List ℕ)
     → Cut text (good piece other ∷ items) rest → (piece ≡ text) × (other ≡ value)
 only_item text value reads piece other items rest cut =
     let is = (cut_unique _ _ _ (whole text value reads) _ _ cut).0 in (cc is, cc is)
 
 -- ---- what is left
 
+-- A run has ended, or has something left.
 ends : HasEnded (ended_run (codes "e") 1) × ¬ (HasEnded (begun (codes "e")))
 ends = (refl, differ (codes "e") [] refl)
 
@@ -99,9 +92,12 @@ no_memory_is_told given = true≢false (sym given.2)
 none_keeps_memory : ¬ (GivesItem (begun (codes "e")) None (memory_ran_out (ended_run (codes "e") 1)))
 none_keeps_memory given = true≢false given.2
 
-value_keeps_memory : (mime : OwnedMedia) → ¬ (GivesItem (begun (codes "A/B")) (Some (Ok mime)) (memory_ran_out (ended_run (codes "A/B") 3)))
+-- A media type doesn't say that memory ran out.
+value_keeps_memory : (mime : OwnedMedia)
+    → ¬ (GivesItem (begun (codes "A/B")) (Some (Ok mime)) (memory_ran_out (ended_run (codes "A/B") 3)))
 value_keeps_memory mime (piece, first, star, same) = true≢false same
 
+-- A bad piece doesn't say that memory ran out.
 piece_keeps_memory : (piece : Bor (List ℕ))
     → ¬ (GivesItem (begun (codes "e,A/B")) (Some (Err (Piece piece))) (memory_ran_out (begun (codes "A/B"))))
 piece_keeps_memory piece given = true≢false given.1
@@ -110,6 +106,7 @@ piece_keeps_memory piece given = true≢false given.1
 none_ends : ¬ (GivesItem (begun (codes "e")) None (begun (codes "e")))
 none_ends given = differ (codes "e") [] refl given.1
 
+-- After want of memory nothing is left.
 no_memory_ends : ¬ (GivesItem (begun (codes "A/B")) (Some (Err NoMemory)) (memory_ran_out (begun (codes "A/B"))))
 no_memory_ends given = differ (codes "A/B") [] refl given.1
 
@@ -133,7 +130,8 @@ steps_dont_fall : ¬ (IsNext (record (begun (codes "e")) { steps = 2 }) None (en
 steps_dont_fall next = absurd (omega (arith, next.more))
 
 -- no more steps than bytes, even if memory ran out
-steps_are_few : ¬ (IsNext (record (begun (codes "a/")) { out_of_memory = true }) None (record (ended_run (codes "a/") 3) { out_of_memory = true }))
+steps_are_few : ¬ (IsNext (record (begun (codes "a/")) { out_of_memory = true }) None
+    (record (ended_run (codes "a/") 3) { out_of_memory = true }))
 steps_are_few next = absurd (omega (arith, next.few))
 
 -- at the end the steps are those of the text's cut

@@ -1,17 +1,7 @@
 -- Texts with what they are read as or why they are rejected, by computation: a wrong rule does not check.
 use Rattle.std.proofs.Common.{◌≡◌, ℕ, List, [], ◌∷◌, ◌++◌, Option, Some, None, refl, codes, arith, lit<}
-use Rattle.mime.specs.Bytes.{is_token_byte, is_quoted_byte}
-use Rattle.mime.specs.Grammar.{no_byte, plain, quoted, blank, final, more, Tail, no_list, listed, SyntaxTree, text_of, IsWellFormed}
-use Rattle.mime.specs.Values.{MediaType, value_of, Reads}
-use Rattle.mime.specs.Difference.{DifferInValue}
-use Rattle.mime.specs.Faults.{IsFault}
-use Rattle.mime.specs.declared.atoms.Atom.TheVariants.{TEXT_JAVASCRIPT}
-use Rattle.mime.specs.declared.atoms.TheConstants.{TEXT_JAVSCRIPT}
-use Rattle.mime.specs.declared.scan.fault.ParseError.TheVariants.{MissingSlash, MissingSubtype, MissingEqual, MissingValue, MissingQuote, InvalidToken}
-use Rattle.mime.proofs.GrammarLemmas.Begun.{Closed, in_type, in_subtype, in_list, in_name, in_value, list_at, walk}
-use Rattle.mime.proofs.CompareLemmas.FirstDifference.{different_values}
-use Rattle.mime.proofs.GrammarLemmas.Content.{IsContent-taken}
-use Rattle.mime.proofs.GrammarLemmas.Viability.{lacks-from_walk, dead-from_walk}
+use Rattle.mime.specs.{Bytes.is_token_byte, Bytes.is_quoted_byte, Grammar.no_byte, Grammar.plain, Grammar.quoted, Grammar.blank, Grammar.final, Grammar.more, Grammar.Tail, Grammar.no_list, Grammar.listed, Grammar.SyntaxTree, Grammar.text_of, Grammar.IsWellFormed, Values.MediaType, Values.value_of, Values.Reads, Difference.DifferInValue, Faults.IsFault, declared.atoms.Atom.TheVariants.TEXT_JAVASCRIPT, declared.atoms.TheConstants.TEXT_JAVSCRIPT, declared.scan.fault.ParseError.TheVariants.MissingSlash, declared.scan.fault.ParseError.TheVariants.MissingSubtype, declared.scan.fault.ParseError.TheVariants.MissingEqual, declared.scan.fault.ParseError.TheVariants.MissingValue, declared.scan.fault.ParseError.TheVariants.MissingQuote, declared.scan.fault.ParseError.TheVariants.InvalidToken}
+use Rattle.mime.proofs.{GrammarLemmas.Begun.Closed, GrammarLemmas.Begun.in_type, GrammarLemmas.Begun.in_subtype, GrammarLemmas.Begun.in_list, GrammarLemmas.Begun.in_name, GrammarLemmas.Begun.in_value, GrammarLemmas.Begun.list_at, GrammarLemmas.Begun.walk, CompareLemmas.FirstDifference.different_values, GrammarLemmas.Content.IsContent-taken, GrammarLemmas.Viability.lacks-from_walk, GrammarLemmas.Viability.dead-from_walk}
 
 -- ---- accepted texts
 
@@ -174,6 +164,7 @@ slash_in_quotes : IsFault (codes "a/b;p=\"x/") MissingQuote
 unfolding is_token_byte is_quoted_byte
 slash_in_quotes = lacks-from_walk (codes "a/b;p=\"x/") _ refl refl
 
+-- In an open quoted value an equals sign is content.
 equals_in_quotes : IsFault (codes "a/b;p=\"=") MissingQuote
 unfolding is_token_byte is_quoted_byte
 equals_in_quotes = lacks-from_walk (codes "a/b;p=\"=") _ refl refl

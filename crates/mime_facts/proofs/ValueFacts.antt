@@ -1,21 +1,9 @@
 -- Texts and values for which each definition of a value, its parts, its items and its names is true, and others for which it is
 -- false, by computation.
 use Rattle.std.proofs.Common.{◌≡◌, ◌≢◌, ℕ, Bool, true, false, List, [], ◌∷◌, ◌++◌, map, Some, None, refl, sym, ap, ◌∙◌, codes}
-use Rattle.std.proofs.lemmas.Bool.{true≢false}
-use Rattle.std.proofs.lemmas.Option.{none-some, same_Some}
-use Rattle.std.proofs.lemmas.Slice.Eq.{bytes_eq-Decides}
-use Rattle.std.specs.Fmt.{digits}
-use Rattle.std.specs.Str.{bytes_eq}
-use Rattle.mime.specs.Bytes.{is_token_byte}
-use Rattle.mime.specs.Grammar.{plain, quoted, blank, final, more, no_list, listed, SyntaxTree}
-use Rattle.mime.specs.Values.{MediaType, lowered, is_charset, lowered_value, lowered_parameter, lowered_list, lowered_tail, lowered_tree, pair_of, pairs_of_list, pairs_of_tail, last_plus, essence_of, kept_text, Reads, IsAccepted, IsRejected, type_of, subtype_of, suffix_of}
-use Rattle.mime.specs.Items.{Item, item_of, items_of, IsLowIf, IsLowItem, IsFirstAccepted, item_seen, name_seen, name_text}
-use Rattle.mime.specs.Names.{NameIs, name_table}
-use Rattle.mime.specs.Atoms.{atom_text}
-use Rattle.mime.specs.Printed.{token_text, fault_text, error_text}
-use Rattle.mime.specs.declared.atoms.Atom.TheVariants.{STAR_STAR, TEXT_STAR, TEXT_PLAIN, TEXT_PLAIN_UTF_8, TEXT_HTML, TEXT_HTML_UTF_8, TEXT_CSS, TEXT_CSS_UTF_8, TEXT_JAVASCRIPT, TEXT_XML, TEXT_EVENT_STREAM, TEXT_CSV, TEXT_CSV_UTF_8, TEXT_TAB_SEPARATED_VALUES, TEXT_TAB_SEPARATED_VALUES_UTF_8, TEXT_VCARD, IMAGE_STAR, IMAGE_JPEG, IMAGE_GIF, IMAGE_PNG, IMAGE_BMP, IMAGE_SVG, FONT_WOFF, FONT_WOFF2, APPLICATION_JSON, APPLICATION_JAVASCRIPT, APPLICATION_JAVASCRIPT_UTF_8, APPLICATION_WWW_FORM_URLENCODED, APPLICATION_OCTET_STREAM, APPLICATION_MSGPACK, APPLICATION_PDF, MULTIPART_FORM_DATA}
-use Rattle.mime.specs.declared.name.Name.{Name}
-use Rattle.mime.specs.declared.scan.fault.ParseError.TheVariants.{MissingSlash, MissingSubtype, MissingEqual, MissingValue, MissingQuote, InvalidToken, NoMemory}
+use Rattle.std.proofs.{lemmas.Bool.true≢false, lemmas.Option.none-some, lemmas.Option.same_Some, lemmas.Slice.Eq.bytes_eq-Decides}
+use Rattle.std.specs.{Fmt.digits, Str.bytes_eq}
+use Rattle.mime.specs.{Bytes.is_token_byte, Grammar.plain, Grammar.quoted, Grammar.blank, Grammar.final, Grammar.more, Grammar.no_list, Grammar.listed, Grammar.SyntaxTree, Values.MediaType, Values.lowered, Values.is_charset, Values.lowered_value, Values.lowered_parameter, Values.lowered_list, Values.lowered_tail, Values.lowered_tree, Values.pair_of, Values.pairs_of_list, Values.pairs_of_tail, Values.last_plus, Values.essence_of, Values.kept_text, Values.Reads, Values.IsAccepted, Values.IsRejected, Values.type_of, Values.subtype_of, Values.suffix_of, Items.Item, Items.item_of, Items.items_of, Items.IsLowIf, Items.IsLowItem, Items.IsFirstAccepted, Items.item_seen, Items.name_seen, Items.name_text, Names.NameIs, Names.name_table, Atoms.atom_text, Printed.token_text, Printed.fault_text, Printed.error_text, declared.atoms.Atom.TheVariants.STAR_STAR, declared.atoms.Atom.TheVariants.TEXT_STAR, declared.atoms.Atom.TheVariants.TEXT_PLAIN, declared.atoms.Atom.TheVariants.TEXT_PLAIN_UTF_8, declared.atoms.Atom.TheVariants.TEXT_HTML, declared.atoms.Atom.TheVariants.TEXT_HTML_UTF_8, declared.atoms.Atom.TheVariants.TEXT_CSS, declared.atoms.Atom.TheVariants.TEXT_CSS_UTF_8, declared.atoms.Atom.TheVariants.TEXT_JAVASCRIPT, declared.atoms.Atom.TheVariants.TEXT_XML, declared.atoms.Atom.TheVariants.TEXT_EVENT_STREAM, declared.atoms.Atom.TheVariants.TEXT_CSV, declared.atoms.Atom.TheVariants.TEXT_CSV_UTF_8, declared.atoms.Atom.TheVariants.TEXT_TAB_SEPARATED_VALUES, declared.atoms.Atom.TheVariants.TEXT_TAB_SEPARATED_VALUES_UTF_8, declared.atoms.Atom.TheVariants.TEXT_VCARD, declared.atoms.Atom.TheVariants.IMAGE_STAR, declared.atoms.Atom.TheVariants.IMAGE_JPEG, declared.atoms.Atom.TheVariants.IMAGE_GIF, declared.atoms.Atom.TheVariants.IMAGE_PNG, declared.atoms.Atom.TheVariants.IMAGE_BMP, declared.atoms.Atom.TheVariants.IMAGE_SVG, declared.atoms.Atom.TheVariants.FONT_WOFF, declared.atoms.Atom.TheVariants.FONT_WOFF2, declared.atoms.Atom.TheVariants.APPLICATION_JSON, declared.atoms.Atom.TheVariants.APPLICATION_JAVASCRIPT, declared.atoms.Atom.TheVariants.APPLICATION_JAVASCRIPT_UTF_8, declared.atoms.Atom.TheVariants.APPLICATION_WWW_FORM_URLENCODED, declared.atoms.Atom.TheVariants.APPLICATION_OCTET_STREAM, declared.atoms.Atom.TheVariants.APPLICATION_MSGPACK, declared.atoms.Atom.TheVariants.APPLICATION_PDF, declared.atoms.Atom.TheVariants.MULTIPART_FORM_DATA, declared.name.Name.Name, declared.scan.fault.ParseError.TheVariants.MissingSlash, declared.scan.fault.ParseError.TheVariants.MissingSubtype, declared.scan.fault.ParseError.TheVariants.MissingEqual, declared.scan.fault.ParseError.TheVariants.MissingValue, declared.scan.fault.ParseError.TheVariants.MissingQuote, declared.scan.fault.ParseError.TheVariants.InvalidToken, declared.scan.fault.ParseError.TheVariants.NoMemory}
 use Rattle.mime.proofs.GrammarLemmas.Readings.{one_reading, stopped-from_walk}
 use Rattle.mime_facts.proofs.StandardFacts.{media, tree_from_parts, reads}
 
@@ -26,7 +14,8 @@ differ first second is same = true≢false (sym ((bytes_eq-Decides first second)
 -- ---- lowercasing
 
 -- only the capitals of ASCII are lowercased
-capitals_lowered : lowered (64 ∷ 65 ∷ 90 ∷ 91 ∷ 97 ∷ 195 ∷ 137 ∷ []) ≡ 64 ∷ 97 ∷ 122 ∷ 91 ∷ 97 ∷ 195 ∷ 137 ∷ []
+capitals_lowered : lowered (64 ∷ 65 ∷ 90 ∷ 91 ∷ 97 ∷ 195 ∷ 137 ∷ []) ≡ 64 ∷ 97 ∷ 122 ∷ 91 ∷ 97 ∷ 195
+    ∷ 137 ∷ []
 capitals_lowered = refl
 
 -- `charset` in any case is the name whose value is lowercased
@@ -37,7 +26,7 @@ charsets :
     × (lowered_value (codes "boundary") (codes "UTF") ≡ codes "UTF")
 charsets = (refl, refl, refl, refl)
 
--- of a parameter, a list and a tail the names are lowercased, and the value of a `charset`; spaces and other values stay
+-- Names are lowercased in a parameter, a list and a tail, and so is the value of a `charset`. Spaces and other values stay.
 names_lowered :
     (lowered_parameter (plain (codes "P") (codes "X")) ≡ plain (codes "p") (codes "X"))
     × (lowered_parameter (quoted (codes "Charset") (codes "\\X") (codes " ")) ≡ quoted (codes "charset") (codes "\\x") (codes " "))
@@ -105,6 +94,7 @@ text_of_41 = codes "application/x-forty-one-bytes-in-all-here"
 abbrev pub text_of_40 : List ℕ
 text_of_40 = codes "application/x-forty-bytes-of-text-in-all"
 
+-- A media type of 41 bytes is read.
 pub reads_41 : Reads text_of_41 (media text_of_41 11 None [] text_of_41)
 unfolding is_token_byte
 reads_41 = reads (codes "application") (codes "x-forty-one-bytes-in-all-here") no_list (refl, refl, tt)
@@ -112,6 +102,7 @@ reads_41 = reads (codes "application") (codes "x-forty-one-bytes-in-all-here") n
 abbrev pub value_of_40 : MediaType
 value_of_40 = media text_of_40 11 None [] text_of_40
 
+-- A media type of 40 bytes is read.
 pub reads_40 : Reads text_of_40 value_of_40
 unfolding is_token_byte
 reads_40 = reads (codes "application") (codes "x-forty-bytes-of-text-in-all") no_list (refl, refl, tt)
@@ -122,7 +113,8 @@ unfolding is_token_byte
 reads_dropped = reads (codes "application") (codes "x-forty-bytes-of-text-in-all") (listed (blank [])) (refl, refl, refl)
 
 -- an accepted text isn't rejected, and a text with a space in its type is
-accepted_and_rejected : IsAccepted (codes "A/B") × ¬ (IsRejected (codes "A/B")) × IsRejected (codes "a b") × ¬ (IsAccepted (codes "a b"))
+accepted_and_rejected : IsAccepted (codes "A/B") × ¬ (IsRejected (codes "A/B")) × IsRejected (codes "a b")
+    × ¬ (IsAccepted (codes "a b"))
 unfolding is_token_byte
 accepted_and_rejected = (
   (plain_value, reads_capitals),
@@ -257,7 +249,8 @@ printed_tokens = (refl, refl)
 
 -- what a fault prints, with a byte in uppercase hexadecimal without leading zeros
 printed_faults :
-    map fault_text (MissingSlash ∷ MissingSubtype ∷ MissingEqual ∷ MissingValue ∷ MissingQuote ∷ InvalidToken 10 11 ∷ NoMemory ∷ [])
+    map fault_text (MissingSlash ∷ MissingSubtype ∷ MissingEqual ∷ MissingValue ∷ MissingQuote ∷ InvalidToken 10 11
+    ∷ NoMemory ∷ [])
     ≡ codes "a slash (/) was missing between the type and subtype"
     ∷ codes "a subtype was missing behind the slash (/)"
     ∷ codes "an equals sign (=) was missing between a parameter and its value"

@@ -1,18 +1,8 @@
 -- Texts that are compared block by block: bits taken together, and blocks that overlap.
 use Rattle.std.proofs.Common.{◌≡◌, ◌↔◌, ℕ, ◌-◌, ◌≤◌, List, ◌++◌, length, zero-add, take, drop, bit_or, sym, ap, ◌∙◌, arith, ◌≢◌, suc, ◌+◌, ◌<◌, Bool, true, false, cond, [], ◌∷◌, set, get_or, refl, subst, length-drop}
-use Rattle.std.specs.List.{range_with_len, list_all, position_or_len}
-use Rattle.std.proofs.lemmas.List.FromFn.{get_or-range_with_len}
-use Rattle.std.proofs.lemmas.List.{length-map, take-map, drop-map, take-append-drop, take_rest, take-take, take_more, take_more_set, length-take-le, get_or-take, get_or-drop, get_or-map}
-use Rattle.std.proofs.lemmas.Nat.{le_or_l, le_or_r}
+use Rattle.std.specs.{List.range_with_len, List.list_all, List.position_or_len, Option.is_some, Char.to_ascii_lowercase, Simd.Lanes.zip2}
+use Rattle.std.proofs.{lemmas.List.FromFn.get_or-range_with_len, lemmas.List.length-map, lemmas.List.take-map, lemmas.List.drop-map, lemmas.List.take-append-drop, lemmas.List.take_rest, lemmas.List.take-take, lemmas.List.take_more, lemmas.List.take_more_set, lemmas.List.length-take-le, lemmas.List.get_or-take, lemmas.List.get_or-drop, lemmas.List.get_or-map, lemmas.Nat.le_or_l, lemmas.Nat.le_or_r, Math.Seq.take-add, lemmas.Bool.eqb-true, lemmas.Bool.eq-eqb, lemmas.Bool.Decides.nat_tests, lemmas.List.Sums.AllPass-from_list_all, lemmas.List.Sums.prefix_len-le-length, lemmas.List.Sums.prefix_len_stops, lemmas.Simd.length-zip2, lemmas.Simd.get_or-zip2}
 use Rattle.std.specs.Prelude.{◌==◌, not, Option, None, Some, IfSome, IsTrue}
-use Rattle.std.specs.Option.{is_some}
-use Rattle.std.specs.Char.{to_ascii_lowercase}
-use Rattle.std.specs.Simd.Lanes.{zip2}
-use Rattle.std.proofs.Math.Seq.{take-add}
-use Rattle.std.proofs.lemmas.Bool.{eqb-true, eq-eqb}
-use Rattle.std.proofs.lemmas.Bool.Decides.{nat_tests}
-use Rattle.std.proofs.lemmas.List.Sums.{AllPass-from_list_all, prefix_len-le-length, prefix_len_stops}
-use Rattle.std.proofs.lemmas.Simd.{length-zip2, get_or-zip2}
 use Rattle.mime_search.specs.Differences.{lowered, difference_bit, DifferFirstAt}
 
 -- what holds of all bytes holds of each
@@ -38,7 +28,8 @@ abbrev pub first_bit_of : List ℕ → ℕ
 first_bit_of bits = position_or_len (λ b. b == 1) bits
 
 -- two numbers have no bit together exactly if neither has one
-pub together : (n m : ℕ) (P Q Whole : Type 0) → (n ≡ 0) ↔ P → (m ≡ 0) ↔ Q → (P → Q → Whole) → (Whole → P × Q) → (bit_or n m ≡ 0) ↔ Whole
+pub together : (n m : ℕ) (P Q Whole : Type 0) → (n ≡ 0) ↔ P → (m ≡ 0) ↔ Q → (P → Q → Whole) → (Whole → P × Q)
+    → (bit_or n m ≡ 0) ↔ Whole
 together n m P Q Whole first second whole parts = (
   λ none. whole (first.0 (omega (arith, le_or_l n m))) (second.0 (omega (arith, le_or_r n m))),
   λ all. let both = parts all in cc (first.1 both.0, second.1 both.1),
@@ -64,6 +55,7 @@ zip2_push f [] [] x y long = refl
 zip2_push f (a ∷ xs) (b ∷ ys) x y long = ap (λ rest. f a b ∷ rest) (zip2_push f xs ys x y (omega (arith, long)))
 zip2_push f xs ys x y long = absurd (omega (arith, long))
 
+-- One more bit is found by one more pair of bytes.
 pub one_more : (f : ℕ → ℕ → ℕ) (a b bits : List ℕ) (n : ℕ) → n < length a → n < length b → n < length bits
     → take n bits ≡ zip2 f (take n a) (take n b)
     → take (n + 1) (set bits n (f (get_or a n 0) (get_or b n 0))) ≡ zip2 f (take (n + 1) a) (take (n + 1) b)
@@ -103,14 +95,18 @@ differ_at_bit x y is same = absurd (omega (arith, sym is ∙ ap (λ b. cond b 0 
 -- in the first 16 bytes, as the first bit shows it
 module _ (a b bits : List ℕ) (at : ℕ) (room : 16 ≤ length a) (other_room : 16 ≤ length b)
     (is : bits ≡ zip2 difference_bit (take 16 a) (take 16 b)) (first : at ≡ first_bit_of bits) where
-  long : length bits ≡ 16
-  long =
-      ap length is ∙ length-zip2 difference_bit (take 16 a) (take 16 b) (length-take-le 16 a room ∙ sym (length-take-le 16 b other_room))
+  -- There are 16 bits.
+  bit_count : length bits ≡ 16
+  bit_count =
+      ap length is ∙ length-zip2 difference_bit (take 16 a) (take 16 b) (length-take-le 16 a room
+      ∙ sym (length-take-le 16 b other_room))
       ∙ length-take-le 16 a room
 
+  -- The first bit is among the 16.
   few : at ≤ 16
-  few = omega (arith, first, long, prefix_len-le-length (λ b. not (b == 1)) bits)
+  few = omega (arith, first, bit_count, prefix_len-le-length (λ b. not (b == 1)) bits)
 
+  -- The bytes before the first bit are equal ignoring ASCII case.
   same_before : take at (lowered a) ≡ take at (lowered b)
   same_before =
       sym (shorter a) ∙ ap (λ m. take m (lowered (take 16 a))) (first ∙ ap (first_bit_of) is) ∙ equal_to_bit (take 16 a) (take 16 b)
@@ -119,13 +115,15 @@ module _ (a b bits : List ℕ) (at : ℕ) (room : 16 ≤ length a) (other_room :
       shorter : (t : List ℕ) → take at (lowered (take 16 t)) ≡ take at (lowered t)
       shorter t = ap (take at) (lowered-take 16 t) ∙ take-take at 16 (lowered t) few
 
+  -- Without a bit the 16 bytes are equal ignoring ASCII case.
   pub no_bit : 16 ≤ at → take 16 (lowered a) ≡ take 16 (lowered b)
   no_bit none = let all : at ≡ 16 = omega (arith, few, none) in subst (λ n. take n (lowered a) ≡ take n (lowered b)) all same_before
 
+  -- The bytes at the first bit differ.
   pub first_bit : at < 16 → DifferFirstAt a b at
   first_bit near =
       let stop : get_or bits at 0 ≡ 1 =
-      (let stops = prefix_len_stops (λ b. not (b == 1)) bits 0 (omega (arith, near, long, first)) in grind (arith, nat_tests, first)) in
+      (let stops = prefix_len_stops (λ b. not (b == 1)) bits 0 (omega (arith, near, bit_count, first)) in grind (arith, nat_tests, first)) in
       let differ : difference_bit (get_or a at 0) (get_or b at 0) ≡ 1 =
       cc (
         stop,
@@ -144,6 +142,7 @@ module _ (a b bits : List ℕ) (at : ℕ) (room : 16 ≤ length a) (other_room :
 
 -- after equal bytes: more of them, or a difference
 module _ (a b : List ℕ) (from : ℕ) (before : take from (lowered a) ≡ take from (lowered b)) where
+  -- After equal bytes more bytes are equal.
   pub equal_onward : (n : ℕ) → take n (lowered (take (length a - from) (drop from a)))
       ≡ take n (lowered (take (length b - from) (drop from b)))
       → take (from + n) (lowered a) ≡ take (from + n) (lowered b)
@@ -151,6 +150,7 @@ module _ (a b : List ℕ) (from : ℕ) (before : take from (lowered a) ≡ take 
       let rest = ap (take n) (sym (lowered_rest a from)) ∙ block ∙ ap (take n) (lowered_rest b from) in
       take-add from n (lowered a) ∙ (λ i. before i ++ rest i) ∙ sym (take-add from n (lowered b))
 
+  -- After equal bytes a difference is the first.
   pub difference_onward : (n : ℕ) → DifferFirstAt (take (length a - from) (drop from a)) (take (length b - from) (drop from b)) n
       → DifferFirstAt a b (from + n)
   difference_onward n d = record {

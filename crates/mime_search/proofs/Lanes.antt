@@ -1,32 +1,29 @@
 -- The bit mask of a class, lane by lane.
 use Rattle.std.proofs.Common.{◌≡◌, ℕ, ◌+◌, ◌*◌, ◌-◌, ◌%◌, ◌^◌, suc, Bool, true, false, not, cond, List, [], ◌∷◌, map, length, replicate, refl, ap, ◌∙◌, arith, bit_and}
 use Rattle.std.specs.Prelude.{◌||◌, ◌&&◌, ◌==◌, nat_lt}
-use Rattle.std.proofs.lemmas.Bool.Decides.{nat_tests}
-use Rattle.std.specs.Simd.Lanes.{mask_l, zip2, top}
-use Rattle.std.proofs.lemmas.List.{length-map}
-use Rattle.std.proofs.lemmas.Simd.{map-map, zip2_splat, zip2_splat_left, zip2_of_maps, mask_l-mod}
-use Rattle.std.proofs.Math.Nat.{pow-suc, mul_comm}
-use Rattle.std.specs.Int.Bits.{bit_or, or_zero_r}
-use Rattle.mime_search.specs.Classes.{is_outside_range, is_outside, outside, stops}
-use Rattle.mime_search.specs.declared.class.Class.{Class}
-use Rattle.mime_search.specs.declared.class.Range.{Range}
+use Rattle.std.proofs.{lemmas.Bool.Decides.nat_tests, lemmas.List.length-map, lemmas.Simd.map-map, lemmas.Simd.zip2_splat, lemmas.Simd.zip2_splat_left, lemmas.Simd.zip2_of_maps, lemmas.Simd.mask_l-mod, Math.Nat.pow-suc, Math.Nat.mul_comm}
+use Rattle.std.specs.{Simd.Lanes.mask_l, Simd.Lanes.zip2, Simd.Lanes.top, Int.Bits.bit_or, Int.Bits.or_zero_r}
+use Rattle.mime_search.specs.{Classes.is_outside_range, Classes.is_outside, Classes.outside, Classes.stops, declared.class.Class.Class, declared.class.Range.Range}
 
 -- a lane of a comparison has all bits, or none
 abbrev lane : Bool → ℕ
 lane t = cond t (2 ^ 8 - 1) 0
 
+-- Two lanes are joined by or.
 or_lane : (s t : Bool) → bit_or (lane s) (lane t) ≡ lane (s || t)
 or_lane false false = refl
 or_lane false true = refl
 or_lane true false = refl
 or_lane true true = refl
 
+-- Two lanes are joined by and.
 and_lane : (s t : Bool) → bit_and (lane s) (lane t) ≡ lane (s && t)
 and_lane false false = refl
 and_lane false true = refl
 and_lane true false = refl
 and_lane true true = refl
 
+-- The top bit of a lane tells whether it has all bits.
 top_lane : (t : Bool) → top 7 (lane t) ≡ t
 top_lane false = refl
 top_lane true = refl
@@ -36,6 +33,7 @@ abbrev range_lanes : List ℕ → ℕ → ℕ → List ℕ
 range_lanes v first last =
     zip2 bit_or (zip2 (λ a b. lane (nat_lt a b)) v (replicate 16 first)) (zip2 (λ a b. lane (nat_lt a b)) (replicate 16 last) v)
 
+-- The lanes outside a range are those of the bytes outside it.
 range_of_map : (f : ℕ → ℕ) (range : Range) (v vs : List ℕ) → length vs ≡ 16 → v ≡ map f vs
     → range_lanes v range.0 range.1 ≡ map (λ b. lane (is_outside_range range (f b))) vs
 range_of_map f range v vs long is =
@@ -88,8 +86,9 @@ mask-not p (x ∷ xs) = go (p x) (mask-not p xs)
     go true others = omega (arith, others, double)
     go false others = omega (arith, others, double)
 
--- a search stops inside the ranges,
-pub stops_inside : (class : Class) (v : List ℕ) → length v ≡ 16 → class.inside ≡ true → 65535 - outside class v ≡ stops class v
+-- A search that stops inside ranges has the mask of the bytes inside.
+pub stops_inside : (class : Class) (v : List ℕ) → length v ≡ 16 → class.inside ≡ true
+    → 65535 - outside class v ≡ stops class v
 stops_inside class v long is = rw is (omega (arith, mask-not (is_outside class) v, ap (λ n. 2 ^ n) long))
 
 -- a search stops outside the ranges

@@ -1,10 +1,7 @@
 -- Bit masks of a text's first bytes: how they are joined, and what they show.
 use Rattle.std.proofs.Common.{◌≡◌, ◌≢◌, ℕ, ◌+◌, ◌*◌, ◌-◌, ◌/◌, ◌%◌, ◌^◌, ◌<◌, ◌≤◌, suc, Bool, not, List, [], ◌∷◌, ◌++◌, map, length, take, drop, sym, ap, ◌∙◌, subst, arith, length-drop, length-append}
-use Rattle.std.specs.List.{prefix_len}
-use Rattle.std.specs.Simd.Lanes.{mask_l}
-use Rattle.std.proofs.lemmas.List.{length-map, drop-map, drop-take, drop-drop, take-take, take_all, take_at, drop_at, take-append-drop, length-take-le, map-append}
-use Rattle.std.proofs.lemmas.Simd.{mask_l-lt}
-use Rattle.std.proofs.Math.Nat.{pow-suc, mul_comm, mul_assoc, mul-le-mul_left, pow-le-pow_right, div-le_self}
+use Rattle.std.specs.{List.prefix_len, Simd.Lanes.mask_l}
+use Rattle.std.proofs.{lemmas.List.length-map, lemmas.List.drop-map, lemmas.List.drop-take, lemmas.List.drop-drop, lemmas.List.take-take, lemmas.List.take_all, lemmas.List.take_at, lemmas.List.drop_at, lemmas.List.take-append-drop, lemmas.List.length-take-le, lemmas.List.map-append, lemmas.Simd.mask_l-lt, Math.Nat.pow-suc, Math.Nat.mul_comm, Math.Nat.mul_assoc, Math.Nat.mul-le-mul_left, Math.Nat.pow-le-pow_right, Math.Nat.div-le_self}
 use lib.Count.{count_trailing_zeros}
 use Rattle.mime_search.proofs.Searches.{mask-drop, no_stop, a_stop, stop_within}
 
@@ -27,7 +24,7 @@ module _ (p : ℕ → Bool) where
   pub mask-lt : (bytes : List ℕ) (n : ℕ) → length bytes ≡ n → mask bytes < 2 ^ n
   mask-lt bytes n long = subst (λ m. mask bytes < 2 ^ m) (length-map bytes p ∙ long) (mask_l-lt (map p bytes))
 
-  -- the mask of a text by those of its first bytes and of the others,
+  -- The mask of a text is that of its first bytes and that of the others.
   mask-split : (n : ℕ) (text : List ℕ) → n ≤ length text → mask text ≡ mask (take n text) + mask (drop n text) * 2 ^ n
   mask-split n text room =
       ap mask (sym (take-append-drop n text)) ∙ ap mask_l (map-append p (take n text) (drop n text))
@@ -46,11 +43,13 @@ module _ (p : ℕ → Bool) where
       let from = length text - n in
       let at : from + (n + n - length text) ≡ n = omega (arith, room, reach) in
       ap (λ m. mask (take n text) + m * 2 ^ n)
-      (rest-mask (n + n - length text) (drop from text) ∙ ap mask (drop-drop (n + n - length text) from text ∙ ap (λ m. drop m text) at))
+      (rest-mask (n + n - length text) (drop from text)
+      ∙ ap mask (drop-drop (n + n - length text) from text ∙ ap (λ m. drop m text) at))
       ∙ sym (mask-split n text room)
 
   -- the mask of two blocks
-  pub mask-two : (bytes : List ℕ) → 32 ≤ length bytes → mask (take 16 bytes) + mask (take 16 (drop 16 bytes)) * 65536 ≡ mask (take 32 bytes)
+  pub mask-two : (bytes : List ℕ) → 32 ≤ length bytes
+      → mask (take 16 bytes) + mask (take 16 (drop 16 bytes)) * 65536 ≡ mask (take 32 bytes)
   mask-two bytes room =
       sym (mask-split 16 (take 32 bytes) (omega (arith, room, length-take-le 32 bytes room))
       ∙ ap (λ t. mask t + mask (drop 16 (take 32 bytes)) * 65536) (take-take 16 32 bytes (omega arith))
@@ -88,25 +87,30 @@ moved-fits mask last by n is few room =
 -- ---- the known bytes of a text
 
 -- what the mask of the first bytes shows of those from a position on
-module _ (p : ℕ → Bool) (text : List ℕ) (at known found : ℕ) (is : found ≡ mask_l (map p (take known text))) (there : known ≤ length text)
+module _ (p : ℕ → Bool) (text : List ℕ) (at known found : ℕ) (is : found ≡ mask_l (map p (take known text)))
+    (there : known ≤ length text)
     (few : known ≤ 64) (inside : at < known) where
+  -- The bytes known from a position on, and those before it, are all that are known.
   whole : at + (known - at) ≡ known
   whole = omega (arith, inside)
 
+  -- The shifted mask is that of the bytes from the position on.
   next : found / 2 ^ at ≡ mask_l (map p (take (known - at) (drop at text)))
   next =
       ap (λ m. m / 2 ^ at) is ∙ rest-mask p at (take known text)
       ∙ ap (λ n. mask_l (map p (drop at (take n text)))) (sym whole) ∙ ap (λ t. mask_l (map p t)) (drop-take at (known - at) text)
 
-  -- without a bit all are passed,
+  -- Without a bit all known bytes are passed.
   pub known-none : found / 2 ^ at ≡ 0 → known ≤ at + prefix_len (λ b. not (p b)) (drop at text)
   known-none none =
       omega (arith, no_stop p text at (known - at) _ (omega (arith, whole, there)) (omega (arith, few)) next none, whole)
 
-  -- with a bit, the bytes before the lowest bit are passed
+  -- With a bit the lowest is that of a known byte.
   pub known-few : found / 2 ^ at ≢ 0 → at + count_trailing_zeros 64 (found / 2 ^ at) < known
   known-few some =
       omega (arith, stop_within p text at (known - at) _ (omega (arith, whole, there)) (omega (arith, few)) next some, whole)
 
-  pub known-some : found / 2 ^ at ≢ 0 → at + count_trailing_zeros 64 (found / 2 ^ at) ≡ at + prefix_len (λ b. not (p b)) (drop at text)
+  -- With a bit the bytes before the lowest are passed.
+  pub known-some : found / 2 ^ at ≢ 0
+      → at + count_trailing_zeros 64 (found / 2 ^ at) ≡ at + prefix_len (λ b. not (p b)) (drop at text)
   known-some some = a_stop p text at (known - at) _ (omega (arith, whole, there)) (omega (arith, few)) next some

@@ -1,16 +1,11 @@
 -- The search for the end of quoted content, position by position.
 use Rattle.std.proofs.Common.{⊎_elim, ◌≡◌, ◌≢◌, ℕ, suc, ◌+◌, ◌-◌, ◌/◌, ◌^◌, ◌<◌, ◌≤◌, Bool, true, false, cond, List, [], ◌∷◌, length, length-drop, get_or, map, take, drop, refl, sym, ap, ◌∙◌, arith, ne_eqb}
 use Rattle.std.specs.Prelude.{◌==◌, ◌||◌, not}
-use Rattle.std.specs.List.{prefix_len}
-use Rattle.std.proofs.lemmas.Bool.{or_parts, cases_Bool}
-use Rattle.std.proofs.lemmas.List.{drop_more, drop-drop, drop-map, drop-take, get_or-drop}
-use Rattle.std.proofs.lemmas.List.Sums.{prefix_len_stops}
-use Rattle.std.specs.Simd.Lanes.{mask_l}
+use Rattle.std.specs.{List.prefix_len, Simd.Lanes.mask_l}
+use Rattle.std.proofs.{lemmas.Bool.or_parts, lemmas.Bool.cases_Bool, lemmas.List.drop_more, lemmas.List.drop-drop, lemmas.List.drop-map, lemmas.List.drop-take, lemmas.List.get_or-drop, lemmas.List.Sums.prefix_len_stops}
 use Rattle.mime_search.proofs.Searches.{a_stop, no_stop, stop_within, mask-drop}
 use lib.Count.{count_trailing_zeros}
-use Rattle.mime_search.specs.Classes.{is_stop, end_of_run}
-use Rattle.mime_search.specs.declared.class.Class.{Class}
-use Rattle.mime_search.specs.Quoted.{quote, backslash, len_from}
+use Rattle.mime_search.specs.{Classes.is_stop, Classes.end_of_run, declared.class.Class.Class, Quoted.quote, Quoted.backslash, Quoted.len_from}
 
 -- what a position leaves to search for the end of quoted content
 len_from-at : (text : List ℕ) (position : ℕ) → position < length text → len_from false (drop position text)
@@ -30,6 +25,7 @@ is_mark b = b == quote || b == backslash
 abbrev pub plain_len : List ℕ → ℕ
 plain_len bytes = prefix_len (λ b. not (is_mark b)) bytes
 
+-- A run without quotes and backslashes is passed.
 plain_run : (bytes : List ℕ) → plain_len bytes + len_from false (drop (plain_len bytes) bytes) ≡ len_from false bytes
 plain_run [] = refl
 plain_run (b ∷ bytes) = ⊎_elim
@@ -40,20 +36,22 @@ plain_run (b ∷ bytes) = ⊎_elim
     rw (parts.0, parts.1, next) (omega (arith, plain_run bytes)))
     (cases_Bool (b == quote || b == backslash))
 
+-- A search goes on after a run without quotes and backslashes.
 pub search_past_plain_run : (text : List ℕ) (from to : ℕ) → to ≡ from + plain_len (drop from text)
     → to + len_from false (drop to text) ≡ from + len_from false (drop from text)
 search_past_plain_run text from to is =
     let rest = drop-drop (plain_len (drop from text)) from text ∙ ap (λ n. drop n text) (sym is) in
     omega (arith, is, plain_run (drop from text), ap (len_from false) rest)
 
--- as a search for these finds them
+-- A search goes on after a run that a class passes.
 pub search_past_run : (class : Class) → ((b : ℕ) → is_stop class b ≡ is_mark b) → (text : List ℕ) (from to : ℕ)
     → to ≡ end_of_run class text from → to + len_from false (drop to text) ≡ from + len_from false (drop from text)
 search_past_run class are text from to is =
     search_past_plain_run text from to (is ∙ (λ i. from + prefix_len (λ b. not (are b i)) (drop from text)))
 
 -- a first quote or backslash within the text is one
-mark_there : (text : List ℕ) (from to : ℕ) → to ≡ from + plain_len (drop from text) → to < length text → is_mark (get_or text to 0) ≡ true
+mark_there : (text : List ℕ) (from to : ℕ) → to ≡ from + plain_len (drop from text) → to < length text
+    → is_mark (get_or text to 0) ≡ true
 mark_there text from to is within =
     let at : get_or (drop from text) (plain_len (drop from text)) 0 ≡ get_or text to 0 =
     get_or-drop from text (plain_len (drop from text)) 0 ∙ ap (λ n. get_or text n 0) (sym is) in
@@ -66,7 +64,8 @@ mark_there text from to is within =
 
 -- a backslash is passed with the byte that it pairs
 pub search_past_pair : (text : List ℕ) (position whole : ℕ) → position + len_from false (drop position text) ≡ whole
-    → position + 1 < length text → get_or text position 0 ≡ backslash → position + 2 + len_from false (drop (position + 2) text) ≡ whole
+    → position + 1 < length text → get_or text position 0 ≡ backslash
+    → position + 2 + len_from false (drop (position + 2) text) ≡ whole
 search_past_pair text position whole e within backslash =
     let at = rw backslash at (len_from-at text position (omega arith)) in
     let next : position + 1 + 1 ≡ position + 2 = omega arith in
@@ -95,6 +94,7 @@ pub record FirstMark (text : List ℕ) (at n stop : ℕ) : Type 0 where
 
 module _ (text : List ℕ) (at n found : ℕ) (room : at + n ≤ length text) (few : n ≤ 16)
     (is : found ≡ mask_l (map is_mark (take n (drop at text)))) where
+  -- The lowest bit is that of the first quote or backslash.
   pub first_mark : found ≢ 0 → FirstMark text at n (at + count_trailing_zeros 64 found)
   first_mark some =
       let there = a_stop is_mark text at n found room (omega (arith, few)) is some in
@@ -118,5 +118,6 @@ module _ (text : List ℕ) (at n found : ℕ) (room : at + n ≤ length text) (f
       let all : k + (n - k) ≡ n = omega (arith, within) in
       ap (λ m. m / 2 ^ k) is ∙ mask-drop k (map is_mark (take n (drop at text)))
       ∙ ap mask_l (drop-map is_mark k (take n (drop at text)))
-      ∙ ap (λ bytes. mask_l (map is_mark bytes)) (ap (λ m. drop k (take m (drop at text))) (sym all) ∙ drop-take k (n - k) (drop at text)
+      ∙ ap (λ bytes. mask_l (map is_mark bytes)) (ap (λ m. drop k (take m (drop at text))) (sym all)
+      ∙ drop-take k (n - k) (drop at text)
       ∙ ap (take (n - k)) (drop-drop k at text))

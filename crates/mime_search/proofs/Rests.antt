@@ -1,13 +1,12 @@
 -- The first position of a byte.
 use Rattle.std.proofs.Common.{◌≡◌, ℕ, ◌<◌, List, length, Some, slice_get, ap, ◌∙◌, arith}
 use Rattle.std.specs.Prelude.{◌==◌}
-use Rattle.std.proofs.lemmas.List.Sums.{passes_at_first}
-use Rattle.std.proofs.lemmas.Bool.Decides.{Decides-eqb}
-use Rattle.std.proofs.lemmas.Option.{slice_get-get_or}
+use Rattle.std.proofs.{lemmas.List.Sums.passes_at_first, lemmas.Bool.Decides.Decides-eqb, lemmas.Option.slice_get-get_or}
 use Rattle.mime_search.specs.Rests.{first_position}
 
 -- the byte that was looked for is at the position found
-pub slice_get-first_position : (byte : ℕ) (text : List ℕ) (position : ℕ) → position ≡ first_position byte text → position < length text
+pub slice_get-first_position : (byte : ℕ) (text : List ℕ) (position : ℕ) → position ≡ first_position byte text
+    → position < length text
     → slice_get text position ≡ Some byte
 slice_get-first_position byte text position is within =
     let inside : first_position byte text < length text = omega (arith, is, within) in

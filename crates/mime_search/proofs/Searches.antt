@@ -1,17 +1,9 @@
 -- A search by bit masks: a block without a bit is passed, and the lowest bit is the first stop.
 use Rattle.std.proofs.Common.{◌≡◌, ◌≢◌, ℕ, ◌+◌, ◌-◌, ◌*◌, ◌/◌, ◌^◌, ◌<◌, ◌≤◌, zero, suc, Bool, true, false, not, cond, eqb, List, [], ◌∷◌, map, length, take, drop, refl, sym, ap, ◌∙◌, arith, length-drop}
-use Rattle.std.proofs.lemmas.Simd.{leading_from_mask_l, trailing_mask_l}
-use Rattle.std.proofs.lemmas.List.{drop-drop, drop-map, take_all, take-append-drop, length-take-le}
-use Rattle.std.proofs.lemmas.List.Folds.{prefix_len-append}
-use Rattle.std.proofs.lemmas.List.Sums.{prefix_len-le-length}
-use Rattle.std.proofs.lemmas.Bool.{eq-eqb, ne_eqb, cond-true, cond-false}
-use Rattle.std.proofs.Math.Nat.{div-div-eq-div-mul, div-one, zero-div, pow-suc, mul_comm}
-use Rattle.std.specs.List.{prefix_len, position_or_len}
+use Rattle.std.proofs.{lemmas.Simd.leading_from_mask_l, lemmas.Simd.trailing_mask_l, lemmas.List.drop-drop, lemmas.List.drop-map, lemmas.List.take_all, lemmas.List.take-append-drop, lemmas.List.length-take-le, lemmas.List.Folds.prefix_len-append, lemmas.List.Sums.prefix_len-le-length, lemmas.Bool.eq-eqb, lemmas.Bool.ne_eqb, lemmas.Bool.cond-true, lemmas.Bool.cond-false, Math.Nat.div-div-eq-div-mul, Math.Nat.div-one, Math.Nat.zero-div, Math.Nat.pow-suc, Math.Nat.mul_comm, Math.Bool.or_self}
+use Rattle.std.specs.{List.prefix_len, List.position_or_len, Simd.Lanes.mask_l}
 use Rattle.std.specs.Prelude.{◌==◌, ◌||◌}
-use Rattle.std.proofs.Math.Bool.{or_self}
-use Rattle.mime_search.specs.Classes.{is_stop, end_of_run, stops}
-use Rattle.mime_search.specs.declared.class.Class.{Class}
-use Rattle.std.specs.Simd.Lanes.{mask_l}
+use Rattle.mime_search.specs.{Classes.is_stop, Classes.end_of_run, Classes.stops, declared.class.Class.Class}
 use lib.Count.{count_trailing_zeros}
 
 -- ---- bit masks
@@ -31,7 +23,8 @@ mask-drop (suc n) (b ∷ ms) =
     ∙ ap (λ k. k / 2 ^ n) (half b (mask_l ms)) ∙ mask-drop n ms
 
 -- a bit more, if it isn't set
-none_fails : (b : Bool) (n l m : ℕ) → n ≤ l → cond (not b) (1 + n) 0 ≡ 1 + l → (n ≡ l → m ≡ 0) → cond b 1 0 + 2 * m ≡ 0
+none_fails : (b : Bool) (n l m : ℕ) → n ≤ l → cond (not b) (1 + n) 0 ≡ 1 + l → (n ≡ l → m ≡ 0)
+    → cond b 1 0 + 2 * m ≡ 0
 none_fails true n l m le e rest = absurd (omega (arith, e))
 none_fails false n l m le e rest = let z = rest (omega (arith, e)) in omega (arith, z)
 
@@ -43,12 +36,14 @@ all_pass p (x ∷ xs) e = none_fails (p x) _ (length xs) _ (prefix_len-le-length
 -- ---- the first stop
 
 -- a run ends within the text
-pub run_within : (p : ℕ → Bool) (text : List ℕ) (from to : ℕ) → from ≤ length text → to ≡ from + prefix_len p (drop from text)
+pub run_within : (p : ℕ → Bool) (text : List ℕ) (from to : ℕ) → from ≤ length text
+    → to ≡ from + prefix_len p (drop from text)
     → to ≤ length text
 run_within p text from to within is = omega (arith, is, prefix_len-le-length p (drop from text), length-drop from text)
 
 -- the bits of the last block, without those before a position, are those of the bytes from there on
-pub last_bits : (class : Class) (text : List ℕ) (from found : ℕ) → 16 ≤ length text → length text < from + 16 → from ≤ length text
+pub last_bits : (class : Class) (text : List ℕ) (from found : ℕ) → 16 ≤ length text → length text < from + 16
+    → from ≤ length text
     → found ≡ stops class (take 16 (drop (length text - 16) text))
     → found / 2 ^ (from - (length text - 16)) ≡ stops class (take (length text - from) (drop from text))
 last_bits class text from found long end within is =
@@ -67,6 +62,7 @@ module _ (p : ℕ → Bool) (text : List ℕ) (at n found : ℕ) (room : at + n 
   abbrev run : List ℕ → ℕ
   run bytes = prefix_len (λ b. not (p b)) bytes
 
+  -- As many bytes are taken as there are bits.
   long : length (take n (drop at text)) ≡ n
   long = length-take-le n (drop at text) (omega (arith, room, length-drop at text))
 
@@ -83,7 +79,7 @@ module _ (p : ℕ → Bool) (text : List ℕ) (at n found : ℕ) (room : at + n 
       let all = eq-eqb _ _ (leading_from_mask_l p (take n (drop at text)) (sym is ∙ none)) in
       omega (arith, split ∙ cond-true _ _ _ all, long, ap run (drop-drop n at text))
 
-  -- with a bit, not all bytes are passed
+  -- With a bit, not all bytes are passed.
   within : found ≢ 0 → run (take n (drop at text)) < n
   within some = omega (
     arith,
@@ -97,15 +93,18 @@ module _ (p : ℕ → Bool) (text : List ℕ) (at n found : ℕ) (room : at + n 
   lowest some =
       ap (count_trailing_zeros 64) is ∙ trailing_mask_l p 64 (take n (drop at text)) (omega (arith, few, long)) (omega (arith, is, some))
 
+  -- The lowest bit is that of a byte among them.
   pub stop_within : found ≢ 0 → count_trailing_zeros 64 found < n
   stop_within some = omega (arith, within some, lowest some)
 
+  -- The lowest bit is that of the first stop.
   pub a_stop : found ≢ 0 → at + count_trailing_zeros 64 found ≡ at + run (drop at text)
   a_stop some =
       let stops : run (take n (drop at text)) ≢ length (take n (drop at text)) = omega (arith, within some, long) in
       ap (λ k. at + k) (lowest some ∙ sym (split ∙ cond-false _ _ _ (ne_eqb _ _ stops)))
 
 -- a search that stops at one byte stops at its first position
-pub first_stop-position : (class : Class) (byte : ℕ) → ((b : ℕ) → is_stop class b ≡ (b == byte || b == byte)) → (text : List ℕ) (from : ℕ)
+pub first_stop-position : (class : Class) (byte : ℕ) → ((b : ℕ) → is_stop class b ≡ (b == byte || b == byte))
+    → (text : List ℕ) (from : ℕ)
     → end_of_run class text from ≡ from + position_or_len (λ b. b == byte) (drop from text)
 first_stop-position class byte are text from = λ i. from + prefix_len (λ b. not ((are b ∙ or_self (b == byte)) i)) (drop from text)

@@ -1,8 +1,7 @@
 -- Each byte is compared in a lane of its own.
 use Rattle.std.proofs.Common.{◌<◌, ◌^◌, subst, sym}
 use Rattle.mime_search.specs.Classes.{is_outside}
-use Rattle.mime_search.proofs.Lanes.{outside_lanes}
-use Rattle.mime_search.proofs.Masks.{mask-lt}
+use Rattle.mime_search.proofs.{Lanes.outside_lanes, Masks.mask-lt}
 use Rattle.mime_search.proofs.class.outside_in_lanes.Goals as goal
 
 pub returns-clause-mask : goal.returns-clause-mask

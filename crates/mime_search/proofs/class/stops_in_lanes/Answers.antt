@@ -8,7 +8,8 @@ overflow_sub-result c = omega (arith, c.outside_in_lanes-outside.ensures.few)
 
 pub returns-then-class-clause-mask : goal.returns-then-class-clause-mask
 returns-then-class-clause-mask c =
-    ap (λ n. 65535 - n) c.outside_in_lanes-outside.ensures.mask ∙ stops_inside c.args.class.now c.args.bytes c.fits-bytes.0 c.if-class.true
+    ap (λ n. 65535 - n) c.outside_in_lanes-outside.ensures.mask
+    ∙ stops_inside c.args.class.now c.args.bytes c.fits-bytes.0 c.if-class.true
 
 pub returns-else-class-clause-mask : goal.returns-else-class-clause-mask
 returns-else-class-clause-mask c =

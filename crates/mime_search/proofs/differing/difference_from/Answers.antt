@@ -11,4 +11,5 @@ returns-then-differ-eq0-clause-none c = λ _.
 pub returns-else-differ-eq0-clause-some : goal.returns-else-differ-eq0-clause-some
 returns-else-differ-eq0-clause-some c =
     let word = in_word c.args.a.now c.args.b.now c.args.at c.requires.room c.requires.other_room in
-    rw word (lowest_differs c.args.a.now c.args.b.now c.args.at c.requires.room c.requires.other_room (λ zero. c.if-differ-eq0.false (word ∙ zero)))
+    rw word (lowest_differs c.args.a.now c.args.b.now c.args.at c.requires.room c.requires.other_room
+    (λ zero. c.if-differ-eq0.false (word ∙ zero)))

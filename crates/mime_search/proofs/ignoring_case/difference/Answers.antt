@@ -1,16 +1,12 @@
 -- Bytes that are equal ignoring ASCII case differ in no bit but a letter's.
 use Rattle.std.proofs.Common.{◌≡◌, ◌<◌, ◌-◌, ℕ, Bool, true, false, IsFalse, not, cond, nat_eq, bit_and, bit_or, refl, sym, ap, ◌∙◌, arith}
 use Rattle.std.specs.Prelude.{◌||◌}
-use Rattle.std.specs.Char.{is_ascii_alphabetic, is_ascii_lowercase, to_ascii_lowercase}
-use Rattle.std.specs.Int.Bits.{bit_xor, xor_zero_l, xor_zero_r, xor_lt}
-use Rattle.std.specs.List.{list_all, range_with_len}
-use Rattle.std.proofs.lemmas.Bool.{eqb-true, eq-eqb, not-true}
-use Rattle.std.proofs.lemmas.Bool.Decides.{nat_tests, same_from_decides, Decides-eqb}
+use Rattle.std.specs.{Char.is_ascii_alphabetic, Char.is_ascii_lowercase, Char.to_ascii_lowercase, Int.Bits.bit_xor, Int.Bits.xor_zero_l, Int.Bits.xor_zero_r, Int.Bits.xor_lt, List.list_all, List.range_with_len}
+use Rattle.std.proofs.{lemmas.Bool.eqb-true, lemmas.Bool.eq-eqb, lemmas.Bool.not-true, lemmas.Bool.Decides.nat_tests, lemmas.Bool.Decides.same_from_decides, lemmas.Bool.Decides.Decides-eqb}
 use lib.Bits.{xor_self, xor_assoc}
 use mir.Val.{bool_byte}
 use Rattle.mime_search.specs.Differences.{difference_bit}
-use Rattle.mime_search.proofs.IgnoringCase.{at_byte}
-use Rattle.mime_search.proofs.ignoring_case.difference.Goals.{then-is_ascii_lowercase, else-is_ascii_lowercase}
+use Rattle.mime_search.proofs.{IgnoringCase.at_byte, ignoring_case.difference.Goals.then-is_ascii_lowercase, ignoring_case.difference.Goals.else-is_ascii_lowercase}
 use Rattle.mime_search.proofs.ignoring_case.difference.Goals as goal
 
 letter : ℕ → Bool
@@ -20,7 +16,7 @@ letter b = is_ascii_lowercase (bit_or b 32)
 abbrev found : ℕ → ℕ → ℕ → ℕ
 found case x y = bool_byte (not (nat_eq (bit_and (bit_xor x y) (255 - case)) 0))
 
--- of a letter and any byte: tried on all
+-- For a letter and any byte the bit is found, as a trial of all shows.
 found-of_letter : (x y : ℕ) → x < 256 → y < 256 → letter x ≡ true → found 32 x y ≡ difference_bit x y
 unfolding letter
 found-of_letter x y fits fits_too is =
@@ -48,7 +44,7 @@ as_bit : (same : Bool) → bool_byte (not same) ≡ cond same 0 1
 as_bit true = refl
 as_bit false = refl
 
--- of a byte that is no letter and any byte
+-- For a byte that is no letter and any byte the bit is found.
 found-of_no_letter : (x y : ℕ) → x < 256 → y < 256 → letter x ≡ false → found 0 x y ≡ difference_bit x y
 found-of_no_letter x y fits fits_too is =
     let all : bit_and (bit_xor x y) 255 ≡ bit_xor x y =

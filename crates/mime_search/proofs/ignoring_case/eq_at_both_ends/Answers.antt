@@ -1,8 +1,7 @@
 -- Texts whose last and first blocks reach over the whole are equal exactly if those are.
 use Rattle.std.proofs.Common.{◌-◌, length, take, drop, ap, arith}
 use Rattle.mime_search.specs.Differences.{lowered}
-use Rattle.mime_search.proofs.IgnoringCase.{lowered-take}
-use Rattle.mime_search.proofs.IgnoringCase.{lowered_rest, lapped}
+use Rattle.mime_search.proofs.{IgnoringCase.lowered-take, IgnoringCase.lowered_rest, IgnoringCase.lapped}
 use Rattle.mime_search.proofs.ignoring_case.eq_at_both_ends.Goals as goal
 
 pub returns-then-eq_byte_by_byte : goal.returns-then-eq_byte_by_byte

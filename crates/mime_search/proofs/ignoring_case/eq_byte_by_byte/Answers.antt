@@ -20,6 +20,7 @@ loop-at-preserved c =
       so_far =
           together c.loop-at.differs c.difference-differs.result _ (x ≡ y) _ c.loop-at.invariant.so_far
           (no_bit_at (get_or a n 0) (get_or b n 0) _ c.difference-differs.ensures)
-          (λ prefix last. let same : lowered (take n a) ++ (x ∷ []) ≡ lowered (take n b) ++ (y ∷ []) = cc in more_a ∙ same ∙ sym more_b)
+          (λ prefix last. let same : lowered (take n a) ++ (x ∷ []) ≡ lowered (take n b) ++ (y ∷ []) = cc in
+          more_a ∙ same ∙ sym more_b)
           (λ whole. same_from_push (lowered (take n a)) (lowered (take n b)) x y (sym more_a ∙ whole ∙ more_b));
     }

@@ -2,8 +2,7 @@
 use Rattle.std.proofs.Common.{◌≡◌, ◌-◌, ◌+◌, length, sym, ◌∙◌, arith, refl}
 use Rattle.std.proofs.lemmas.List.{take_all}
 use Rattle.mime_search.specs.Differences.{lowered}
-use Rattle.mime_search.proofs.IgnoringCase.{length-lowered}
-use Rattle.mime_search.proofs.IgnoringCase.{shorter, equal_onward, difference_onward}
+use Rattle.mime_search.proofs.{IgnoringCase.length-lowered, IgnoringCase.shorter, IgnoringCase.equal_onward, IgnoringCase.difference_onward}
 use Rattle.mime_search.proofs.ignoring_case.first_difference_ignoring_case.Goals as goal
 
 pub returns-in-Some-clause-some : goal.returns-in-Some-clause-some

@@ -2,8 +2,7 @@
 use Rattle.std.proofs.Common.{ℕ, ◌+◌, ◌∙◌, ap, map, take, drop, false}
 use Rattle.std.specs.Simd.Lanes.{mask_l}
 use Rattle.mime_search.specs.Quoted.{len_from}
-use Rattle.mime_search.proofs.Quotes.{search_past_run, no_mark}
-use Rattle.mime_search.proofs.quoted.after_plain.Goals.{then-text-ge-BLOCK+else-stops-ne0, else-text-ge-BLOCK}
+use Rattle.mime_search.proofs.{Quotes.search_past_run, Quotes.no_mark, quoted.after_plain.Goals.then-text-ge-BLOCK+else-stops-ne0, quoted.after_plain.Goals.else-text-ge-BLOCK}
 use Rattle.mime_search.proofs.quoted.after_plain.Goals as goal
 
 pub returns-clause-left : goal.returns-clause-left
@@ -15,7 +14,8 @@ returns-clause-left c =
       | then-text-ge-BLOCK+else-stops-ne0 w ↦
           ap left w.at-is
           ∙ no_mark text c.args.from _ _ w.stops_from-size.ensures.within w.stops_from-size.ensures.few
-          (w.stops_from-size.ensures.mask ∙ (λ i. mask_l (map (λ b. c.of-class.ensures b i) (take w.stops_from-size.result.0 (drop c.args.from text)))))
+          (w.stops_from-size.ensures.mask
+          ∙ (λ i. mask_l (map (λ b. c.of-class.ensures b i) (take w.stops_from-size.result.0 (drop c.args.from text)))))
           w.if-stops-ne0.false
       | else-text-ge-BLOCK w ↦ ap left w.at-is
     ]

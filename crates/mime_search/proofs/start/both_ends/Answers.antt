@@ -1,7 +1,6 @@
 -- The lanes are those of both vectors, in order.
 use Rattle.std.proofs.Common.{◌-◌, ◌++◌, length, take, drop, ap, ◌∙◌, arith, length-append, length-drop}
-use Rattle.std.proofs.lemmas.List.{length-take-le, take_all}
-use Rattle.std.proofs.lemmas.Simd.{pick_l_whole}
+use Rattle.std.proofs.{lemmas.List.length-take-le, lemmas.List.take_all, lemmas.Simd.pick_l_whole}
 use Rattle.mime_search.proofs.start.both_ends.Goals as goal
 
 pub returns : goal.returns

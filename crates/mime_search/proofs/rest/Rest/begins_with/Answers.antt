@@ -1,8 +1,7 @@
 -- A rest is UTF-8: it may be cut after an ASCII byte.
 use Rattle.std.proofs.Common.{◌<◌, length, subst, ap, ◌∙◌, arith}
 use Rattle.std.specs.Str.{IsCharBoundary}
-use Rattle.std.proofs.lemmas.Bool.Decides.{nat_tests}
-use Rattle.std.proofs.lemmas.Str.{IsCharBoundary-after_ascii}
+use Rattle.std.proofs.{lemmas.Bool.Decides.nat_tests, lemmas.Str.IsCharBoundary-after_ascii}
 use Rattle.mime_search.proofs.rest.Rest.begins_with.Goals as goal
 
 pub returns-then-not-is_empty-clause-boundary : goal.returns-then-not-is_empty-clause-boundary

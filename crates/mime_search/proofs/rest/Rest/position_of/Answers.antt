@@ -1,8 +1,7 @@
 -- The rest is searched from its first block on, or the string's last block.
 use Rattle.std.proofs.Common.{◌≡◌, ◌-◌, length, drop, ◌∙◌, ap, sym, arith}
-use Rattle.mime_search.specs.Classes.{is_stop}
+use Rattle.mime_search.specs.{Classes.is_stop, Rests.first_position}
 use Rattle.mime_search.proofs.Searches.{no_stop, a_stop, first_stop-position}
-use Rattle.mime_search.specs.Rests.{first_position}
 use Rattle.mime_search.proofs.rest.Rest.position_of.Goals as goal
 
 pub returns-then-stops-eq0 : goal.returns-then-stops-eq0

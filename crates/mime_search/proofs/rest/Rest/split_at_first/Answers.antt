@@ -1,8 +1,7 @@
 -- The byte at the position found is the one that was looked for.
 use Rattle.std.proofs.Common.{arith}
 use Rattle.std.specs.Prelude.{◌==◌, not}
-use Rattle.std.proofs.lemmas.List.Sums.{prefix_len-le-length}
-use Rattle.std.proofs.lemmas.Option.{get_or_from_slice_get}
+use Rattle.std.proofs.{lemmas.List.Sums.prefix_len-le-length, lemmas.Option.get_or_from_slice_get}
 use Rattle.mime_search.proofs.Rests.{slice_get-first_position}
 use Rattle.mime_search.proofs.rest.Rest.split_at_first.Goals as goal
 
