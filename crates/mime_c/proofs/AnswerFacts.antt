@@ -1,21 +1,13 @@
 -- What the trusted files say of some texts: each definition has an example and a counterexample.
 use Rattle.std.proofs.Common.{◌≡◌, ◌≢◌, ℕ, true, List, [], ◌∷◌, ◌++◌, map, length, refl, sym, ap, ◌∙◌, arith, codes, Some, None, subst}
 use Rattle.std.specs.Str.{IsUtf8, IsValidUpTo}
-use Rattle.std.proofs.lemmas.Str.{IsUtf8-nil}
-use Rattle.std.proofs.lemmas.List.{take_all}
-use Rattle.mime.specs.Bytes.{is_token_byte}
-use Rattle.mime.specs.Grammar.{no_list}
-use Rattle.mime.specs.Values.{MediaType, Reads}
-use Rattle.mime.specs.Cut.{good, bad, Cut, whole}
-use Rattle.mime.specs.declared.scan.fault.ParseError.TheVariants.{MissingSlash, MissingSubtype, MissingEqual, MissingValue, MissingQuote, InvalidToken, NoMemory}
+use Rattle.std.proofs.{lemmas.Str.IsUtf8-nil, lemmas.List.take_all}
+use Rattle.mime.specs.{Bytes.is_token_byte, Grammar.no_list, Values.MediaType, Values.Reads, Cut.good, Cut.bad, Cut.Cut, Cut.whole, declared.scan.fault.ParseError.TheVariants.MissingSlash, declared.scan.fault.ParseError.TheVariants.MissingSubtype, declared.scan.fault.ParseError.TheVariants.MissingEqual, declared.scan.fault.ParseError.TheVariants.MissingValue, declared.scan.fault.ParseError.TheVariants.MissingQuote, declared.scan.fault.ParseError.TheVariants.InvalidToken, declared.scan.fault.ParseError.TheVariants.NoMemory}
 use Rattle.mime.proofs.HandedOut.{empty-cut, cut_unique}
 use Rattle.mime_http.specs.declared.value.FieldError.TheVariants.{NotUtf8, Invalid}
 use Rattle.mime_http.specs.declared.value.FieldError.TheVariants as field
-use Rattle.mime_c.specs.Strings.{strings, ComeBack, texts_of, item_texts, written}
-use Rattle.mime_c.specs.Answers.{number_of, number_of_error, found_at, found_of, found_of_error, nothing, has_room, has_no_room, is_read, fails, TextExplains, are_written, ReadsTo, NeedsMemory, ListsTo, is_listed, Compares, are_compared}
+use Rattle.mime_c.specs.{Strings.strings, Strings.ComeBack, Strings.texts_of, Strings.item_texts, Strings.written, Answers.number_of, Answers.number_of_error, Answers.found_at, Answers.found_of, Answers.found_of_error, Answers.nothing, Answers.has_room, Answers.has_no_room, Answers.is_read, Answers.fails, Answers.TextExplains, Answers.are_written, Answers.ReadsTo, Answers.NeedsMemory, Answers.ListsTo, Answers.is_listed, Answers.Compares, Answers.are_compared, declared.MimeFound.MimeFound, declared.TheConstants.MIME_OK, declared.TheConstants.MIME_NO_MEMORY, declared.TheConstants.MIME_NOT_UTF8, declared.TheConstants.MIME_NO_ROOM}
 use Rattle.mime_c.proofs.OneOutcome.{reads_to_one, lists_to_one, compares_as_one}
-use Rattle.mime_c.specs.declared.MimeFound.{MimeFound}
-use Rattle.mime_c.specs.declared.TheConstants.{MIME_OK, MIME_NO_MEMORY, MIME_NOT_UTF8, MIME_NO_ROOM}
 
 -- ---- strings
 
@@ -168,7 +160,8 @@ module _ (isnt : ¬ (IsUtf8 (255 ∷ []))) where
   not_read = has_room _ _ (omega arith) (fails (NotUtf8 0) (isnt, none_valid))
 
   -- Such a text isn't compared, as the first or as the second.
-  not_compared : IsUtf8 (codes "A/B") → Compares (255 ∷ []) (codes "A/B") MIME_NOT_UTF8 0 × Compares (codes "A/B") (255 ∷ []) MIME_NOT_UTF8 0
+  not_compared : IsUtf8 (codes "A/B") → Compares (255 ∷ []) (codes "A/B") MIME_NOT_UTF8 0
+      × Compares (codes "A/B") (255 ∷ []) MIME_NOT_UTF8 0
   not_compared utf8 =
       let why : TextExplains (255 ∷ []) (NotUtf8 0) = (isnt, none_valid) in
       (fails (NotUtf8 0) why, is_read ab _ _ (utf8, reads_ab) (fails (NotUtf8 0) why))

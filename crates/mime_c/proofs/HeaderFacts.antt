@@ -2,13 +2,8 @@
 use Rattle.std.proofs.Common.{◌≡◌, ℕ, true, false, List, [], ◌∷◌, ◌++◌, refl, arith, codes, None, rules}
 use Rattle.mime.specs.Values.{MediaType}
 use Rattle.mime_http.specs.HttpList.{line_end, no_line, blank, no_text, piece_end}
-use Rattle.mime_c.specs.Strings.{strings}
-use Rattle.mime_c.specs.Answers.{nothing, has_no_room}
-use Rattle.mime_c.specs.HeaderAnswers.{HeaderReadsTo, four_digits, range_texts, AcceptsTo, lines_of, HaveNoEntry, are_offers, BestIs, none_is_best, OrderIs, none_is_ordered}
-use Rattle.mime_c.specs.declared.MimeFound.{MimeFound}
-use Rattle.mime_c.specs.declared.TheConstants.{MIME_OK, MIME_NO_ROOM, MIME_NOT_ACCEPTABLE}
-use Rattle.mime_c.proofs.HeaderOutcome.{best_is_one}
-use Rattle.mime_c.proofs.OrderOutcome.{order_is_one}
+use Rattle.mime_c.specs.{Strings.strings, Answers.nothing, Answers.has_no_room, HeaderAnswers.HeaderReadsTo, HeaderAnswers.four_digits, HeaderAnswers.range_texts, HeaderAnswers.AcceptsTo, HeaderAnswers.lines_of, HeaderAnswers.HaveNoEntry, HeaderAnswers.are_offers, HeaderAnswers.BestIs, HeaderAnswers.none_is_best, HeaderAnswers.OrderIs, HeaderAnswers.none_is_ordered, declared.MimeFound.MimeFound, declared.TheConstants.MIME_OK, declared.TheConstants.MIME_NO_ROOM, declared.TheConstants.MIME_NOT_ACCEPTABLE}
+use Rattle.mime_c.proofs.{HeaderOutcome.best_is_one, OrderOutcome.order_is_one}
 
 -- Weights are written in four digits.
 weights_written : (four_digits 1000 ≡ codes "1000") × (four_digits 305 ≡ codes "0305") × (four_digits 0 ≡ codes "0000")

@@ -1,11 +1,8 @@
 -- What the file ParameterAnswers says of some texts.
 use Rattle.std.proofs.Common.{◌≡◌, ℕ, List, [], ◌∷◌, ◌++◌, refl, sym, arith, codes, None, rules}
 use Rattle.std.proofs.lemmas.Bool.{true≢false}
-use Rattle.mime.specs.Bytes.{is_token_byte, is_quoted_byte}
-use Rattle.mime.specs.Values.{MediaType}
-use Rattle.mime_c.specs.Answers.{has_room, has_no_room, holds}
-use Rattle.mime_c.specs.ParameterAnswers.{BoundaryIs, UnescapesTo, room_with, IsParameter, with_parameter, SetsTo}
-use Rattle.mime_c.specs.declared.TheConstants.{MIME_OK, MIME_NO_ROOM}
+use Rattle.mime.specs.{Bytes.is_token_byte, Bytes.is_quoted_byte, Values.MediaType}
+use Rattle.mime_c.specs.{Answers.has_room, Answers.has_no_room, Answers.holds, ParameterAnswers.BoundaryIs, ParameterAnswers.UnescapesTo, ParameterAnswers.room_with, ParameterAnswers.IsParameter, ParameterAnswers.with_parameter, ParameterAnswers.SetsTo, declared.TheConstants.MIME_OK, declared.TheConstants.MIME_NO_ROOM}
 
 -- `a\"b` means three bytes.
 escaped_quote : UnescapesTo (codes "a\\\"b") (codes "-----") MIME_OK (codes "a\"b" ++ 0 ∷ codes "-", 3)

@@ -1,14 +1,10 @@
 -- How many bytes the strings are.
 use Rattle.std.proofs.Common.{◌≡◌, ℕ, zero, suc, ◌+◌, ◌*◌, ◌<◌, ◌≤◌, List, [], ◌∷◌, ◌++◌, length, take, Option, Some, None, sym, ap, ◌∙◌, subst, arith, length-append, length-take}
-use Rattle.std.proofs.lemmas.List.{map-append}
-use Rattle.std.proofs.lemmas.List.Concat.{flat_map-append}
-use Rattle.mime.specs.Grammar.{Parameter, plain, quoted, Parameters, blank, final, more, Tail, no_list, listed, SyntaxTree, text_of, text_of_parameter, text_of_list, text_of_tail}
-use Rattle.mime.specs.Values.{MediaType, Reads, pair_of, pairs_of_list, pairs_of_tail, essence_of, kept_text}
-use Rattle.mime.specs.Cut.{CutItem, ItemsOf, is_read, is_rejected, is_empty, Cut, whole, unfinished, goes_on}
+use Rattle.std.proofs.{lemmas.List.map-append, lemmas.List.Concat.flat_map-append}
+use Rattle.mime.specs.{Grammar.Parameter, Grammar.plain, Grammar.quoted, Grammar.Parameters, Grammar.blank, Grammar.final, Grammar.more, Grammar.Tail, Grammar.no_list, Grammar.listed, Grammar.SyntaxTree, Grammar.text_of, Grammar.text_of_parameter, Grammar.text_of_list, Grammar.text_of_tail, Values.MediaType, Values.Reads, Values.pair_of, Values.pairs_of_list, Values.pairs_of_tail, Values.essence_of, Values.kept_text, Cut.CutItem, Cut.ItemsOf, Cut.is_read, Cut.is_rejected, Cut.is_empty, Cut.Cut, Cut.whole, Cut.unfinished, Cut.goes_on}
 use Rattle.mime.proofs.HandedOut.{length-lowered, positions_of, kept_text_of, length-in_part, text_of-essence, length-essence_of, value_of_low, value_of-lowering, keeps-tree, kept-in_part, split-size, token-size}
-use Rattle.mime_c.specs.Strings.{string_of, strings, texts_of, item_text, item_texts}
+use Rattle.mime_c.specs.{Strings.string_of, Strings.strings, Strings.texts_of, Strings.item_text, Strings.item_texts, declared.TheConstants.MIME_GOOD, declared.TheConstants.MIME_BAD}
 use Rattle.mime_c.proofs.NoZero.{pair_texts}
-use Rattle.mime_c.specs.declared.TheConstants.{MIME_GOOD, MIME_BAD}
 
 -- A string has one byte more than its text.
 length-strings : (text : List ℕ) (texts : List (List ℕ)) → length (strings (text ∷ texts)) ≡ length text + 1 + length (strings texts)

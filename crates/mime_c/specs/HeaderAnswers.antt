@@ -72,8 +72,8 @@ pub data IsBest (ranges offers : List MediaType) : ℕ → ℕ → Type 0 where
 abbrev pub BestIs : Bool → List ℕ → List ℕ → ℕ → ℕ → Type 0
 BestIs is_there line offers = OfOffers is_there line offers (λ at. at) IsBest
 
--- `mime_order` of a header and a list of offers, with the caller's places: the answer, and what the places hold then and how many offers are
--- acceptable, or the position of the first bad one. There may be fewer places than acceptable offers
+-- `mime_order` of a header and a list of offers, with the caller's places: the answer, and what the places hold then and how many offers
+-- are acceptable, or the position of the first bad one. There may be fewer places than acceptable offers
 pub data IsOrder (old : List ℕ) (ranges offers : List MediaType) : ℕ → List ℕ × ℕ → Type 0 where
   order_is : (order : List ℕ) (answer : ℕ) (held : List ℕ × ℕ) → AreInOrder ranges offers order → order ≢ []
       → InRoom (length order) old (old, 0) (Holds (written order old, length order)) answer held → IsOrder old ranges offers answer held

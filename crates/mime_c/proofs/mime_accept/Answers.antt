@@ -1,14 +1,10 @@
 -- Each range is written after those before it, and each answer is what it says.
 use Rattle.std.proofs.Common.{◌≡◌, ℕ, ◌+◌, ◌<◌, ◌≤◌, get_or, List, [], ◌∷◌, ◌++◌, length, map, drop, sym, ap, ◌∙◌, subst, arith, IsOk}
-use Rattle.std.proofs.lemmas.Bool.{true≢false}
-use Rattle.std.proofs.lemmas.List.{drop_more, drop_all}
+use Rattle.std.proofs.{lemmas.Bool.true≢false, lemmas.List.drop_more, lemmas.List.drop_all}
 use Rattle.mime.specs.Values.{OwnedMedia}
 use Rattle.mime_http.specs.HttpList.{Header}
-use Rattle.mime_c.specs.Strings.{strings}
-use Rattle.mime_c.specs.Answers.{has_room, has_no_room}
-use Rattle.mime_c.specs.HeaderAnswers.{range_texts, ranges_texts, are_ranges, ranges_have_no_memory}
-use Rattle.mime_c.proofs.Writing.{Leaves, leaves-holds, leaves-last, strings_of_ranges}
-use Rattle.mime_c.proofs.HeaderRoom.{ranges_fit, ranges_come_back}
+use Rattle.mime_c.specs.{Strings.strings, Answers.has_room, Answers.has_no_room, HeaderAnswers.range_texts, HeaderAnswers.ranges_texts, HeaderAnswers.are_ranges, HeaderAnswers.ranges_have_no_memory}
+use Rattle.mime_c.proofs.{Writing.Leaves, Writing.leaves-holds, Writing.leaves-last, Writing.strings_of_ranges, HeaderRoom.ranges_fit, HeaderRoom.ranges_come_back}
 use Rattle.mime_c.proofs.mime_accept.Goals as goal
 
 -- The strings of ranges.

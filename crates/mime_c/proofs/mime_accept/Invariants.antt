@@ -1,7 +1,6 @@
 -- The ranges that are left are left to write.
 use Rattle.std.proofs.Common.{map, drop}
-use Rattle.mime_c.specs.Strings.{strings}
-use Rattle.mime_c.specs.HeaderAnswers.{ranges_texts}
+use Rattle.mime_c.specs.{Strings.strings, HeaderAnswers.ranges_texts}
 use Rattle.mime_c.proofs.Writing.{Leaves}
 use Rattle.mime_c.proofs.mime_accept.Given as goal
 

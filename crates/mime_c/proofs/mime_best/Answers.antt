@@ -2,8 +2,7 @@
 use Rattle.std.proofs.Common.{◌≡◌, ◌∙◌, ℕ, List, Option, sym, ap, subst, IsOk}
 use Rattle.std.proofs.lemmas.Bool.{true≢false}
 use Rattle.mime.specs.Values.{MediaType}
-use Rattle.mime_http.specs.HttpList.{Header}
-use Rattle.mime_http.specs.Ranges.{best_offer}
+use Rattle.mime_http.specs.{HttpList.Header, Ranges.best_offer}
 use Rattle.mime_c.specs.HeaderAnswers.{are_offers, an_offer_is_bad, offers_have_no_memory, best_is, none_is_best}
 use Rattle.mime_c.proofs.HeaderOutcome.{none_bad}
 use Rattle.mime_c.proofs.mime_best.Goals as goal

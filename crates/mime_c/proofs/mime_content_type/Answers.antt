@@ -2,8 +2,7 @@
 use Rattle.std.proofs.Common.{arith}
 use Rattle.mime_http.proofs.HandedOut.{printed_is_read}
 use Rattle.mime_c.specs.Answers.{has_room, has_no_room, is_read, fails, are_written}
-use Rattle.mime_c.proofs.HeaderRoom.{value_fits}
-use Rattle.mime_c.proofs.NoZero.{texts_come_back}
+use Rattle.mime_c.proofs.{HeaderRoom.value_fits, NoZero.texts_come_back}
 use Rattle.mime_c.proofs.mime_content_type.Goals as goal
 
 pub returns-then-out-value : goal.returns-then-out-value

@@ -1,16 +1,11 @@
 -- Each answer is what it says.
 use Rattle.std.proofs.Common.{◌≡◌, ◌≢◌, ◌∙◌, ◌++◌, ℕ, List, [], length, map, drop, refl, sym, ap, subst, arith, IsOk}
 use Rattle.std.specs.Vec.{vec_items}
-use Rattle.std.proofs.lemmas.Bool.Decides.{nat_tests}
-use Rattle.std.proofs.lemmas.Bool.{true≢false}
-use Rattle.std.proofs.lemmas.List.{length-map, nil_from_length}
+use Rattle.std.proofs.{lemmas.Bool.Decides.nat_tests, lemmas.Bool.true≢false, lemmas.List.length-map, lemmas.List.nil_from_length}
 use Rattle.mime.specs.Values.{MediaType, OwnedMedia}
-use Rattle.mime_http.specs.HttpList.{Header, IsHeader}
-use Rattle.mime_http.specs.Ranges.{AreInOrder}
+use Rattle.mime_http.specs.{HttpList.Header, HttpList.IsHeader, Ranges.AreInOrder}
 use Rattle.mime_http.proofs.HandedOut.{one_header}
-use Rattle.mime_c.specs.Strings.{written}
-use Rattle.mime_c.specs.Answers.{has_room, has_no_room, holds}
-use Rattle.mime_c.specs.HeaderAnswers.{HaveNoEntry, are_offers, an_offer_is_bad, offers_have_no_memory, OrderIs, order_is, none_is_ordered}
+use Rattle.mime_c.specs.{Strings.written, Answers.has_room, Answers.has_no_room, Answers.holds, HeaderAnswers.HaveNoEntry, HeaderAnswers.are_offers, HeaderAnswers.an_offer_is_bad, HeaderAnswers.offers_have_no_memory, HeaderAnswers.OrderIs, HeaderAnswers.order_is, HeaderAnswers.none_is_ordered}
 use Rattle.mime_c.proofs.HeaderOutcome.{none_bad}
 use Rattle.mime_c.proofs.mime_order.Goals as goal
 

@@ -1,8 +1,6 @@
 -- String after string is written.
 use Rattle.std.proofs.Common.{◌≡◌, ℕ, ◌+◌, ◌≤◌, [], ◌∷◌, ◌++◌, sym, ap, ◌∙◌, subst, arith, length, length-append}
-use Rattle.mime_c.specs.Strings.{strings, parts_of}
-use Rattle.mime_c.specs.HeaderAnswers.{four_digits, range_texts}
-use Rattle.mime_c.specs.Writing.{Writes}
+use Rattle.mime_c.specs.{Strings.strings, Strings.parts_of, HeaderAnswers.four_digits, HeaderAnswers.range_texts, Writing.Writes}
 use Rattle.mime_c.proofs.Writing.{both_written, writes-end, strings_of_range}
 use Rattle.mime_c.proofs.put_range.Goals as goal
 
@@ -14,7 +12,8 @@ put-requires c =
     let here : c.copy-end-2.result ≡ c.args.at + 5 = omega (arith, digits, c.copy-end.ensures.end, c.copy-end-2.ensures.end) in
     let there : length c.copy-end-2.new.out ≡ length c.args.out.now = omega (arith, c.copy-end.auto.out, c.copy-end-2.auto.out) in
     let within : c.copy-end-2.result ≤ length c.copy-end-2.new.out = omega (arith, c.requires, all, here, there, length-append {A = ℕ}) in
-    omega (arith, c.requires, all, here, there, writes-end within c.put_parts-end.ensures, c.put_parts-end.auto.out, size, length-append {A = ℕ})
+    let end = writes-end within c.put_parts-end.ensures in
+    omega (arith, c.requires, all, here, there, end, c.put_parts-end.auto.out, size, length-append {A = ℕ})
 
 pub returns : goal.returns
 returns c =

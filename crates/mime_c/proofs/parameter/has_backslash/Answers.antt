@@ -1,7 +1,6 @@
 -- A search finds the first backslash.
 use Rattle.std.proofs.Common.{arith}
-use Rattle.std.proofs.lemmas.Bool.Decides.{nat_tests}
-use Rattle.std.proofs.lemmas.List.Sums.{fails_before_first}
+use Rattle.std.proofs.{lemmas.Bool.Decides.nat_tests, lemmas.List.Sums.fails_before_first}
 use Rattle.mime_http.proofs.HandedOut.{unescaped_same, is_mark, mark_found}
 use Rattle.mime_c.proofs.parameter.has_backslash.Goals as goal
 

@@ -1,12 +1,8 @@
 -- Each answer is what it says.
 use Rattle.std.proofs.Common.{rules, is_some, ◌≡◌, ◌∙◌, ℕ, List, [], ◌∷◌, length, refl, ap, sym, subst, arith, ⊎_elim}
 use Rattle.std.proofs.lemmas.Bool.{cases_lt, true≢false}
-use Rattle.mime.specs.Grammar.{IsToken}
-use Rattle.mime.specs.HeaderLaws.{AreHeaderBytes}
-use Rattle.mime.specs.Values.{MediaType, Reads}
-use Rattle.mime_c.specs.Strings.{ComeBack}
-use Rattle.mime_c.specs.Answers.{has_room, has_no_room, is_read, fails}
-use Rattle.mime_c.specs.ParameterAnswers.{room_with, IsParameter, with_parameter, is_set, isnt_parameter, set_has_no_memory}
+use Rattle.mime.specs.{Grammar.IsToken, HeaderLaws.AreHeaderBytes, Values.MediaType, Values.Reads}
+use Rattle.mime_c.specs.{Strings.ComeBack, Answers.has_room, Answers.has_no_room, Answers.is_read, Answers.fails, ParameterAnswers.room_with, ParameterAnswers.IsParameter, ParameterAnswers.with_parameter, ParameterAnswers.is_set, ParameterAnswers.isnt_parameter, ParameterAnswers.set_has_no_memory}
 use Rattle.mime_c.proofs.ParameterRoom.{set_fits, set_comes_back}
 use Rattle.mime_c.proofs.parameter.mime_set_parameter.Goals as goal
 
@@ -38,7 +34,8 @@ returns-in_default-text_of c =
 
 pub put_string-requires : goal.put_string-requires
 put_string-requires c =
-    let made : c.in-Ok-Some.made.media ≡ with_parameter c.in-Ok.mime.media c.in-Ok-text_of.name.now c.in-Ok-text_of-2.value.now = search rules in
+    let made : c.in-Ok-Some.made.media ≡ with_parameter c.in-Ok.mime.media c.in-Ok-text_of.name.now c.in-Ok-text_of-2.value.now =
+    search rules in
     let is = made_is c.in-Ok.mime.media c.in-Ok-text_of.ensures.cases.0 c.in-Ok-text_of-2.ensures.cases.0 made in
     let room = c.if-not-has_room.ensures.0 refl in
     omega (

@@ -24,7 +24,8 @@ loop-at-preserved c =
     let value = c.args.value.now in
     let at = c.loop-at.at in
     let next = drop_more value at 0 c.loop-at-test.true in
-    let left = means c.loop-at.is_paired (drop at value) (drop (at + 1) value) _ false next (sym c.begins_quoted_pair.ensures ∙ c.if-begins_quoted_pair.false) in
+    let left = means c.loop-at.is_paired (drop at value) (drop (at + 1) value) _ false next
+    (sym c.begins_quoted_pair.ensures ∙ c.if-begins_quoted_pair.false) in
     record {
       writes = leaves-next c.loop-at.invariant.writes _ _ _ _ left c.copy-end.ensures.writes;
       within = omega (arith, c.copy-end.ensures.end, c.loop-at.invariant.within);
