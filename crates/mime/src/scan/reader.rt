@@ -98,13 +98,12 @@ fn end_and_last_plus(text: &[u8], from: usize) -> (usize, usize)
     let mut after_plus = from;
     while at < text.len() {
         let byte = text[at];
-        if !is_token(byte) {
+        if byte == b'+' {
+            after_plus = at + 1;
+        } else if !is_token(byte) {
             return (at, after_plus);
         }
         at += 1;
-        if byte == b'+' {
-            after_plus = at;
-        }
     }
     (at, after_plus)
 }

@@ -9,7 +9,7 @@ ghost use Rattle.mime.specs.Inner.Pairs.{HasPairs};
 
 use crate::name::constants::CHARSET;
 use crate::scan::Positions;
-use crate::value::pairs::{cut, cut_name};
+use crate::value::pairs::{Pairs, cut, cut_name};
 use mime_search::{BLOCK, Rest, eq_ignore_ascii_case};
 use std::alloc::{AllocError, Global};
 
@@ -69,7 +69,8 @@ fn low_len(name: &str, len: usize) -> usize
 }
 
 /// Lowercases everything up to position `semicolon`, the names of the `count` pairs, and the values of `charset`. `bytes`
-/// is a copy of the bytes of `text`. This function isn't inlined: most strings have no capital.
+/// is a copy of the bytes of `text`. This function isn't inlined: most strings have no capital. The only pair is often a
+/// charset, so then all bytes are lowercased.
 #[cold]
 #[inline(never)]
 pub(crate) fn lowercase_text(bytes: &mut [u8], text: &str, semicolon: usize, count: usize)
@@ -79,6 +80,11 @@ pub(crate) fn lowercase_text(bytes: &mut [u8], text: &str, semicolon: usize, cou
     requires some { 0 < count }
     ensures { bytes.new ≡ with_pairs_lowered count semicolon text.now }
 {
+    if Pairs::of_text(text, Some(semicolon), count).is_lone_charset() {
+        let len = bytes.len();
+        lowercase_start(bytes, len);
+        return;
+    }
     let mut left = Rest::of(text, semicolon + 1);
     let mut from = 0;
     for _ in 1..count {

@@ -10,7 +10,6 @@ ghost use Rattle.mime.specs.Inner.Pairs.{HasPairs};
 
 use crate::scan::Positions;
 use crate::value::kept::{has_capital, lowercase_text};
-use crate::value::pairs::Pairs;
 use mime_search::difference_from;
 use std::marker::Model;
 
@@ -49,27 +48,20 @@ fn padded(text: &str) -> [u8; PADDED]
     bytes
 }
 
-/// Lowercases the text at the start of `block`, but only its parts that ignore case. `count` pairs follow position
-/// `semicolon`. The only pair is often a charset, so then the whole block is lowercased.
+/// Lowercases the text at the start of `block`, but only its parts that ignore case. `count` pairs follow position `semicolon`.
 #[inline(always)]
 fn lowercase_pairs(block: &mut [u8; PADDED], text: &str, semicolon: usize, count: usize)
     requires short { length text.now ≤ SHORT }
     requires same { take (length text.now) block.old ≡ text.now }
-    requires zeros { drop (length text.now) block.old ≡ replicate (48 - length text.now) 0 }
     requires parted { slice_get text.now semicolon ≡ Some semicolon_byte }
     requires pairs { HasPairs count (drop (semicolon + 1) text.now) }
     requires some { 0 < count }
     ensures lowered { take (length text.now) block.new ≡ with_pairs_lowered count semicolon text.now }
     ensures rest { drop (length text.now) block.new ≡ drop (length text.now) block.old }
 {
-    if !has_capital(block) {
-        return;
+    if has_capital(block) {
+        lowercase_text(&mut block[..text.len()], text, semicolon, count);
     }
-    if Pairs::of_text(text, Some(semicolon), count).is_lone_charset() {
-        block.make_ascii_lowercase();
-        return;
-    }
-    lowercase_text(&mut block[..text.len()], text, semicolon, count);
 }
 
 impl ShortText {

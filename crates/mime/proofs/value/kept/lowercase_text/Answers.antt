@@ -1,19 +1,29 @@
 -- Each turn lowercases the first pair of what is left, with what is before it.
-use Rattle.std.proofs.Common.{◌≡◌, ◌+◌, ◌-◌, cond, drop, length, length-drop, refl, lit<, ap, sym, subst, ◌∙◌, arith}
-use Rattle.std.proofs.lemmas.List.{take_rest}
+use Rattle.std.proofs.Common.{◌≡◌, ◌+◌, ◌-◌, cond, drop, length, length-drop, refl, lit<, ap, sym, subst, ◌∙◌, arith, ◌++◌, take, append-nil}
+use Rattle.std.proofs.lemmas.List.{take_all, drop_all, take_rest}
 use borrow.Rule.Slice.PartMut.{put_mid}
 use Rattle.mime.specs.Inner.KeptText.{with_pairs_lowered}
 use Rattle.mime.proofs.BytesLemmas.{boundary_after}
 use Rattle.mime_search.specs.Rests.{before_byte, after_byte}
 use Rattle.mime.specs.Bytes.{equals_byte}
-use Rattle.mime.specs.Values.{is_charset}
+use Rattle.mime.specs.Values.{is_charset, lowered}
+use Rattle.mime.specs.Inner.ComparedText.{IsLoneCharset}
 use Rattle.mime.specs.Inner.Pairs.{HasPairs, without_spaces}
-use Rattle.mime.proofs.ValueLemmas.LastPair.{pairs-after, lowered_last, lowered_len, end_within}
+use Rattle.mime.proofs.ValueLemmas.LastPair.{pairs-after, lowered_last, lowered_len, lone_charset-text, end_within}
 use Rattle.mime.proofs.ValueLemmas.LoweredTo.{IsLoweredTo, lowered_to-none, lowered_to-more, lowered_to-last, lowered_to-sizes, low_within}
 use Rattle.mime.proofs.value.kept.lowercase_text.Goals as goal
 
 pub of-left-requires : goal.of-left-requires
 of-left-requires c = boundary_after _ _ _ c.utf8.text c.requires.parted (lit< tt)
+
+pub returns-then-is_lone_charset : goal.returns-then-is_lone_charset
+returns-then-is_lone_charset c =
+    let bytes = c.args.bytes.now in
+    let lone = subst IsLoneCharset c.of_text.ensures (c.is_lone_charset.ensures c.if-is_lone_charset.true) in
+    let all : lowered (take (length bytes) bytes) ++ drop (length bytes) bytes ≡ lowered bytes =
+    rw (take_all (length bytes) bytes (omega arith), drop_all (length bytes) bytes (omega arith)) (append-nil (lowered bytes)) in
+    c.lowercase_start.ensures ∙ all ∙ ap lowered c.requires.same
+    ∙ lone_charset-text c.args.count c.args.semicolon c.args.text.now c.requires.pairs lone
 
 pub loop-init : goal.loop-init
 loop-init c =
@@ -38,8 +48,8 @@ overflow_add-start c =
     let within = low_within c.loop.left _ _ _ _ cut.value_start cut.value c.low_len.ensures in
     omega (arith, within, c.len.ensures, lowered_to-sizes _ _ _ _ _ c.loop.invariant.lowered)
 
-pub lowercase_start-requires : goal.lowercase_start-requires
-lowercase_start-requires c =
+pub lowercase_start-requires-in-loop : goal.lowercase_start-requires-in-loop
+lowercase_start-requires-in-loop c =
     let cut = c.cut-pair.ensures in
     let within = low_within c.loop.left _ _ _ _ cut.value_start cut.value c.low_len.ensures in
     let size = ap length (take_rest c.loop.bytes c.loop.from) ∙ length-drop c.loop.from c.loop.bytes in
@@ -47,15 +57,15 @@ lowercase_start-requires c =
 
 -- what a turn leaves
 next_turn : (c : goal.After-len-in-loop)
-    → let new = put_mid c.loop.from (length c.loop.bytes - c.loop.from) c.loop.bytes c.lowercase_start.new.bytes in
+    → let new = put_mid c.loop.from (length c.loop.bytes - c.loop.from) c.loop.bytes c.lowercase_start-in-loop.new.bytes in
     IsLoweredTo new c.cut-pair.result.rest (length new - length c.cut-pair.result.rest) (c.args.count - (c.loop.counter + 1) + 1)
     (with_pairs_lowered c.args.count c.args.semicolon c.args.text.now)
 next_turn c =
     let cut = c.cut-pair.ensures in
-    lowered_to-more c.loop.bytes c.loop.left c.lowercase_start.new.bytes c.cut-pair.result.rest c.loop.from c.low_len.result _ _ _
+    lowered_to-more c.loop.bytes c.loop.left c.lowercase_start-in-loop.new.bytes c.cut-pair.result.rest c.loop.from c.low_len.result _ _ _
     c.loop.invariant.lowered
     (omega (arith, c.loop-test.true)) (c.low_len.ensures ∙ rw (cut.name, cut.value) refl)
-    (c.lowercase_start.ensures ∙ rw (c.len.ensures, cut.value_start) refl) cut.rest
+    (c.lowercase_start-in-loop.ensures ∙ rw (c.len.ensures, cut.value_start) refl) cut.rest
 
 pub overflow_sub-from : goal.overflow_sub-from
 overflow_sub-from c = omega (arith, c.len-in-loop.ensures, lowered_to-sizes _ _ _ _ _ (next_turn c))

@@ -12,9 +12,6 @@ of-requires-clause-utf8 c =
     let parts = kept-in_part c.args.positions.pair_count c.in-Some.semicolon text in
     subst IsUtf8 (sym c.lowercase_pairs.ensures.lowered) (IsUtf8-in_part text _ parts c.utf8.text)
 
-pub lowercase_pairs-requires-clause-zeros : goal.lowercase_pairs-requires-clause-zeros
-lowercase_pairs-requires-clause-zeros c = zeros-after c.args.text.now _ 48 (c.copy_from_slice.ensures.after ∙ c.as_bytes.ensures.value)
-
 pub lowercase_pairs-requires-clause-parted : goal.lowercase_pairs-requires-clause-parted
 lowercase_pairs-requires-clause-parted c = slice_get-semicolon _ _ _ c.requires.accepted c.in-Some.is
 
