@@ -1,10 +1,8 @@
 -- Lines, rows and errors for which each definition is true, and others for which it is false, so that a definition that says less or more
 -- doesn't check.
 use Rattle.std.proofs.Common.{◌≡◌, ◌*◌, [], ◌∷◌, map, refl, codes}
-use Rattle.mime_io.specs.declared.error.RunError.TheVariants.{Read, Write, TooLong, NoMemory}
+use Rattle.mime_io.specs.{declared.error.RunError.TheVariants.Read, declared.error.RunError.TheVariants.Write, declared.error.RunError.TheVariants.TooLong, declared.error.RunError.TheVariants.NoMemory, Lines.lines_of, Lines.row, Lines.suffix_row, Stops.limit, Stops.stop_text}
 use Rattle.std.specs.Prelude.{Some, None}
-use Rattle.mime_io.specs.Lines.{lines_of, row, suffix_row}
-use Rattle.mime_io.specs.Stops.{limit, stop_text}
 
 -- No bytes have no line.
 no_lines : lines_of [] ≡ []
@@ -27,7 +25,8 @@ empty_row : row (codes "subtype ") [] ≡ codes "subtype \n"
 empty_row = refl
 
 -- A suffix has a row, even if it is empty, and none has none.
-suffix_rows : (suffix_row (Some (codes "xml")) ≡ codes "suffix xml\n") × (suffix_row (Some []) ≡ codes "suffix \n") × (suffix_row None ≡ [])
+suffix_rows : (suffix_row (Some (codes "xml")) ≡ codes "suffix xml\n") × (suffix_row (Some []) ≡ codes "suffix \n")
+    × (suffix_row None ≡ [])
 suffix_rows = (refl, refl, refl)
 
 -- An input has at most 1,024 times 1,024 bytes.
@@ -36,5 +35,6 @@ limit_of_input = refl
 
 -- Each error prints its words.
 printed_errors :
-    map stop_text (Read ∷ Write ∷ TooLong ∷ NoMemory ∷ []) ≡ codes "read" ∷ codes "write" ∷ codes "too long" ∷ codes "no memory" ∷ []
+    map stop_text (Read ∷ Write ∷ TooLong ∷ NoMemory ∷ []) ≡ codes "read" ∷ codes "write" ∷ codes "too long"
+    ∷ codes "no memory" ∷ []
 printed_errors = refl

@@ -1,9 +1,8 @@
 -- How lines are cut off.
 use Rattle.std.proofs.Common.{suc, min, ◌-◌, ◌≡◌, ℕ, ◌+◌, ◌<◌, Bool, true, false, cond, not, List, [], ◌∷◌, length, take, drop, refl, ap, ◌∙◌, arith, nat_eq}
 use Rattle.std.specs.List.{position_or_len, onto_first}
-use Rattle.std.proofs.lemmas.List.Sums.{prefix_len-le-length}
+use Rattle.std.proofs.{lemmas.List.Sums.prefix_len-le-length, lemmas.Grind.common_steps}
 use Rattle.mime_io.specs.Lines.{lines_of}
-use Rattle.std.proofs.lemmas.Grind.{common_steps}
 
 -- A first line goes on with a byte that is put in front of it.
 prefix-shift : (n b : ℕ) (xs : List ℕ)
@@ -34,5 +33,6 @@ lines_of-first (b ∷ bytes) h =
     (λ e. omega (arith, prefix_len-le-length (λ b. not (nat_eq b 10)) bytes))
 
 -- The bytes after a position are none if it is the last.
-pub drop-beyond : (n : ℕ) (xs : List ℕ) → drop (n + 1) xs ≡ take (length xs - min (n + 1) (length xs)) (drop (min (n + 1) (length xs)) xs)
+pub drop-beyond : (n : ℕ) (xs : List ℕ)
+    → drop (n + 1) xs ≡ take (length xs - min (n + 1) (length xs)) (drop (min (n + 1) (length xs)) xs)
 drop-beyond n xs = grind (arith, common_steps)

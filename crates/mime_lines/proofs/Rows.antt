@@ -1,19 +1,9 @@
 -- The rows of a report, as the code adds them.
 use Rattle.std.proofs.Common.{◌≡◌, ℕ, List, [], ◌∷◌, ◌++◌, refl, ap, sym, subst, ◌∙◌, append_assoc, append-nil, ◌≢◌, codes, Result, Ok, Err, OnOk}
-use Rattle.mime.specs.Items.{Item, items_of}
+use Rattle.mime.specs.{Items.Item, Items.items_of, Cut.CutItem, Cut.Cut, Runs.HasNoItem, Runs.IsFirstItem, Faults.IsFault, Faults.Explains, declared.scan.fault.ParseError.ParseError, declared.scan.fault.ParseError.TheVariants.NoMemory}
 use Rattle.std.specs.Str.{IsUtf8}
-use Rattle.mime.specs.Cut.{CutItem, Cut}
-use Rattle.mime.specs.Runs.{HasNoItem, IsFirstItem}
-use Rattle.mime_io.specs.Lines.{lines_of, row}
-use Rattle.mime_lines.specs.Report.{param_rows, item_row, item_rows, ReportsText, ReportsLine, ReportsLines}
-use Rattle.mime_lines.specs.Report.ReportsText.{listed}
-use Rattle.mime_lines.specs.Report.ReportsLine.{is_text}
-use Rattle.mime_lines.specs.Report.ReportsLines.{no_more, line_more}
-use Rattle.mime_io.specs.Inner.{Adds}
-use Rattle.mime_lines.specs.declared.mode.Mode.{Mode}
-use Rattle.mime.specs.Faults.{IsFault, Explains}
-use Rattle.mime.specs.declared.scan.fault.ParseError.{ParseError}
-use Rattle.mime.specs.declared.scan.fault.ParseError.TheVariants.{NoMemory}
+use Rattle.mime_io.specs.{Lines.lines_of, Lines.row, Inner.Adds}
+use Rattle.mime_lines.specs.{Report.param_rows, Report.item_row, Report.item_rows, Report.ReportsText, Report.ReportsLine, Report.ReportsLines, Report.ReportsText.listed, Report.ReportsLine.is_text, Report.ReportsLines.no_more, Report.ReportsLines.line_more, declared.mode.Mode.Mode}
 
 -- These are the rows of what `Params` yields.
 abbrev pub given_rows : List Item → List ℕ
@@ -27,7 +17,8 @@ given_rows-items_of ((name, value) ∷ pairs) =
     ap (λ rows. row (codes "param ") (name ++ (codes "=" ++ value)) ++ rows) (given_rows-items_of pairs)
 
 -- The report on a text is the report on its line.
-pub reported-line : {E : Type 0} (result : Result (Unit {0}) E) (mode : Mode) (text line old new : List ℕ) → text ≡ line → IsUtf8 line
+pub reported-line : {E : Type 0} (result : Result (Unit {0}) E) (mode : Mode) (text line old new : List ℕ) → text ≡ line
+    → IsUtf8 line
     → OnOk result (Adds (ReportsText mode text) old new) → OnOk result (Adds (ReportsLine mode line) old new)
 reported-line (Ok done) mode text line old new is utf8 (rows, report, added) =
     (rows, is_text utf8 (subst (λ t. ReportsText mode t rows) is report), added)
@@ -59,7 +50,8 @@ pub record IsListing (text left old new : List ℕ) : Type 0 where
       → (all : List CutItem) × Cut text all rest × (old ++ item_rows all ≡ new ++ item_rows items)
 
 -- The row of the next item goes before those of the others.
-pub listing-step : (text left next old new added rows : List ℕ) (item : CutItem) → IsListing text left old new → IsFirstItem left item next
+pub listing-step : (text left next old new added rows : List ℕ) (item : CutItem) → IsListing text left old new
+    → IsFirstItem left item next
     → rows ≡ item_row item → added ≡ new ++ rows → IsListing text next old added
 listing-step text left next old new added rows item listing first is joined = record {
   onward = λ items rest cut.
@@ -79,7 +71,8 @@ listing-end text left old new listing (rest, cut) =
     (item_rows all.0, listed all.0 rest all.1, sym (append-nil new) ∙ sym all.2)
 
 -- If no parameters are left, all rows are added.
-pub param_rows-end : (old new : List ℕ) (all left : List Item) (pairs : List (List ℕ × List ℕ)) → left ≡ [] → all ≡ items_of pairs
+pub param_rows-end : (old new : List ℕ) (all left : List Item) (pairs : List (List ℕ × List ℕ)) → left ≡ []
+    → all ≡ items_of pairs
     → new ++ given_rows left ≡ old ++ given_rows all → new ≡ old ++ param_rows pairs
 param_rows-end old new all left pairs none items added =
     sym (append-nil new) ∙ ap (λ xs. new ++ given_rows xs) (sym none) ∙ added ∙ ap (λ xs. old ++ given_rows xs) items
