@@ -79,6 +79,7 @@ from_first : (bytes : List ℕ) → drop (prefix_len is_space bytes) bytes ≡ t
 from_first [] = refl
 from_first (b ∷ bytes) = grind (arith, one-add (prefix_len is_space bytes), from_first bytes)
 
+-- What follows the run of white space at the start is what is kept.
 pub first_kept : (bytes : List ℕ) (end : ℕ) → end ≡ prefix_len is_space bytes
     → take (length bytes - end) (drop end bytes) ≡ trim_start bytes
 first_kept bytes end is = grind (arith, is, take_rest, from_first bytes)
@@ -93,7 +94,8 @@ pub trimmed_from_blank : (piece : List ℕ) → AreSpaces piece → trimmed piec
 trimmed_from_blank piece all = ap trim_end (trimmed_start piece all)
 
 -- A byte at the end is left out if it is white space. Else all bytes stay.
-trim_end-last : (bytes : List ℕ) (b : ℕ) → trim_end (bytes ++ (b ∷ [])) ≡ (if is_space b then trim_end bytes else bytes ++ (b ∷ []))
+trim_end-last : (bytes : List ℕ) (b : ℕ)
+    → trim_end (bytes ++ (b ∷ [])) ≡ (if is_space b then trim_end bytes else bytes ++ (b ∷ []))
 trim_end-last [] b = grind arith
 trim_end-last (c ∷ bytes) b = grind (arith, trim_end-last bytes b, list_all-append is_space bytes (b ∷ []))
 
@@ -103,7 +105,8 @@ pub last_trimmed : (piece : List ℕ) (end : ℕ) → 0 < end → end ≤ length
 last_trimmed piece end some within = grind (arith, take_more piece (end - 1) 0, trim_end-last (take (end - 1) piece))
 
 -- Nothing is left out of bytes of which the last is no white space.
-pub nothing_after : (piece : List ℕ) → (0 < length piece → is_space (get_or piece (length piece - 1) 0) ≡ false) → trim_end piece ≡ piece
+pub nothing_after : (piece : List ℕ) → (0 < length piece → is_space (get_or piece (length piece - 1) 0) ≡ false)
+    → trim_end piece ≡ piece
 nothing_after [] other = refl
 nothing_after (b ∷ bytes) other = grind (arith, take_all (length bytes) bytes, last_trimmed (b ∷ bytes) (suc (length bytes)))
 

@@ -47,7 +47,8 @@ pub unescaped_before : (bytes : List ℕ) (at : ℕ) → at ≤ length bytes →
     → unescaped bytes ≡ take at bytes ++ unescaped (drop at bytes)
 unescaped_before bytes zero within none = refl
 unescaped_before [] (suc at) within none = refl
-unescaped_before (b ∷ bytes) (suc at) within none = grind (arith, nat_tests, none 0, unescaped_before bytes at, λ (i : ℕ). none (suc i))
+unescaped_before (b ∷ bytes) (suc at) within none =
+    grind (arith, nat_tests, none 0, unescaped_before bytes at, λ (i : ℕ). none (suc i))
 
 -- A value without a backslash means itself.
 pub unescaped_same : (bytes : List ℕ) → ((i : ℕ) → i < length bytes → get_or bytes i 0 ≢ 92) → unescaped bytes ≡ bytes
@@ -67,7 +68,8 @@ length-unescaped (b ∷ []) = grind arith
 length-unescaped (b ∷ c ∷ bytes) = grind (arith, length-unescaped bytes, length-unescaped (c ∷ bytes))
 
 -- A value means no more bytes than it has, and as many only if it means itself.
-as_many : (bytes : List ℕ) → (length (unescaped bytes) ≤ length bytes) × (length bytes ≤ length (unescaped bytes) → unescaped bytes ≡ bytes)
+as_many : (bytes : List ℕ) → (length (unescaped bytes) ≤ length bytes) × (length bytes ≤ length (unescaped bytes)
+    → unescaped bytes ≡ bytes)
 as_many [] = (omega arith, λ all. refl)
 as_many (b ∷ []) = grind arith
 as_many (b ∷ c ∷ bytes) = grind (arith, as_many bytes, as_many (c ∷ bytes))
@@ -133,7 +135,8 @@ quoted_len [] few = refl
 quoted_len (b ∷ bytes) few = grind (arith, nat_tests, or_zero_r b, few 0, quoted_len bytes (λ i. few (suc i)))
 
 -- Of a class of all token bytes, a run from within a token at the start ends at the end exactly if all bytes are of the class.
-pub run_after : (class : ℕ → Bool) → ((b : ℕ) → is_token_byte b ≡ true → class b ≡ true) → (value : List ℕ) (plain : ℕ)
+pub run_after : (class : ℕ → Bool) → ((b : ℕ) → is_token_byte b ≡ true → class b ≡ true)
+    → (value : List ℕ) (plain : ℕ)
     → plain ≤ prefix_len is_token_byte value
     → (plain + prefix_len class (drop plain value) == length value) ≡ list_all class value
 run_after class wider value plain passed =
@@ -171,12 +174,14 @@ plain_len : (class : Class) → ((b : ℕ) → is_stop class b ≡ (b == 34 || b
 plain_len class stops [] = refl
 plain_len class stops (b ∷ bytes) = grind (arith, stops b, plain_len class stops bytes)
 
+-- A search for a quote or a backslash passes the bytes that need no backslash.
 pub plain_found : (class : Class) → ((b : ℕ) → is_stop class b ≡ (b == 34 || b == 92)) → (value : List ℕ) (from at : ℕ)
     → at ≡ end_of_run class value from → at ≡ from + prefix_len is_plain (drop from value)
 plain_found class stops value from at is = omega (arith, is, plain_len class stops (drop from value))
 
 -- Bytes that need no backslash are written as they are.
-run_written : (bytes : List ℕ) → escaped bytes ≡ take (prefix_len is_plain bytes) bytes ++ escaped (drop (prefix_len is_plain bytes) bytes)
+run_written : (bytes : List ℕ)
+    → escaped bytes ≡ take (prefix_len is_plain bytes) bytes ++ escaped (drop (prefix_len is_plain bytes) bytes)
 run_written [] = refl
 run_written (b ∷ bytes) = grind (arith, nat_tests, one-add (prefix_len is_plain bytes), run_written bytes)
 
@@ -200,7 +205,8 @@ special_written value text whole from at within special run is =
 -- ---- what is written in a form
 
 -- Content that is kept is written as it is.
-pub kept_text : (name bytes : List ℕ) → text_in (if is_token_value bytes then Token else Quoted) name bytes ≡ text_of_pair (name, bytes)
+pub kept_text : (name bytes : List ℕ)
+    → text_in (if is_token_value bytes then Token else Quoted) name bytes ≡ text_of_pair (name, bytes)
 kept_text name bytes = grind arith
 
 -- What is written for a value is a token exactly if the value is one.
@@ -215,7 +221,8 @@ form_text name [] = refl
 form_text name (b ∷ value) = grind (arith, all_tokens (b ∷ value), plain_text (b ∷ value), token_text (b ∷ value))
 
 -- A parameter in its form is written after all others.
-pub last_written : (name value essence text : List ℕ) (pairs : List (List ℕ × List ℕ)) (form : Form) → text ≡ essence ++ text_of_pairs pairs
+pub last_written : (name value essence text : List ℕ) (pairs : List (List ℕ × List ℕ)) (form : Form)
+    → text ≡ essence ++ text_of_pairs pairs
     → form ≡ form_of value → text ++ text_in form name value ≡ essence ++ text_of_pairs (pairs ++ ((name, escaped value) ∷ []))
 last_written name value essence text pairs form is fits = grind (arith, form_text, flat_map-append, append-nil, append_assoc)
 

@@ -24,7 +24,8 @@ opens_none b (c ∷ bytes) other = rw other refl
 -- ---- a piece passes
 
 -- After a string's content and its quote, the piece after it passes.
-string_passes : {content : List ℕ} (piece : List ℕ) → IsInString content → IsWhole Outside piece → IsWhole Quoted (content ++ (34 ∷ piece))
+string_passes : {content : List ℕ} (piece : List ℕ) → IsInString content → IsWhole Outside piece
+    → IsWhole Quoted (content ++ (34 ∷ piece))
 string_passes piece string_end whole = (refl, whole)
 string_passes piece (string_byte b content quote backslash inside) whole = (refl, rw (backslash, quote) (string_passes piece inside whole))
 string_passes piece (string_pair b content inside) whole = (refl, (refl, string_passes piece inside whole))
@@ -39,11 +40,13 @@ piece_passes (piece_string content piece inside rest) = (refl, (refl, string_pas
 -- ---- what passes is a piece
 
 -- a string may have a byte or a pair more at its start
-more_text : {bytes : List ℕ} (b : ℕ) → (b == 34) ≡ false → (b == 92) ≡ false → IsPiece (61 ∷ 34 ∷ bytes) → IsPiece (61 ∷ 34 ∷ b ∷ bytes)
+more_text : {bytes : List ℕ} (b : ℕ) → (b == 34) ≡ false → (b == 92) ≡ false → IsPiece (61 ∷ 34 ∷ bytes)
+    → IsPiece (61 ∷ 34 ∷ b ∷ bytes)
 more_text b quote single (piece_byte _ _ _ opens _) = absurd (true≢false opens)
 more_text b quote single (piece_string content piece inside rest) =
     piece_string (b ∷ content) piece (string_byte b content quote single inside) rest
 
+-- A string may have a pair more at its start.
 more_pair : {bytes : List ℕ} (b : ℕ) → IsPiece (61 ∷ 34 ∷ bytes) → IsPiece (61 ∷ 34 ∷ 92 ∷ b ∷ bytes)
 more_pair b (piece_byte _ _ _ opens _) = absurd (true≢false opens)
 more_pair b (piece_string content piece inside rest) = piece_string (92 ∷ b ∷ content) piece (string_pair b content inside) rest
@@ -58,10 +61,12 @@ Continues Paired bytes = IsPiece (61 ∷ 34 ∷ 92 ∷ bytes)
 -- A byte outside strings that is no comma may stand before what goes on from it.
 byte_before : (b : ℕ) (bytes : List ℕ) → (b == 44) ≡ false → Continues (after Outside b) bytes → IsPiece (b ∷ bytes)
 byte_before b bytes on = cond_both (b == 61) _ _ (λ place. Continues place bytes → IsPiece (b ∷ bytes))
-    (λ equals. subst (λ c. IsPiece (c ∷ bytes)) (sym (eqb-true b 61 equals))) (λ other. piece_byte b bytes on (opens_none b bytes other))
+    (λ equals. subst (λ c. IsPiece (c ∷ bytes)) (sym (eqb-true b 61 equals)))
+        (λ other. piece_byte b bytes on (opens_none b bytes other))
 
 -- At each place, a byte that ends no piece may stand before what goes on from it.
-further : (place : At) (b : ℕ) (bytes : List ℕ) → ends_piece place b ≡ false → Continues (after place b) bytes → Continues place (b ∷ bytes)
+further : (place : At) (b : ℕ) (bytes : List ℕ) → ends_piece place b ≡ false → Continues (after place b) bytes
+    → Continues place (b ∷ bytes)
 further Outside b bytes on = byte_before b bytes on
 further Equals b bytes on = cond_both (b == 34) _ _ (λ place. Continues place bytes → IsPiece (61 ∷ b ∷ bytes))
     (λ quote. subst (λ c. IsPiece (61 ∷ c ∷ bytes)) (sym (eqb-true b 34 quote)))
@@ -128,7 +133,8 @@ pub ends_outside : (line : List ℕ) (at : ℕ) → (at < length line → get_or
 ends_outside line at is_comma = grind (arith, nat_tests, drop_more line at 0, drop_of_length-le line {i = at}, is_comma)
 
 -- Bytes before the first comma or quote, but for the last of them, go on with a piece.
-pub run_to : (bytes : List ℕ) (n : ℕ) → n ≤ before_mark 44 34 bytes - 1 → n + piece_len Outside (drop n bytes) ≡ piece_len Outside bytes
+pub run_to : (bytes : List ℕ) (n : ℕ) → n ≤ before_mark 44 34 bytes - 1
+    → n + piece_len Outside (drop n bytes) ≡ piece_len Outside bytes
 run_to bytes zero less = omega arith
 run_to [] (suc n) less = absurd (omega (arith, less))
 run_to (b ∷ []) (suc n) less = grind (arith, nat_tests, less)
@@ -167,7 +173,8 @@ string_left paired (b ∷ bytes) =
     grind (arith, nat_tests, next, string_left (awaits_next paired b) bytes)
 
 -- At the position after a string's content and its quote, a piece goes on outside strings.
-pub string_closed : (line : List ℕ) (from to : ℕ) → from ≤ length line → to ≡ min (from + len_from false (drop from line) + 1) (length line)
+pub string_closed : (line : List ℕ) (from to : ℕ) → from ≤ length line
+    → to ≡ min (from + len_from false (drop from line) + 1) (length line)
     → to + piece_len Outside (drop to line) ≡ from + piece_len Quoted (drop from line)
 string_closed line from to within is =
     let n = min (len_from false (drop from line) + 1) (length (drop from line)) in
@@ -177,7 +184,8 @@ string_closed line from to within is =
 -- ---- the next mark
 
 -- A search that stops at two marks finds the first of them.
-pub mark_found : (class : Class) (one other : ℕ) → ((b : ℕ) → is_stop class b ≡ is_mark one other b) → (line : List ℕ) (from to : ℕ)
+pub mark_found : (class : Class) (one other : ℕ) → ((b : ℕ) → is_stop class b ≡ is_mark one other b)
+    → (line : List ℕ) (from to : ℕ)
     → to ≡ end_of_run class line from → to ≡ from + before_mark one other (drop from line)
 mark_found class one other are line from to is = is ∙ (λ i. from + prefix_len (λ b. not (are b i)) (drop from line))
 
@@ -230,13 +238,15 @@ ended Quoted = (34 ∷ [], (refl, tt))
 ended Paired = (0 ∷ 34 ∷ [], (refl, (refl, tt)))
 
 -- Bytes without a comma outside strings begin a piece.
-more_to_whole : (place : At) (bytes : List ℕ) → length bytes ≤ piece_len place bytes → (more : List ℕ) × IsWhole place (bytes ++ more)
+more_to_whole : (place : At) (bytes : List ℕ) → length bytes ≤ piece_len place bytes
+    → (more : List ℕ) × IsWhole place (bytes ++ more)
 more_to_whole place [] past = ended place
 more_to_whole place (b ∷ bytes) past = ⊎_elim (λ (end : ends_piece place b ≡ true). absurd (grind (arith, past, end)))
     (λ (on : ends_piece place b ≡ false).
     let rest = more_to_whole (after place b) bytes (grind (arith, past, on)) in (rest.0, (on, rest.1))) (cases_Bool (ends_piece place b))
 
 module _ (line : List ℕ) {end : ℕ} (is : end ≡ piece_len Outside line) where
+  -- A line's first entry is a piece, which a comma ends.
   pub first_entry : end < length line → (line ≡ take end line ++ (44 ∷ drop (end + 1) line)) × IsPiece (take end line)
   first_entry within =
       let whole = piece_before Outside line (omega (arith, is, within)) in (
@@ -244,6 +254,7 @@ module _ (line : List ℕ) {end : ℕ} (is : end ≡ piece_len Outside line) whe
         subst (λ n. IsPiece (take n line)) (sym is) (is_piece Outside _ whole.1),
       )
 
+  -- A line without a comma outside strings begins a piece.
   pub last_entry : length line ≤ end → BeginsPiece line
   last_entry past = let more = more_to_whole Outside line (omega (arith, is, past)) in (more.0, is_piece Outside _ more.1)
 
@@ -258,7 +269,8 @@ is_cut (suc most) line short {lines} {pieces} rest =
     rw (cut_goes_on Outside [] line) (⊎_elim (λ less.
     let first = first_entry line refl less in
     let others = is_cut most (drop (n + 1) line) (omega (arith, short, less, length-drop (n + 1) line)) rest in
-    subst (λ text. AreBetweenCommas IsPiece BeginsPiece (text ∷ lines) (take n line ∷ (cut_after (drop n line) ++ pieces))) (sym first.0)
+    subst (λ text. AreBetweenCommas IsPiece BeginsPiece (text ∷ lines) (take n line ∷ (cut_after (drop n line) ++ pieces)))
+        (sym first.0)
     (rw (drop_more line n 0 less) (comma (take n line) (drop (n + 1) line) lines _ first.1 others)))
     (λ past. rw (take_all n line past, drop_of_length-le line past) (line_end line lines pieces (last_entry line refl past) rest))
     (cases_lt n (length line)))

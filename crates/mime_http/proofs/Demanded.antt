@@ -56,7 +56,8 @@ first_is name found (pair ∷ pairs) is = grind (arith, bytes_eq-Decides pair.0 
 
 -- The tree with the weight in place of the parameters is well formed, too. So the weight is the only parameter, since a text is read in
 -- one way.
-pub weight_alone : (media : MediaType) (rest n : List ℕ) (d : ℕ) → Reads media.kept media → rest ≡ drop (length media.essence) media.kept
+pub weight_alone : (media : MediaType) (rest n : List ℕ) (d : ℕ) → Reads media.kept media
+    → rest ≡ drop (length media.essence) media.kept
     → rest ≡ 59 ∷ (n ++ (113 ∷ 61 ∷ 48 ∷ 46 ∷ d ∷ [])) → AreSpaces n → is_ascii_digit d ≡ true
     → media.pairs ≡ (113 ∷ [], 48 ∷ 46 ∷ d ∷ []) ∷ []
 unfolding is_token_byte
@@ -64,7 +65,8 @@ weight_alone media rest n d reads after is spaces digit =
     let tree = reads.tree in
     let other : SyntaxTree = record tree { tail = listed (final n (plain (113 ∷ []) (48 ∷ 46 ∷ d ∷ []))) } in
     let kept : media.kept ≡ essence_of tree ++ text_of_tail tree.tail = sym reads.spelled ∙ text_of-essence tree in
-    let long : length media.essence ≡ length (essence_of tree) = ap (λ value. length value.essence) (sym reads.valued) ∙ simp lengths in
+    let long : length media.essence ≡ length (essence_of tree) =
+        ap (λ value. length value.essence) (sym reads.valued) ∙ simp lengths in
     let tail = sym (ap₂ drop long kept ∙ drop-append_seam (essence_of tree) (text_of_tail tree.tail)) ∙ (sym after ∙ is) in
     let again : Reads media.kept (value_of other) = record {
       tree = other;
@@ -75,14 +77,17 @@ weight_alone media rest n d reads after is spaces digit =
     ap (λ value. value.pairs) (one_reading media.kept media (value_of other) reads again)
 
 -- A range demands nothing else, and weighs these tenths, if the weight is written after this white space.
-pub weight_of_one_decimal : (n : List ℕ) (d weight : ℕ) (offer media : MediaType) (rest : List ℕ) → AreSpaces n → Reads media.kept media
+pub weight_of_one_decimal : (n : List ℕ) (d weight : ℕ) (offer media : MediaType) (rest : List ℕ) → AreSpaces n
+    → Reads media.kept media
     → rest ≡ drop (length media.essence) media.kept → length rest ≡ 6 + length n
-    → HasBytesAt rest 0 (59 ∷ (n ++ (113 ∷ 61 ∷ 48 ∷ 46 ∷ d ∷ []))) → is_ascii_digit d ≡ true → weight ≡ 100 * (d - 48)
+    → HasBytesAt rest 0 (59 ∷ (n ++ (113 ∷ 61 ∷ 48 ∷ 46 ∷ d ∷ []))) → is_ascii_digit d ≡ true
+        → weight ≡ 100 * (d - 48)
     → Some (0, weight) ≡ found_in offer media.pairs
 weight_of_one_decimal n d weight offer media rest spaces reads after long bytes digit tenths =
     let whole = text_from_reads rest _ (omega (arith, long, length-append n (113 ∷ 61 ∷ 48 ∷ 46 ∷ d ∷ []))) bytes in
     let read : weight ≡ read_number (48 ∷ 46 ∷ d ∷ []) = rw digit (omega (arith, tenths)) in
-    rw (weight_alone media rest n d reads after whole spaces digit) (ap (λ weight. Some (0, weight)) (read ∙ read_is (48 ∷ 46 ∷ d ∷ [])))
+    rw (weight_alone media rest n d reads after whole spaces digit)
+        (ap (λ weight. Some (0, weight)) (read ∙ read_is (48 ∷ 46 ∷ d ∷ [])))
 
 -- ---- a media type covers itself
 
@@ -113,7 +118,8 @@ all_by_meaning : (offer : MediaType) (pairs : List (List ℕ × List ℕ))
     → list_all (has offer) (demanded pairs) ≡ list_all (has_meant (map meaning_of offer.pairs)) (demanded (map meaning_of pairs))
 all_by_meaning offer pairs =
     let has_meaning = has_meant (map meaning_of offer.pairs) in
-    sym (ap (list_all has_meaning) (demanded-map pairs) ∙ (list_all-map has_meaning meaning_of (demanded pairs) ∙ (λ i. list_all (λ pair.
+    sym (ap (list_all has_meaning) (demanded-map pairs)
+        ∙ (list_all-map has_meaning meaning_of (demanded pairs) ∙ (λ i. list_all (λ pair.
     list_any-map (λ own. bytes_eq own.0 pair.0 && bytes_eq own.1 (unescaped pair.1)) meaning_of offer.pairs i) (demanded pairs))))
 
 -- A header says the same of media types that mean the same.

@@ -4,7 +4,8 @@ use Rattle.std.{proofs.lemmas.Cmp.upto, proofs.lemmas.List.Elements.All-cons, pr
 use borrow.Author.Count.{below_more}
 
 -- the value of an item's value is the one at its position
-pub value_at : {X Y Z : Type 0} (f : Y → Z) (g : X → Y) (xs : List X) (i : ℕ) (x : X) (d : Z) → i < length xs → x ≡ get_or xs i x
+pub value_at : {X Y Z : Type 0} (f : Y → Z) (g : X → Y) (xs : List X) (i : ℕ) (x : X) (d : Z) → i < length xs
+    → x ≡ get_or xs i x
     → f (g x) ≡ get_or (map f (map g xs)) i d
 value_at f g xs i x d within is = grind (arith, is, get_or-map f (map g xs) i (g x) d, get_or-map g xs i x (g x), length-map xs g)
 
@@ -42,6 +43,7 @@ cmp = option_cmp rank_cmp
 abbrev NotAbove : Option Rank → Option Rank → Type 0
 NotAbove top one = is_gt (cmp one top) ≡ false
 
+-- What is not above a second rank, which is not above a third, is not above the third.
 up_to : (x y z : Option Rank) → NotAbove y x → NotAbove z y → NotAbove z x
 up_to = upto (options_total ranks_total)
 
@@ -82,7 +84,8 @@ abbrev pub is_top : List Rank → Rank → Bool
 is_top all one = list_all (is_low one) all
 
 -- what is found, if no other passes
-find_one : {X : Type 0} (p : X → Bool) (xs : List X) (x : X) → list_any p xs ≡ true → All (λ y. p y ≡ true → y ≡ x) xs → find p xs ≡ Some x
+find_one : {X : Type 0} (p : X → Bool) (xs : List X) (x : X) → list_any p xs ≡ true → All (λ y. p y ≡ true → y ≡ x) xs
+    → find p xs ≡ Some x
 find_one p [] x some one = absurd cc
 find_one p (y ∷ xs) x some one =
     ⊎_elim (λ passes. rw passes (ap Some (one 0 y (omega arith) passes)))
@@ -103,7 +106,8 @@ found_top (rank ∷ ranks) = by (fold (ord_max cmp) None (map Some all)) (top_of
         let (k, within, there) : Contains all top = rw (same_Some _ _ found.2) at found.1 in
         let top_passes = list_all-from_AllPass (is_low top) all (λ j d inside.
         let low = is.above j d inside in grind (arith, nat_tests, low)) in
-        find_one (is_top all) all top (list_any_at (is_top all) all k top within (ap (is_top all) there ∙ top_passes)) (λ j d inside passes.
+        find_one (is_top all) all top (list_any_at (is_top all) all k top within (ap (is_top all) there ∙ top_passes))
+            (λ j d inside passes.
         let low = is.above j d inside in
         let high = rw there at (AllPass-from_list_all (is_low (get_or all j d)) all passes k top within) in
         one_rank _ top (grind (arith, nat_tests, low, high)))
@@ -122,7 +126,8 @@ pub closest_is_closest : ClosestIsClosest
 closest_is_closest ranges offer =
     let items = enumerate_from 0 ranges in
     let is = subst (IsTop (closeness offer) None items) (closest_is_kept ranges offer) (top_of (closeness offer) None items) in
-    let low = λ (item : ℕ × MediaType). All-contains (λ item. NotAbove (closest ranges offer) (closeness offer item)) items item is.above in
+    let low = λ (item : ℕ × MediaType). All-contains (λ item. NotAbove (closest ranges offer) (closeness offer item)) items
+        item is.above in
     by_option (closest ranges offer) (λ none. rw none (λ item there. grind (arith, nat_tests, low item there, none)))
     (λ close found. rw found (
       ⊎_elim (λ none. absurd cc) (λ found. found) (rw found at is.among),

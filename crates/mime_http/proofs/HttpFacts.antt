@@ -1,8 +1,7 @@
 -- Worked facts of the pages `HttpMediaType`, `HttpFaults` and `HttpList`, and of `Unescaped`, `Written` and `Boundary`: values that are
 -- media types, values that aren't, their faults, and what is printed of a value.
 use Rattle.mime_http.proofs.Common.{Parameter, SyntaxTree, IsUtf8-nil, HttpExplains, HttpReads, InvalidToken, IsBoundary, IsBoundaryOf, IsContent-taken, IsHttpFault, IsHttpMediaType, IsPrinted, List, MediaType, media_of, MissingQuote, MissingSubtype, MissingValue, NeedsMemory, None, Parts, [], anew, ap, arith, as_it_stands, bytes_eq, bytes_eq-Decides, codes, escaped, false, final, is_quoted_byte, is_token_byte, is_token_value, length, listed, others, quoted, refl, same_Some, stopped-from_walk, sym, text_of_pair, text_of_pairs, trimmed, true, true≢false, unescaped, with_pair, with_pairs, ℕ, ◌++◌, ◌∙◌, ◌∷◌, ◌≡◌, ◌≢◌}
-use Rattle.mime_http.specs.declared.value.FieldError.TheVariants.{Invalid, NotUtf8, NoMemory as OutOfMemory}
-use Rattle.mime_http.specs.HttpFaults.{fault_position}
+use Rattle.mime_http.specs.{declared.value.FieldError.TheVariants.Invalid, declared.value.FieldError.TheVariants.NotUtf8, declared.value.FieldError.TheVariants.NoMemory as OutOfMemory, HttpFaults.fault_position}
 use Rattle.mime_http.proofs.{Around.white_more, Around.put_ascii, HttpLaws.one_printed_text, HttpLaws.short_needs_none, HttpLaws.anew_needs, HttpLaws.anew_is, HttpLaws.written_reads, ReadBack.answered_is_http, ReadFaults.answered_fault, ReadFaults.fault_answered, ReadFaults.rejected_is_none as none}
 
 -- ` text/HTML ;; charset="UTF-8" `
@@ -11,7 +10,8 @@ value = codes " text/HTML ;; charset=\"UTF-8\" "
 
 -- its media type, with this kept text
 abbrev html_type : List ℕ → MediaType
-html_type kept = record { essence = codes "text/html"; slash = 4; plus = None; pairs = (codes "charset", codes "utf-8") ∷ []; kept = kept }
+html_type kept = record { essence = codes "text/html"; slash = 4; plus = None; pairs = (codes "charset", codes "utf-8") ∷ [];
+    kept = kept }
 
 -- its parts as they stand
 parts : Parts
@@ -101,7 +101,7 @@ lettered letters = codes " a/b;;p=" ++ letters
 abbrev letter_parts : List ℕ → Parts
 letter_parts letters = record { top = codes "a"; sub = codes "b"; pairs = (codes "p", letters) ∷ [] }
 
--- With 34 letters these are 41 bytes, which need memory. With 33 letters they are 40, which need none, nor does what is no media type.
+-- A value that prints 41 bytes needs memory. One that prints 40 needs none, nor does what is no media type.
 memory : NeedsMemory (lettered (codes "abcdefghijklmnopqrstuvwxyzabcdefgh"))
     × ¬ (NeedsMemory (lettered (codes "abcdefghijklmnopqrstuvwxyzabcdefg"))) × ¬ (NeedsMemory (codes "a b"))
 unfolding is_token_byte is_quoted_byte

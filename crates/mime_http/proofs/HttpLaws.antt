@@ -14,7 +14,8 @@ pub written_reads : (value : List ℕ) (parts : Parts) → answer_of value ≡ r
 written_reads value parts is = grind (arith, are_found, parts_are_read)
 
 -- What is written of the parts of a value in UTF-8 is in UTF-8.
-pub written_is_utf8 : (value : List ℕ) (parts : Parts) → IsUtf8 value → answer_of value ≡ read parts → IsUtf8 (text_of_parts parts)
+pub written_is_utf8 : (value : List ℕ) (parts : Parts) → IsUtf8 value → answer_of value ≡ read parts
+    → IsUtf8 (text_of_parts parts)
 written_is_utf8 value parts utf8 is =
     let found = are_found value parts is in
     put_token parts.top _ found.is_top (put_one 47 _ (omega arith) (put_token parts.sub _ found.is_sub (found.utf8 utf8)))
@@ -97,14 +98,16 @@ error_is_memory value (Invalid fault) utf8 is why = absurd (no_fault value fault
 error_is_memory value field.NoMemory utf8 is why = refl
 
 -- A media type of which at most 40 bytes are printed needs no memory.
-pub short_needs_none : (value : List ℕ) (media : MediaType) → HttpReads value media → IsPrinted value media → length media.kept ≤ 40
+pub short_needs_none : (value : List ℕ) (media : MediaType) → HttpReads value media → IsPrinted value media
+    → length media.kept ≤ 40
     → ¬ (NeedsMemory value)
 short_needs_none value media reads printed few needs =
     let same = one_printed_text value media needs.media reads printed needs.is needs.printed in
     absurd (omega (arith, few, needs.long, ap (λ (it : MediaType). length it.kept) same))
 
 -- A media type of which at most 40 bytes are printed has no error.
-pub short_has_none : {T : Type 0} (value : List ℕ) (media : MediaType) → IsUtf8 value → HttpReads value media → IsPrinted value media
+pub short_has_none : {T : Type 0} (value : List ℕ) (media : MediaType) → IsUtf8 value → HttpReads value media
+    → IsPrinted value media
     → length media.kept ≤ 40 → (result : Result T FieldError) → IfErr result (HttpExplains value) → IsOk result
 short_has_none value media utf8 reads printed few (Ok mime) explained = refl
 short_has_none value media utf8 reads printed few (Err error) why =

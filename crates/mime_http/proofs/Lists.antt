@@ -21,7 +21,8 @@ follows (in_subtype top []) b = grind (arith, nat_tests)
 follows (in_subtype top (s ∷ sub)) b = grind (arith, nat_tests)
 follows (in_value parts name []) b = grind (arith, nat_tests)
 follows (in_value parts name (v ∷ value)) b = grind (arith, nat_tests)
-follows (in_string parts name content) b = ⊎_elim (λ paired. grind (arith, nat_tests, paired, awaits_after-append false content (b ∷ [])))
+follows (in_string parts name content) b =
+    ⊎_elim (λ paired. grind (arith, nat_tests, paired, awaits_after-append false content (b ∷ [])))
     (λ text. grind (arith, nat_tests, text, awaits_after-append false content (b ∷ []))) (cases_Bool (awaits_after false content))
 follows state b = grind (arith, nat_tests)
 
@@ -153,11 +154,13 @@ one_header lines header other first second =
 -- A text is UTF-8 or isn't.
 pub utf8_or_not : (text : List ℕ) → IsUtf8 text ⊎ ¬ (IsUtf8 text)
 utf8_or_not text =
-    ⊎_elim (λ is. inl (IsUtf8-from_is_utf8 text is)) (λ isnt. inr (λ utf8. true≢false (sym (is_utf8-from_IsUtf8 text utf8) ∙ isnt)))
+    ⊎_elim (λ is. inl (IsUtf8-from_is_utf8 text is))
+        (λ isnt. inr (λ utf8. true≢false (sym (is_utf8-from_IsUtf8 text utf8) ∙ isnt)))
     (cases_Bool (is_utf8 text))
 
 -- A value is a media type as HTTP writes it, and is printed in some way, or it isn't one.
-pub read_or_not : (value : List ℕ) → ((media : MediaType) × HttpReads value media × IsPrinted value media) ⊎ ¬ (IsHttpMediaType value)
+pub read_or_not : (value : List ℕ) → ((media : MediaType) × HttpReads value media × IsPrinted value media)
+    ⊎ ¬ (IsHttpMediaType value)
 read_or_not value = by_answer (answer_of value) refl
   where
     by_answer : (answer : Answer) → answer_of value ≡ answer

@@ -8,7 +8,8 @@ use Rattle.mime_http.{specs.HttpList.blank, proofs.Around.AreAscii, proofs.Aroun
 weights : (map thousandths_of (codes "0.5" ∷ codes "1.000" ∷ codes "0.001" ∷ codes "0" ∷ []) ≡ 500 ∷ 1000 ∷ 1 ∷ 0 ∷ [])
     -- Of strings that are no weights, three digits after the dot count, and digits before another byte. None need be before the dot,
     -- `2` is worth no more than 1, and a word is worth nothing.
-    × (map thousandths_of (codes "0.1239" ∷ codes "0x.5" ∷ codes ".2" ∷ codes "2" ∷ codes "high" ∷ []) ≡ 123 ∷ 0 ∷ 200 ∷ 1000 ∷ 0 ∷ [])
+    × (map thousandths_of (codes "0.1239" ∷ codes "0x.5" ∷ codes ".2" ∷ codes "2" ∷ codes "high" ∷ []) ≡ 123 ∷ 0 ∷ 200
+        ∷ 1000 ∷ 0 ∷ [])
 weights = (refl, refl)
 
 -- by the law, too
@@ -21,7 +22,8 @@ no_weight is = let same : 1000 ≡ 500 = weight_is_number (codes "1.5") 500 is i
 
 -- ---- pieces
 
--- lines and their pieces: a comma in a string ends no piece, nor does one after a quote that a backslash stands before,
+-- A comma in a string ends no piece, nor does one after a quote with a backslash before it, or in a string that isn't closed. A quote opens
+-- a string only right after an equals sign.
 pieces : (cut (codes "a/b;p=\"x,y\",c/d") ≡ codes "a/b;p=\"x,y\"" ∷ codes "c/d" ∷ [])
     × (cut (codes "a/b;p=\"\\\",\",c/d") ≡ codes "a/b;p=\"\\\",\"" ∷ codes "c/d" ∷ [])
     -- or in a string that isn't closed; and a quote opens a string only right after an equals sign
@@ -56,7 +58,8 @@ as_range text parts ascii answered same =
 -- empty elements are no elements
 two_elements : AreHttpLists (codes ",a/b , ,c/d" ∷ []) (media_of a_b ∷ media_of c_d ∷ [])
 unfolding is_token_byte
-two_elements = read_are_http_lists (codes ",a/b , ,c/d" ∷ []) (record { ranges = media_of a_b ∷ media_of c_d ∷ []; bad = [] }) (record {
+two_elements = read_are_http_lists (codes ",a/b , ,c/d" ∷ [])
+    (record { ranges = media_of a_b ∷ media_of c_d ∷ []; bad = [] }) (record {
   pieces = _;
   cut = are_cut _;
   sorted = blank [] _ _ _ refl (as_range (codes "a/b ") a_b (omega arith) refl refl
@@ -69,9 +72,11 @@ unfolding is_token_byte
 not_media_type = rejected_is_none (codes " a b") _ refl
 
 -- An entry of two pieces is bad as a whole, also between two others.
-bad_between : IsHeader (codes "c/d, a b" ∷ codes "a/b " ∷ []) (record { ranges = media_of c_d ∷ media_of a_b ∷ []; bad = codes "a b" ∷ [] })
+bad_between : IsHeader (codes "c/d, a b" ∷ codes "a/b " ∷ [])
+    (record { ranges = media_of c_d ∷ media_of a_b ∷ []; bad = codes "a b" ∷ [] })
 unfolding is_token_byte
-bad_between = (bad_is_alone (codes "c/d, a b" ∷ codes "a/b " ∷ []) (codes "c/d" ∷ codes "a/b " ∷ []) (codes "c/d" ∷ []) (codes "a/b " ∷ [])
+bad_between = (bad_is_alone (codes "c/d, a b" ∷ codes "a/b " ∷ []) (codes "c/d" ∷ codes "a/b " ∷ []) (codes "c/d" ∷ [])
+    (codes "a/b " ∷ [])
     (codes " a b") _ _ [] [] (as_range (codes "c/d") c_d (omega arith) refl refl no_text)
     (as_range (codes "a/b ") a_b (omega arith) refl refl no_text)
     (λ blank. true≢false (sym blank)) (λ is. not_media_type is.1) (are_cut _) (are_cut _)).0

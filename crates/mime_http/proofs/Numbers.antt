@@ -1,7 +1,6 @@
 -- A weight that is read digit by digit is the number that its text begins with.
-use Rattle.mime_http.specs.Ranking.{are_decimals, is_qvalue}
+use Rattle.mime_http.specs.{Ranking.are_decimals, Ranking.is_qvalue, RangesLaws.zero, RangesLaws.one}
 use Rattle.mime_http.proofs.Common.{Bool, IsQvalue, QvaluesAre, nat_lt, suc, zero as none, and_parts, cases_Bool, false, list_all, not, subst, true, true≢false, ⊎_elim, ◌||◌, ◌&&◌, List, WeightIsNumber, [], arith, codes, drop, fold, if◌then◌else◌, is_ascii_digit, length, nat_tests, one_digit, one_dot, read_number, refl, replicate, slice_index, sym, take, take_while, take_while-cons, thousandths_of, three_digits, two_digits, worth, zero_dot, ℕ, ◌*◌, ◌++◌, ◌+◌, ◌-◌, ◌==◌, ◌∷◌, ◌≡◌, ◌≤◌, ◌/◌, mul-le-mul_left}
-use Rattle.mime_http.specs.RangesLaws.{zero, one}
 
 -- a number with one more digit
 abbrev step : ℕ → ℕ → ℕ
@@ -28,7 +27,8 @@ three_digits_more n (a ∷ b ∷ c ∷ bytes) = simp take_while-cons (grind (ari
 -- digits are worth at most ten of the first one's unit
 worth_most : (unit : ℕ) (bytes : List ℕ) → worth unit bytes ≤ 10 * unit
 worth_most unit [] = omega arith
-worth_most unit (b ∷ bytes) = grind (arith, nat_tests, λ (digit : b - 48 ≤ 9). mul-le-mul_left unit digit, worth_most (unit / 10) bytes)
+worth_most unit (b ∷ bytes) = grind (arith, nat_tests, λ (digit : b - 48 ≤ 9). mul-le-mul_left unit digit,
+    worth_most (unit / 10) bytes)
 
 -- ---- from the first byte on
 
@@ -78,7 +78,8 @@ number_of_digit : (a : ℕ) → is_digit a ≡ true → (a - 48 ≤ 9) × (48 + 
 number_of_digit a is = grind (arith, nat_tests, is)
 
 -- Zeros are a number of zeros.
-are_zeros : (bytes : List ℕ) → list_all (λ b. b == 48 || (not true && is_ascii_digit b)) bytes ≡ true → replicate (length bytes) 48 ≡ bytes
+are_zeros : (bytes : List ℕ) → list_all (λ b. b == 48 || (not true && is_ascii_digit b)) bytes ≡ true
+    → replicate (length bytes) 48 ≡ bytes
 are_zeros [] all = refl
 are_zeros (b ∷ bytes) all =
     let parts = and_parts (b == 48 || (not true && is_ascii_digit b)) _ all in
@@ -92,7 +93,8 @@ decimals_are zeros_alone dot bytes are =
     let (first, few) = and_parts (dot == 46) _ start in (grind (arith, nat_tests, first), grind (arith, nat_tests, few), all)
 
 -- A text is a qvalue if the same text is one.
-respelled : {text other : List ℕ} {thousandths : ℕ} → IsQvalue text thousandths → text ≡ other → (number : ℕ) × IsQvalue other number
+respelled : {text other : List ℕ} {thousandths : ℕ} → IsQvalue text thousandths → text ≡ other
+    → (number : ℕ) × IsQvalue other number
 respelled {thousandths = thousandths} is same = (thousandths, subst (λ text. IsQvalue text thousandths) same is)
 
 -- A text that begins with `0` and goes on with decimals is a qvalue.
@@ -117,7 +119,8 @@ below_1 (dot ∷ bytes) are = let (is, few, all) = decimals_are false dot bytes 
         let one = number_of_digit a rest.0 in
         let two = number_of_digit b last.0 in
         let three = number_of_digit c (and_parts (is_digit c) _ last.1).0 in
-        respelled (three_digits (a - 48) (b - 48) (c - 48) one.0 two.0 three.0) (λ i. 48 ∷ is i ∷ one.1 i ∷ two.1 i ∷ three.1 i ∷ [])
+        respelled (three_digits (a - 48) (b - 48) (c - 48) one.0 two.0 three.0) (λ i. 48 ∷ is i ∷ one.1 i ∷ two.1 i
+            ∷ three.1 i ∷ [])
     by (a ∷ b ∷ c ∷ d ∷ bytes) is few all = absurd (omega (arith, few))
 
 -- A text that begins with `1` and goes on with zeros is a qvalue.

@@ -56,6 +56,7 @@ module _ {least : ℕ} {ranks : List Rank} {at : ℕ} {found : List (Reverse Ran
 abbrev pub offer_cmp : Reverse Rank × ℕ → Reverse Rank × ℕ → Ordering
 offer_cmp = then_cmp (flip_args (on (λ offer. offer.0.0) rank_cmp)) (on place nat_cmp)
 
+-- Offers are in a total order.
 offers_total : IsTotalOrder offer_cmp
 offers_total = then_total (back_total (on_total (λ offer. offer.0.0) ranks_total)) (on_total place nat_cmp_total)
 
@@ -88,7 +89,8 @@ module _ {least : ℕ} {ranks : List Rank} {at : ℕ} (found sorted : List (Reve
       (apart_from_distinct same_place sorted i j d distinct before within))
 
 -- Sorted offers are in order.
-pub are_ranked : (least : ℕ) (ranges offers : List MediaType) {at : ℕ} (found sorted : List (Reverse Rank × ℕ)) → at ≡ length offers
+pub are_ranked : (least : ℕ) (ranges offers : List MediaType) {at : ℕ} (found sorted : List (Reverse Rank × ℕ))
+    → at ≡ length offers
     → Ranked least (map (merit ranges) offers) at found → IsPermutation found sorted → IsSorted offer_cmp sorted
     → AreRanked least ranges offers sorted
 are_ranked least ranges offers found sorted past was moved up =
@@ -107,7 +109,8 @@ are_ranked least ranges offers found sorted past was moved up =
     }
 
 -- The positions of the offers that weigh something are in order.
-pub in_order : {ranges offers : List MediaType} {ranked : List (Reverse Rank × ℕ)} (order : List ℕ) → AreRanked 1 ranges offers ranked
+pub in_order : {ranges offers : List MediaType} {ranked : List (Reverse Rank × ℕ)} (order : List ℕ)
+    → AreRanked 1 ranges offers ranked
     → order ≡ map (λ offer. offer.1) ranked → AreInOrder ranges offers order
 in_order {ranges} {offers} order are is = rw is (record {
   best_first = are.best_first;
@@ -164,6 +167,7 @@ best_by_order ranks (best ∷ others) first all = best_is_found {at = length ran
         by (zero, within, is) = inl is
         by (suc k, within, is) = inr (subst (ComesBefore (rank_at ranks) best) is (first 0 (suc k) at (omega arith) within))
 
+-- The first of the offers in order is the best.
 pub best_is_first : BestIsFirst
 best_is_first ranges offers order are =
     best_by_order (map (merit ranges) offers) order are.best_first (λ at. (are.all at).1) ∙ weighs order (λ at. (are.all at).0)
@@ -214,7 +218,8 @@ none_is_best ranges offers = (
 
 module _ (Before : ℕ → ℕ → Type 0) (one_way : (x y : ℕ) → Before x y → ¬ (Before y x)) where
   -- Lists in such an order that have the same members begin alike.
-  same_first : (x y : ℕ) (order other : List ℕ) → AllPairs Before (x ∷ order) → AllPairs Before (y ∷ other) → Contains (y ∷ other) x
+  same_first : (x y : ℕ) (order other : List ℕ) → AllPairs Before (x ∷ order) → AllPairs Before (y ∷ other)
+      → Contains (y ∷ other) x
       → Contains (x ∷ order) y → x ≡ y
   same_first x y order other first second (zero, within, is) there = sym is
   same_first x y order other first second (suc k, within, is) (zero, inside, same) = same
@@ -223,7 +228,8 @@ module _ (Before : ℕ → ℕ → Type 0) (one_way : (x y : ℕ) → Before x y
       (subst (Before y) is (second 0 (suc k) x (omega arith) within)))
 
   -- What follows the first of such a list isn't the first again.
-  after_first : (x : ℕ) (order other : List ℕ) → AllPairs Before (x ∷ order) → (at : ℕ) → Contains order at → Contains (x ∷ other) at
+  after_first : (x : ℕ) (order other : List ℕ) → AllPairs Before (x ∷ order) → (at : ℕ) → Contains order at
+      → Contains (x ∷ other) at
       → Contains other at
   after_first x order other first at (k, within, is) (zero, inside, same) =
       let before : Before x at = subst (Before x) is (first 0 (suc k) at (omega arith) (omega (arith, within))) in
@@ -232,7 +238,8 @@ module _ (Before : ℕ → ℕ → Type 0) (one_way : (x y : ℕ) → Before x y
 
   -- Lists in such an order that have the same members are the same.
   same_members : (order other : List ℕ) → AllPairs Before order → AllPairs Before other
-      → ((at : ℕ) → Contains order at → Contains other at) → ((at : ℕ) → Contains other at → Contains order at) → order ≡ other
+      → ((at : ℕ) → Contains order at → Contains other at) → ((at : ℕ) → Contains other at → Contains order at)
+          → order ≡ other
   same_members [] [] first second here there = refl
   same_members [] (y ∷ other) first second here there = absurd (omega (arith, (there y (0, omega arith, refl)).1))
   same_members (x ∷ order) [] first second here there = absurd (omega (arith, (here x (0, omega arith, refl)).1))

@@ -55,7 +55,8 @@ wider_run narrow class wider (suc n) (b ∷ bytes) passed =
     grind (arith, passed, one-add (prefix_len narrow bytes), wider b, wider_run narrow class wider n bytes)
 
 -- The end of a run stays the same after some bytes of a narrower class.
-pub run_goes_on : (narrow class : ℕ → Bool) → ((b : ℕ) → narrow b ≡ true → class b ≡ true) → (value : List ℕ) (from to : ℕ)
+pub run_goes_on : (narrow class : ℕ → Bool) → ((b : ℕ) → narrow b ≡ true → class b ≡ true)
+    → (value : List ℕ) (from to : ℕ)
     → from ≤ to → to ≤ run_end narrow value from → run_end class value to ≡ run_end class value from
 run_goes_on narrow class wider value from to least passed =
     let there : from + (to - from) ≡ to = omega (arith, least) in
@@ -88,7 +89,8 @@ pub over : (value : List ℕ) (from to : ℕ) (state after : State) → from ≤
 over value from to state after least within goes = grind (arith, drop_split, length-part)
 
 -- Reading goes on over a byte.
-pub over_byte : (value : List ℕ) (at : ℕ) (state after : State) → at < length value → next state (slice_index value at) ≡ Some after
+pub over_byte : (value : List ℕ) (at : ℕ) (state after : State) → at < length value
+    → next state (slice_index value at) ≡ Some after
     → answer_at value state at ≡ answer_at value after (at + 1)
 over_byte value at state after within goes = grind (arith, drop_more, one_byte)
 
@@ -113,7 +115,8 @@ pub stuck : (value : List ℕ) (at : ℕ) (state : State) (missing : ParseError)
 stuck value at state missing within ends none = grind (arith, at_byte, nat_tests, at_end, cases_lt)
 
 -- A token ends where a run of its bytes does.
-pub token_ends : (value : List ℕ) (to : ℕ) → (to < length value → is_token_byte (slice_index value to) ≡ false) → EndsToken (drop to value)
+pub token_ends : (value : List ℕ) (to : ℕ) → (to < length value → is_token_byte (slice_index value to) ≡ false)
+    → EndsToken (drop to value)
 token_ends value to stops = grind (arith, drop_more, drop_of_length-le, cases_lt)
 
 -- ---- quoted content
@@ -162,7 +165,8 @@ fault_after value from at fault least within content is = λ name done none part
     (on_content content parts name done none from (drop at value)) ∙ is name more awaits parts
 
 -- A byte that isn't quoted text, a quote or a backslash goes nowhere.
-pub no_text : (parts : Parts) (name content : List ℕ) (b : ℕ) → awaits_after false content ≡ false → is_quoted_text_byte b ≡ false → b ≢ 34
+pub no_text : (parts : Parts) (name content : List ℕ) (b : ℕ) → awaits_after false content ≡ false
+    → is_quoted_text_byte b ≡ false → b ≢ 34
     → b ≢ 92 → next (in_string parts name content) b ≡ None
 no_text parts name content b none text quote backslash = grind (arith, nat_tests)
 
@@ -179,12 +183,14 @@ token_value [] is = absurd is
 token_value (b ∷ bytes) is = is
 
 -- Bytes pass no test for a token with another byte among them.
-no_token_with : (before : List ℕ) (b : ℕ) (bytes : List ℕ) → is_token_byte b ≡ false → is_token_value (before ++ (b ∷ bytes)) ≡ false
+no_token_with : (before : List ℕ) (b : ℕ) (bytes : List ℕ) → is_token_byte b ≡ false
+    → is_token_value (before ++ (b ∷ bytes)) ≡ false
 no_token_with [] b bytes isnt = rw isnt refl
 no_token_with (c ∷ before) b bytes isnt = grind (arith, list_all-append is_token_byte before (b ∷ bytes), isnt)
 
 -- Bytes after a run of token bytes, or no bytes, pass no test for a token.
-pub no_token_value : (value : List ℕ) (from plain to : ℕ) → IsRun is_token_byte value from plain → plain ≤ to → to < length value
+pub no_token_value : (value : List ℕ) (from plain to : ℕ) → IsRun is_token_byte value from plain → plain ≤ to
+    → to < length value
     → (from < plain → plain ≢ to) → is_token_value (slice_range value from to) ≡ false
 no_token_value value from plain to run most within other =
     let after = parts_joined value plain (plain + 1) to in
@@ -197,12 +203,14 @@ pub over_subtype : (value top : List ℕ) (from to : ℕ) → from < to → to �
 over_subtype value top from to some within run = grind (arith, over, on_subtype, subtype_ends, token_part, token_ends)
 
 -- Reading goes on over a parameter's name.
-pub over_name : (parts : Parts) (value : List ℕ) (from to : ℕ) → from < to → to ≤ length value → IsRun is_token_byte value from to
+pub over_name : (parts : Parts) (value : List ℕ) (from to : ℕ) → from < to → to ≤ length value
+    → IsRun is_token_byte value from to
     → answer_at value (after_semicolon parts) from ≡ answer_at value (in_name parts (slice_range value from to)) to
 over_name parts value from to some within run = grind (arith, over, name_begins, token_part)
 
 -- Reading goes on over a parameter's value.
-pub over_value : (parts : Parts) (name value : List ℕ) (from to : ℕ) → from < to → to ≤ length value → IsRun is_token_byte value from to
+pub over_value : (parts : Parts) (name value : List ℕ) (from to : ℕ) → from < to → to ≤ length value
+    → IsRun is_token_byte value from to
     → answer_at value (in_value parts name []) from
     ≡ answer_at value (before_semicolon (with_parameter parts name (slice_range value from to))) to
 over_value parts name value from to some within run = grind (arith, over, on_value, value_ends, token_part, token_ends)
@@ -210,7 +218,8 @@ over_value parts name value from to some within run = grind (arith, over, on_val
 -- ---- white space
 
 -- Reading goes on over white space that changes nothing.
-pub over_white_at : (state : State) → KeepsSpace state → (value : List ℕ) (from to : ℕ) → IsRun is_space value from to → to ≤ length value
+pub over_white_at : (state : State) → KeepsSpace state → (value : List ℕ) (from to : ℕ) → IsRun is_space value from to
+    → to ≤ length value
     → answer_at value state from ≡ answer_at value state to
 over_white_at state keeps value from to run within = grind (arith, over, over_white)
 

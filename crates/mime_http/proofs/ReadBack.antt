@@ -70,7 +70,8 @@ essence_read {top} {sub} is_top is_sub (behind before white) =
     (whole before [] [] white is_top is_sub no_more refl)
 
 -- A media type may have white space after it.
-space_after : {parts : Parts} {front : List ℕ} (b : ℕ) → is_space b ≡ true → Whole parts front → Whole parts (front ++ (b ∷ []))
+space_after : {parts : Parts} {front : List ℕ} (b : ℕ) → is_space b ≡ true → Whole parts front
+    → Whole parts (front ++ (b ∷ []))
 space_after b space (whole before parameters after first top sub are last) =
     simp append_assoc (whole before parameters _ first top sub are (one_more is_space after b last space))
 
@@ -90,7 +91,8 @@ opened_is_whole {parts} (opened _ space (whole before parameters after first top
     subst (Whole parts) (simp (append_assoc, append-nil)) (whole before _ [] first top sub more refl)
 
 -- A media type may have white space after a semicolon.
-space_inside : {parts : Parts} {front : List ℕ} (b : ℕ) → is_space b ≡ true → Opened parts front → Opened parts (front ++ (b ∷ []))
+space_inside : {parts : Parts} {front : List ℕ} (b : ℕ) → is_space b ≡ true → Opened parts front
+    → Opened parts (front ++ (b ∷ []))
 space_inside b space (opened first after is white) = simp append_assoc (opened first _ is (one_more is_space after b white space))
 
 -- ---- the state after a byte

@@ -29,7 +29,8 @@ lacking : (value more : List ℕ) (state : State) {parts : Parts} {Last : Type 0
 lacking value more state {parts} is reads last = grind (arith, read_from)
 
 -- A value is viable in each state, and what is missing at its end is its fault.
-explained_at_end : (state : State) (value : List ℕ) → Spells state value → IsHttpViable value × IsExplained value (answer_at_end state)
+explained_at_end : (state : State) (value : List ℕ) → Spells state value
+    → IsHttpViable value × IsExplained value (answer_at_end state)
 unfolding is_token_byte is_quoted_byte
 explained_at_end before_type value is = lacking value (codes "x/x") before_type is refl tt
 explained_at_end (in_type top) value is = lacking value (codes "x/x") (in_type top) is refl tt
@@ -62,13 +63,15 @@ dead_at state front b bytes stops viable goes = record {
 
 -- The answer from a state on explains the value.
 explained_from : (bytes : List ℕ) (state : State) (at : ℕ) (front : List ℕ) → at ≡ length front → Spells state front
-    → ((more : List ℕ) → answer_of (front ++ more) ≡ answer_from state at more) → IsExplained (front ++ bytes) (answer_from state at bytes)
+    → ((more : List ℕ) → answer_of (front ++ more) ≡ answer_from state at more)
+        → IsExplained (front ++ bytes) (answer_from state at bytes)
 explained_from [] state at front there is goes = rw (append-nil front) (explained_at_end state front is).1
 explained_from (b ∷ bytes) state at front there is goes = by_option (next state b)
     (λ stops. rw (stops, there) (dead_at state front b bytes stops (explained_at_end state front is).0 (rw there at goes)))
     (λ after leads.
     let here : at + 1 ≡ length (front ++ (b ∷ [])) = omega (arith, there, length-append front (b ∷ [])) in
-    let on = λ (more : List ℕ). ap answer_of (append_assoc front (b ∷ []) more) ∙ goes (b ∷ more) ∙ one_byte state after at b more leads in
+    let on = λ (more : List ℕ). ap answer_of (append_assoc front (b ∷ []) more) ∙ goes (b ∷ more)
+        ∙ one_byte state after at b more leads in
     rw leads (rw append_assoc at (explained_from bytes after (at + 1) _ here (spelled_after state after b front leads is) on)))
 
 -- The answer's fault is the value's.
@@ -155,7 +158,8 @@ one_http_fault value isnt = by_answer (answer_of value) (λ parts e. absurd (isn
 -- ---- an open string
 
 -- White space after an open string doesn't close it.
-still_open : (state : State) (at : ℕ) (bytes white : List ℕ) → AreSpaces white → answer_from state at bytes ≡ rejected MissingQuote
+still_open : (state : State) (at : ℕ) (bytes white : List ℕ) → AreSpaces white
+    → answer_from state at bytes ≡ rejected MissingQuote
     → answer_from state at (bytes ++ white) ≡ rejected MissingQuote
 unfolding is_quoted_byte
 still_open (in_string parts name content) at [] [] all is = refl
@@ -168,6 +172,7 @@ still_open state at (b ∷ bytes) white all is =
     grind (arith, by_option, λ (after : State). still_open after (at + 1) bytes white)
 
 -- A value that lacks a quote lacks it before white space, too.
-pub open_after : (value white : List ℕ) → AreSpaces white → IsHttpFault value MissingQuote → IsHttpFault (value ++ white) MissingQuote
+pub open_after : (value white : List ℕ) → AreSpaces white → IsHttpFault value MissingQuote
+    → IsHttpFault (value ++ white) MissingQuote
 open_after value white all lacks =
     answered_fault (value ++ white) MissingQuote (still_open before_type 0 value white all (fault_answered value MissingQuote lacks))

@@ -62,9 +62,11 @@ record IsBetween (parts : Parts) (state : State) : Type 0 where
   semicolon : next state 59 ≡ Some (after_semicolon parts)
   end : answer_at_end state ≡ read parts
 
+-- Before a semicolon, reading is between parameters.
 outside : (parts : Parts) → IsBetween parts (before_semicolon parts)
 outside parts = record { white = keeps_after parts; semicolon = refl; end = refl }
 
+-- After a semicolon, reading is between parameters.
 inside : (parts : Parts) → IsBetween parts (after_semicolon parts)
 unfolding is_token_byte
 inside parts = record { white = keeps_inside parts; semicolon = refl; end = refl }
@@ -96,7 +98,8 @@ module _ (before after bytes : List ℕ) (first : AreSpaces before) (second : Ar
   utf8_past utf8 = past_ascii after bytes (spaces_ascii after second) (around before 59 (after ++ bytes) (omega arith) utf8).1
 
 -- The parameters that HTTP writes are read as their pairs.
-reads_on : {text : List ℕ} {pairs : List (List ℕ × List ℕ)} → AreHttpParameters text pairs → (after : List ℕ) → AreSpaces after
+reads_on : {text : List ℕ} {pairs : List (List ℕ × List ℕ)} → AreHttpParameters text pairs → (after : List ℕ)
+    → AreSpaces after
     → ReadsOn (text ++ after) pairs
 unfolding is_token_byte
 reads_on no_more after white = record {

@@ -34,6 +34,7 @@ space_is_no_token b is = grind (arith, nat_tests)
 abbrev pub KeepsSpace : State → Type 0
 KeepsSpace state = (b : ℕ) → is_space b ≡ true → next state b ≡ Some state
 
+-- The state before the type keeps white space.
 pub keeps_before : KeepsSpace before_type
 keeps_before b is = rw (space_is_no_token b is, is) refl
 
@@ -41,6 +42,7 @@ keeps_before b is = rw (space_is_no_token b is, is) refl
 pub keeps_after : (parts : Parts) → KeepsSpace (before_semicolon parts)
 keeps_after parts b is = rw is refl
 
+-- The state after a semicolon keeps white space.
 pub keeps_inside : (parts : Parts) → KeepsSpace (after_semicolon parts)
 keeps_inside parts b is = rw is refl
 
@@ -60,7 +62,8 @@ on_subtype top (b ∷ run) all (s ∷ sub) at bytes = grind (arith, on_subtype t
 
 -- Token bytes go on a parameter's value.
 pub on_value : (parts : Parts) (name run : List ℕ) → AreTokenBytes run → (value : List ℕ) (at : ℕ) (bytes : List ℕ)
-    → answer_from (in_value parts name value) at (run ++ bytes) ≡ answer_from (in_value parts name (value ++ run)) (at + length run) bytes
+    → answer_from (in_value parts name value) at (run ++ bytes)
+        ≡ answer_from (in_value parts name (value ++ run)) (at + length run) bytes
 on_value parts name [] all value at bytes = grind (arith, append-nil)
 on_value parts name (b ∷ run) all [] at bytes = grind (arith, on_value parts name run)
 on_value parts name (b ∷ run) all (v ∷ value) at bytes = grind (arith, on_value parts name run, append_assoc)
@@ -102,10 +105,13 @@ value_ends parts name (v ∷ value) is at (b ∷ bytes) ends = rw ends refl
 -- ---- quoted content
 
 -- What may go on in a quoted string goes on what was read of one.
-pub on_open : (parts : Parts) (name run done : List ℕ) → takes_all (awaits_after false done) run ≡ true → (at : ℕ) (bytes : List ℕ)
-    → answer_from (in_string parts name done) at (run ++ bytes) ≡ answer_from (in_string parts name (done ++ run)) (at + length run) bytes
+pub on_open : (parts : Parts) (name run done : List ℕ) → takes_all (awaits_after false done) run ≡ true
+    → (at : ℕ) (bytes : List ℕ)
+    → answer_from (in_string parts name done) at (run ++ bytes)
+        ≡ answer_from (in_string parts name (done ++ run)) (at + length run) bytes
 on_open parts name [] done all at bytes = grind (arith, append-nil)
-on_open parts name (b ∷ run) done all at bytes = grind (arith, on_open parts name run (done ++ (b ∷ [])), awaits_after-append, append_assoc)
+on_open parts name (b ∷ run) done all at bytes =
+    grind (arith, on_open parts name run (done ++ (b ∷ [])), awaits_after-append, append_assoc)
 
 -- Content goes on what was read of a quoted string, if no byte is paired before it.
 pub on_content : {content : List ℕ} → IsContent content → (parts : Parts) (name done : List ℕ) → awaits_after false done ≡ false

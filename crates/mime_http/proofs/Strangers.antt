@@ -17,18 +17,18 @@ module _ (g : ℕ → ℕ) (same : (x y : ℕ) → nat_cmp (g x) (g y) ≡ nat_c
   same_order : (x y : Rank) → rank_cmp (moved g x) (moved g y) ≡ rank_cmp x y
   same_order x y = ap (ordering_then (ordering_then (ordering_then (nat_cmp x.0 y.0) (nat_cmp x.1 y.1)) (nat_cmp x.2 y.2))) (same x.3 y.3)
 
-  -- Of moved ranks, the same is above all.
+  -- A rank is above all others exactly if it is so after all are moved.
   same_top : (all : List Rank) (one : Rank) → is_top (map (moved g) all) (moved g one) ≡ is_top all one
   same_top all one = list_all-map (λ other. is_le (rank_cmp other (moved g one))) (moved g) all
       ∙ (λ i. list_all (λ other. is_le (same_order other one i)) all)
 
-  -- Of moved ranks, the highest is found.
+  -- The highest of moved ranks is the moved highest.
   same_found : (all ranks : List Rank)
       → find (is_top (map (moved g) all)) (map (moved g) ranks) ≡ option_map (moved g) (find (is_top all) ranks)
   same_found all [] = refl
   same_found all (one ∷ ranks) = rw (same_top all one) (grind (arith, same_found all ranks))
 
-  -- Of moved ranks, the best has the same position.
+  -- The best of moved ranks has the same position.
   same_best : (all : List Rank) → position (is_best (map (moved g) all)) (map (moved g) all) ≡ position (is_best all) all
   same_best all =
       position-map (is_best (map (moved g) all)) (moved g) all ∙ (λ i. position (λ one. nat_lt 0 one.0 && same_top all one i) all)

@@ -3,7 +3,8 @@ use Rattle.mime_http.proofs.Common.{AreHeld, At, FirstBad, Held, IsFirstBad, Mat
 use Rattle.mime_http.{specs.HttpList.blank, proofs.Cuts.are_cut, proofs.Cuts.only_cut, proofs.Cuts.cut_at_end, proofs.Cuts.end_on, proofs.Around.trimmed_from_blank}
 
 -- Two runs of texts are sorted one after the other.
-pub sorted_both : {texts more : List (List ℕ)} {ranges others : List MediaType} {bad poor : List (List ℕ)} → AreSorted texts ranges bad
+pub sorted_both : {texts more : List (List ℕ)} {ranges others : List MediaType} {bad poor : List (List ℕ)}
+    → AreSorted texts ranges bad
     → AreSorted more others poor → AreSorted (texts ++ more) (ranges ++ others) (bad ++ poor)
 sorted_both no_text second = second
 sorted_both (blank text texts ranges bad white rest) second = blank text _ _ _ white (sorted_both rest second)
@@ -64,7 +65,8 @@ module _ (keeps_bad : Bool) (piece : List ℕ) (old : Held) where
   first_of_bad (Some at) entry some isnt sorted is = first_stays (piece ∷ []) is
 
   -- Any other piece is bad.
-  pub takes_bad : {entry : List ℕ} (new : Held) {X E : Type 0} (result : Result X E) → entry ≡ trimmed piece → ¬ (trimmed piece ≡ [])
+  pub takes_bad : {entry : List ℕ} (new : Held) {X E : Type 0} (result : Result X E) → entry ≡ trimmed piece
+      → ¬ (trimmed piece ≡ [])
       → ¬ (IsUtf8 piece × IsHttpMediaType piece) → OnOk result (new ≡ with_bad keeps_bad entry old)
       → OnOk result (Takes keeps_bad (piece ∷ []) old new)
   takes_bad {entry} new result trim some isnt = on_ok_weaker result (λ is before held.
@@ -117,7 +119,8 @@ pieces_within place piece (b ∷ bytes) =
 
 module _ {keeps_bad : Bool} where
   -- After some are taken, those behind them are left.
-  pub rest_left : (some : List (List ℕ)) {old now new : Held} {all rest : List (List ℕ)} → AreLeft keeps_bad old now all (some ++ rest)
+  pub rest_left : (some : List (List ℕ)) {old now new : Held} {all rest : List (List ℕ)}
+      → AreLeft keeps_bad old now all (some ++ rest)
       → Takes keeps_bad some now new → AreLeft keeps_bad old new all rest
   rest_left some {rest = rest} left taken = record {
     takes = λ last others.
@@ -178,7 +181,8 @@ entry_first line count bad (Some at) counted first =
 
 -- What is held of a line's pieces is its header, with the number of bad entries and the first one's position.
 pub line_counted : (line : List ℕ) {now : Held} → length line < 2 ^ 63 → Takes false (cut line) nothing_held now
-    → ((header : Header) × IsHeader (line ∷ []) header × (now.kept ≡ record header { bad = [] }) × (now.count ≡ length header.bad))
+    → ((header : Header) × IsHeader (line ∷ []) header × (now.kept ≡ record header { bad = [] })
+        × (now.count ≡ length header.bad))
     × MatchOption now.first (now.count ≡ 0) (IsFirstBad (line ∷ []))
 line_counted line {now} short taken =
     let held = held_of taken in

@@ -24,7 +24,8 @@ length-lowered_value name value = lowered_value-either (λ v. length v ≡ lengt
 pub ruleset lengths = (length-append, length-lowered, length-lowered_value)
 
 -- The text of pairs has as many bytes as that of the pairs in lowercase.
-pub length-pairs : (pairs : List (List ℕ × List ℕ)) → length (text_of_pairs (map lowered_pair pairs)) ≡ length (text_of_pairs pairs)
+pub length-pairs : (pairs : List (List ℕ × List ℕ))
+    → length (text_of_pairs (map lowered_pair pairs)) ≡ length (text_of_pairs pairs)
 length-pairs [] = refl
 length-pairs ((name, value) ∷ pairs) =
     grind (arith, length-pairs pairs, test-either, lengths)
@@ -46,7 +47,8 @@ well_formed_list (name, value) (next ∷ pairs) (is, all) = grind (arith, token_
 
 -- The parameters of pairs are written as the pairs are, and read as the pairs.
 written_list : (pair : List ℕ × List ℕ) (pairs : List (List ℕ × List ℕ))
-    → (59 ∷ text_of_list (list_of pair pairs) ≡ text_of_pairs (pair ∷ pairs)) × (pairs_of_list (list_of pair pairs) ≡ pair ∷ pairs)
+    → (59 ∷ text_of_list (list_of pair pairs) ≡ text_of_pairs (pair ∷ pairs))
+        × (pairs_of_list (list_of pair pairs) ≡ pair ∷ pairs)
 written_list (name, value) [] = grind (arith, append-nil)
 written_list (name, value) (next ∷ pairs) = grind (arith, written_list next pairs, append-nil, append_assoc)
 
@@ -89,7 +91,8 @@ others_stay name [] pair = refl
 others_stay name (first ∷ pairs) pair = grind (arith, others_stay name pairs pair, lowered-lowered, lowered_value-lowered)
 
 -- An essence with the parameters of other names, and this one after them, is read as the value with this one in place of those of its name.
-pub with_pair_is_read : (text : List ℕ) (value : MediaType) (name content : List ℕ) → Reads text value → IsSafe value → IsToken name
+pub with_pair_is_read : (text : List ℕ) (value : MediaType) (name content : List ℕ) → Reads text value → IsSafe value
+    → IsToken name
     → IsContent content
     → Reads (value.essence ++ text_of_pairs (others name value.pairs ++ ((name, content) ∷ [])))
     (with_pair value (lowered name) (lowered_value name content))
@@ -131,18 +134,21 @@ pub record Left (name whole text : List ℕ) (total count : ℕ) (items : List I
   pub counted : count + length (other_items name items) ≡ total
 
 -- At first all items are left.
-pub all_left : (name essence : List ℕ) (pairs : List (List ℕ × List ℕ)) {items : List Item} {text : List ℕ} → items ≡ items_of pairs
+pub all_left : (name essence : List ℕ) (pairs : List (List ℕ × List ℕ)) {items : List Item} {text : List ℕ}
+    → items ≡ items_of pairs
     → text ≡ essence → Left name (essence ++ text_of_pairs (others name pairs)) text (length (others name pairs)) 0 items
 all_left name essence pairs are is = grind (arith, others_of)
 
 -- An item of another name is written and counted.
-pub copied : {name whole text : List ℕ} {total count : ℕ} {items next : List Item} {item : Item} → Left name whole text total count items
+pub copied : {name whole text : List ℕ} {total count : ℕ} {items next : List Item} {item : Item}
+    → Left name whole text total count items
     → items ≡ item ∷ next → ¬ (NameIs item.name item.name_ignores_case name)
     → Left name whole (text ++ text_of_pair (item.name, item.value)) total (count + 1) next
 copied left is other = grind (arith, false_from_ne_true, name_decides, append_assoc)
 
 -- If no items are left, all is written and counted.
-pub none_left : {name whole text : List ℕ} {total count : ℕ} {items : List Item} → Left name whole text total count items → items ≡ []
+pub none_left : {name whole text : List ℕ} {total count : ℕ} {items : List Item} → Left name whole text total count items
+    → items ≡ []
     → (text ≡ whole) × (count ≡ total)
 none_left {text = text} left none = (sym (append-nil text) ∙ (rw none at left.written), omega (arith, rw none at left.counted))
 

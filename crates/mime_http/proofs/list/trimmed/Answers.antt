@@ -4,9 +4,11 @@ use Rattle.mime_http.proofs.Common.{is_space, nat_tests, trim_end, trim_start}
 use Rattle.mime_http.proofs.Around.{nothing_after}
 use Rattle.mime_http.proofs.list.trimmed.Goals as goal
 
+-- A byte above a space is no white space.
 no_space : (b : ℕ) → 32 < b → is_space b ≡ false
 no_space b more = grind (arith, nat_tests, more)
 
+-- Nothing is left out at the start of bytes whose first byte isn't white space.
 nothing_before : (bytes : List ℕ) → is_space (get_or bytes 0 0) ≡ false → trim_start bytes ≡ bytes
 nothing_before [] other = refl
 nothing_before (b ∷ bytes) other = rw other refl

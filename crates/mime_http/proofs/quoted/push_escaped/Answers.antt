@@ -1,8 +1,7 @@
 -- A backslash is added before each byte that needs it, after the run before that byte.
 use Rattle.std.proofs.lemmas.Str.{IsCharBoundary-after_ascii, IsCharBoundary-from_drop}
 use Rattle.mime_http.proofs.Common.{[], append-nil, ap, arith, backslash_byte, get_or, length, nat_tests, refl, rules, slice_range, string_bytes, sym, ◌++◌, ◌+◌, ◌<◌, ◌∷◌, ◌≡◌}
-use Rattle.mime_http.proofs.{Contents.run_found, Contents.special_written, ReadAt.no_part}
-use Rattle.mime_http.proofs.quoted.push_escaped.Goals.{then-from-at+in_ok-push_str, else-from-at}
+use Rattle.mime_http.proofs.{Contents.run_found, Contents.special_written, ReadAt.no_part, quoted.push_escaped.Goals.then-from-at+in_ok-push_str, quoted.push_escaped.Goals.else-from-at}
 use Rattle.mime_http.proofs.quoted.push_escaped.Goals as goal
 
 pub loop-at-init : goal.loop-at-init
@@ -35,7 +34,8 @@ loop-at-preserved c =
           let none : c.loop-at.from ≡ at = omega (arith, seen.least, w.if-from-at.false) in
           rw (w.text-is, none, no_part value at) (sym (append-nil _))
     ] in
-    let pushed : string_bytes c.push_str-in-loop-at.new.self ≡ string_bytes c.if-from-at.text ++ (backslash_byte ∷ get_or value at 0 ∷ []) =
+    let pushed : string_bytes c.push_str-in-loop-at.new.self ≡ string_bytes c.if-from-at.text
+        ++ (backslash_byte ∷ get_or value at 0 ∷ []) =
     grind (arith, nat_tests, c.push_str-in-loop-at.ensures, c.in_ok-push_str-2, seen.stop within, same, c.if-bytes-at-eq92) in
     let next = c.special_from-at-in-loop-at in
     let found = rw same at (run_found c.as_bytes-bytes.result.now (at + 1) next.result next.ensures.special) in

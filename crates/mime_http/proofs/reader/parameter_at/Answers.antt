@@ -32,10 +32,12 @@ returns-then-not-is_at c = λ parts.
     (ne_eqb (slice_index value equals.result) 61 (c.is_at.ensures.no c.if-not-is_at.true more))) ∙ ap rejected (sym c.fault_at.ensures)
 
 -- A name, the sign, and a value are a parameter.
-parameter_is : (value : List ℕ) (name equals : ℕ) (spans : Spans) → name < equals → equals < length value → slice_index value equals ≡ 61
+parameter_is : (value : List ℕ) (name equals : ℕ) (spans : Spans) → name < equals → equals < length value
+    → slice_index value equals ≡ 61
     → IsRun is_token_byte value name equals → spans.first ≡ equals + 1
     → IsParameterAt value (slice_range value name equals) (λ parts. in_value parts (slice_range value name equals) []) (equals + 1) spans
-    → (text : List ℕ) × (text ++ (61 ∷ []) ≡ slice_range value name spans.first) × IsParameterAt value text after_semicolon name spans
+    → (text : List ℕ) × (text ++ (61 ∷ []) ≡ slice_range value name spans.first)
+        × IsParameterAt value text after_semicolon name spans
 parameter_is value name equals spans some within is run first at =
     let text : List ℕ = slice_range value name equals in
     let sign = one_part value equals within ∙ ap (λ b. b ∷ []) is in (

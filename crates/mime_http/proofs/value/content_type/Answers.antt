@@ -3,6 +3,7 @@ use Rattle.mime_http.proofs.Common.{HttpExplains, HttpReads, IfErr, IsPrinted, L
 use Rattle.mime_http.{proofs.HttpLaws.error_is_memory, proofs.HttpLaws.short_has_none, proofs.HttpLaws.star_has_none, proofs.HttpLaws.stands, specs.declared.value.FieldError.TheVariants.NoMemory}
 use Rattle.mime_http.proofs.value.content_type.Goals as goal
 
+-- A value that the library reads without the white space around it is read and printed as it stands.
 as_it_is : (value bytes text : List ℕ) (media : MediaType) → bytes ≡ value → text ≡ trimmed bytes → Reads text media
     → HttpReads value media × IsPrinted value media
 as_it_is value bytes text media same is reads = stands value media (rw (is, same) at reads)
