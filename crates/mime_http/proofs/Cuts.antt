@@ -62,7 +62,7 @@ Continues Paired bytes = IsPiece (61 ∷ 34 ∷ 92 ∷ bytes)
 byte_before : (b : ℕ) (bytes : List ℕ) → (b == 44) ≡ false → Continues (after Outside b) bytes → IsPiece (b ∷ bytes)
 byte_before b bytes on = cond_both (b == 61) _ _ (λ place. Continues place bytes → IsPiece (b ∷ bytes))
     (λ equals. subst (λ c. IsPiece (c ∷ bytes)) (sym (eqb-true b 61 equals)))
-        (λ other. piece_byte b bytes on (opens_none b bytes other))
+    (λ other. piece_byte b bytes on (opens_none b bytes other))
 
 -- At each place, a byte that ends no piece may stand before what goes on from it.
 further : (place : At) (b : ℕ) (bytes : List ℕ) → ends_piece place b ≡ false → Continues (after place b) bytes
@@ -270,7 +270,7 @@ is_cut (suc most) line short {lines} {pieces} rest =
     let first = first_entry line refl less in
     let others = is_cut most (drop (n + 1) line) (omega (arith, short, less, length-drop (n + 1) line)) rest in
     subst (λ text. AreBetweenCommas IsPiece BeginsPiece (text ∷ lines) (take n line ∷ (cut_after (drop n line) ++ pieces)))
-        (sym first.0)
+    (sym first.0)
     (rw (drop_more line n 0 less) (comma (take n line) (drop (n + 1) line) lines _ first.1 others)))
     (λ past. rw (take_all n line past, drop_of_length-le line past) (line_end line lines pieces (last_entry line refl past) rest))
     (cases_lt n (length line)))

@@ -66,7 +66,7 @@ weight_alone media rest n d reads after is spaces digit =
     let other : SyntaxTree = record tree { tail = listed (final n (plain (113 ∷ []) (48 ∷ 46 ∷ d ∷ []))) } in
     let kept : media.kept ≡ essence_of tree ++ text_of_tail tree.tail = sym reads.spelled ∙ text_of-essence tree in
     let long : length media.essence ≡ length (essence_of tree) =
-        ap (λ value. length value.essence) (sym reads.valued) ∙ simp lengths in
+    ap (λ value. length value.essence) (sym reads.valued) ∙ simp lengths in
     let tail = sym (ap₂ drop long kept ∙ drop-append_seam (essence_of tree) (text_of_tail tree.tail)) ∙ (sym after ∙ is) in
     let again : Reads media.kept (value_of other) = record {
       tree = other;
@@ -81,13 +81,13 @@ pub weight_of_one_decimal : (n : List ℕ) (d weight : ℕ) (offer media : Media
     → Reads media.kept media
     → rest ≡ drop (length media.essence) media.kept → length rest ≡ 6 + length n
     → HasBytesAt rest 0 (59 ∷ (n ++ (113 ∷ 61 ∷ 48 ∷ 46 ∷ d ∷ []))) → is_ascii_digit d ≡ true
-        → weight ≡ 100 * (d - 48)
+    → weight ≡ 100 * (d - 48)
     → Some (0, weight) ≡ found_in offer media.pairs
 weight_of_one_decimal n d weight offer media rest spaces reads after long bytes digit tenths =
     let whole = text_from_reads rest _ (omega (arith, long, length-append n (113 ∷ 61 ∷ 48 ∷ 46 ∷ d ∷ []))) bytes in
     let read : weight ≡ read_number (48 ∷ 46 ∷ d ∷ []) = rw digit (omega (arith, tenths)) in
     rw (weight_alone media rest n d reads after whole spaces digit)
-        (ap (λ weight. Some (0, weight)) (read ∙ read_is (48 ∷ 46 ∷ d ∷ [])))
+    (ap (λ weight. Some (0, weight)) (read ∙ read_is (48 ∷ 46 ∷ d ∷ [])))
 
 -- ---- a media type covers itself
 
@@ -119,7 +119,7 @@ all_by_meaning : (offer : MediaType) (pairs : List (List ℕ × List ℕ))
 all_by_meaning offer pairs =
     let has_meaning = has_meant (map meaning_of offer.pairs) in
     sym (ap (list_all has_meaning) (demanded-map pairs)
-        ∙ (list_all-map has_meaning meaning_of (demanded pairs) ∙ (λ i. list_all (λ pair.
+    ∙ (list_all-map has_meaning meaning_of (demanded pairs) ∙ (λ i. list_all (λ pair.
     list_any-map (λ own. bytes_eq own.0 pair.0 && bytes_eq own.1 (unescaped pair.1)) meaning_of offer.pairs i) (demanded pairs))))
 
 -- A header says the same of media types that mean the same.

@@ -107,7 +107,7 @@ found_top (rank ∷ ranks) = by (fold (ord_max cmp) None (map Some all)) (top_of
         let top_passes = list_all-from_AllPass (is_low top) all (λ j d inside.
         let low = is.above j d inside in grind (arith, nat_tests, low)) in
         find_one (is_top all) all top (list_any_at (is_top all) all k top within (ap (is_top all) there ∙ top_passes))
-            (λ j d inside passes.
+        (λ j d inside passes.
         let low = is.above j d inside in
         let high = rw there at (AllPass-from_list_all (is_low (get_or all j d)) all passes k top within) in
         one_rank _ top (grind (arith, nat_tests, low, high)))
@@ -127,7 +127,7 @@ closest_is_closest ranges offer =
     let items = enumerate_from 0 ranges in
     let is = subst (IsTop (closeness offer) None items) (closest_is_kept ranges offer) (top_of (closeness offer) None items) in
     let low = λ (item : ℕ × MediaType). All-contains (λ item. NotAbove (closest ranges offer) (closeness offer item)) items
-        item is.above in
+    item is.above in
     by_option (closest ranges offer) (λ none. rw none (λ item there. grind (arith, nat_tests, low item there, none)))
     (λ close found. rw found (
       ⊎_elim (λ none. absurd cc) (λ found. found) (rw found at is.among),

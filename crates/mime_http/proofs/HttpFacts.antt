@@ -10,8 +10,13 @@ value = codes " text/HTML ;; charset=\"UTF-8\" "
 
 -- its media type, with this kept text
 abbrev html_type : List ℕ → MediaType
-html_type kept = record { essence = codes "text/html"; slash = 4; plus = None; pairs = (codes "charset", codes "utf-8") ∷ [];
-    kept = kept }
+html_type kept = record {
+  essence = codes "text/html";
+  slash = 4;
+  plus = None;
+  pairs = (codes "charset", codes "utf-8") ∷ [];
+  kept = kept;
+}
 
 -- its parts as they stand
 parts : Parts

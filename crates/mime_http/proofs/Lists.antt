@@ -155,7 +155,7 @@ one_header lines header other first second =
 pub utf8_or_not : (text : List ℕ) → IsUtf8 text ⊎ ¬ (IsUtf8 text)
 utf8_or_not text =
     ⊎_elim (λ is. inl (IsUtf8-from_is_utf8 text is))
-        (λ isnt. inr (λ utf8. true≢false (sym (is_utf8-from_IsUtf8 text utf8) ∙ isnt)))
+    (λ isnt. inr (λ utf8. true≢false (sym (is_utf8-from_IsUtf8 text utf8) ∙ isnt)))
     (cases_Bool (is_utf8 text))
 
 -- A value is a media type as HTTP writes it, and is printed in some way, or it isn't one.

@@ -9,7 +9,7 @@ weights : (map thousandths_of (codes "0.5" ∷ codes "1.000" ∷ codes "0.001" �
     -- Of strings that are no weights, three digits after the dot count, and digits before another byte. None need be before the dot,
     -- `2` is worth no more than 1, and a word is worth nothing.
     × (map thousandths_of (codes "0.1239" ∷ codes "0x.5" ∷ codes ".2" ∷ codes "2" ∷ codes "high" ∷ []) ≡ 123 ∷ 0 ∷ 200
-        ∷ 1000 ∷ 0 ∷ [])
+    ∷ 1000 ∷ 0 ∷ [])
 weights = (refl, refl)
 
 -- by the law, too
@@ -60,11 +60,11 @@ two_elements : AreHttpLists (codes ",a/b , ,c/d" ∷ []) (media_of a_b ∷ media
 unfolding is_token_byte
 two_elements = read_are_http_lists (codes ",a/b , ,c/d" ∷ [])
     (record { ranges = media_of a_b ∷ media_of c_d ∷ []; bad = [] }) (record {
-  pieces = _;
-  cut = are_cut _;
-  sorted = blank [] _ _ _ refl (as_range (codes "a/b ") a_b (omega arith) refl refl
-      (blank (codes " ") _ _ _ refl (as_range (codes "c/d") c_d (omega arith) refl refl no_text)));
-}) refl
+      pieces = _;
+      cut = are_cut _;
+      sorted = blank [] _ _ _ refl (as_range (codes "a/b ") a_b (omega arith) refl refl
+          (blank (codes " ") _ _ _ refl (as_range (codes "c/d") c_d (omega arith) refl refl no_text)));
+    }) refl
 
 -- a text with a space within is no media type
 not_media_type : ¬ (IsHttpMediaType (codes " a b"))

@@ -27,8 +27,12 @@ three_digits_more n (a ∷ b ∷ c ∷ bytes) = simp take_while-cons (grind (ari
 -- digits are worth at most ten of the first one's unit
 worth_most : (unit : ℕ) (bytes : List ℕ) → worth unit bytes ≤ 10 * unit
 worth_most unit [] = omega arith
-worth_most unit (b ∷ bytes) = grind (arith, nat_tests, λ (digit : b - 48 ≤ 9). mul-le-mul_left unit digit,
-    worth_most (unit / 10) bytes)
+worth_most unit (b ∷ bytes) = grind (
+  arith,
+  nat_tests,
+  λ (digit : b - 48 ≤ 9). mul-le-mul_left unit digit,
+  worth_most (unit / 10) bytes,
+)
 
 -- ---- from the first byte on
 
@@ -120,7 +124,7 @@ below_1 (dot ∷ bytes) are = let (is, few, all) = decimals_are false dot bytes 
         let two = number_of_digit b last.0 in
         let three = number_of_digit c (and_parts (is_digit c) _ last.1).0 in
         respelled (three_digits (a - 48) (b - 48) (c - 48) one.0 two.0 three.0) (λ i. 48 ∷ is i ∷ one.1 i ∷ two.1 i
-            ∷ three.1 i ∷ [])
+        ∷ three.1 i ∷ [])
     by (a ∷ b ∷ c ∷ d ∷ bytes) is few all = absurd (omega (arith, few))
 
 -- A text that begins with `1` and goes on with zeros is a qvalue.

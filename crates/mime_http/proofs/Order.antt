@@ -239,7 +239,7 @@ module _ (Before : ℕ → ℕ → Type 0) (one_way : (x y : ℕ) → Before x y
   -- Lists in such an order that have the same members are the same.
   same_members : (order other : List ℕ) → AllPairs Before order → AllPairs Before other
       → ((at : ℕ) → Contains order at → Contains other at) → ((at : ℕ) → Contains other at → Contains order at)
-          → order ≡ other
+      → order ≡ other
   same_members [] [] first second here there = refl
   same_members [] (y ∷ other) first second here there = absurd (omega (arith, (there y (0, omega arith, refl)).1))
   same_members (x ∷ order) [] first second here there = absurd (omega (arith, (here x (0, omega arith, refl)).1))

@@ -99,7 +99,7 @@ same_byte before text after pos byte white dead space other = by_option (walk te
     let stop = stop-from_walk (walked.in_type []) text none in
     let one = one_fault text (stopped-from_walk text none) in
     let same = one.2 (InvalidToken (length stop.prefix) stop.byte) (dead-from_stop text stop)
-        ∙ sym (one.2 (InvalidToken pos byte) dead) in
+    ∙ sym (one.2 (InvalidToken pos byte) dead) in
     let stops = side_by_side stop.byte stop.begun (grind (arith, nat_tests, stop.dead, same, space, other)) in
     let over = over_front stop.prefix (walked.in_type []) stop.begun stop.walked in
     let last = no_way (state_of stop.begun) (0 + length before + pos) stop.byte in

@@ -50,8 +50,10 @@ what_covers :
 what_covers = (refl, refl, refl, refl, refl, refl, refl, refl, refl, refl, refl)
 
 -- values that mean the same are covered as closely
-same_meaning : closeness (media "a/b;p=flowed") (0, media "a/b;p=\\flowed") ≡ closeness (media "a/b;p=\\f\\lowed") (0,
-    media "a/b;p=flowed")
+same_meaning : closeness (media "a/b;p=flowed") (0, media "a/b;p=\\flowed") ≡ closeness (media "a/b;p=\\f\\lowed") (
+  0,
+  media "a/b;p=flowed",
+)
 same_meaning = meaning_counts (media "a/b;p=\\flowed") (media "a/b;p=flowed") (media "a/b;p=flowed") (media "a/b;p=\\f\\lowed") 0
     (record { essence = refl; top = refl; pairs = refl }) (record { essence = refl; top = refl; pairs = refl }) refl
 
@@ -76,7 +78,7 @@ weights_counted :
     -- the table of RFC 7231 (5.3.2)
     × (weighed "text/*;q=0.3,text/html;q=0.7,text/html;level=1,text/html;level=2;q=0.4,*/*;q=0.5"
     "text/html;level=1,text/html,text/plain,image/jpeg,text/html;level=2,text/html;level=3" ≡ 1000 ∷ 700 ∷ 300 ∷ 500 ∷ 400
-        ∷ 700 ∷ [])
+    ∷ 700 ∷ [])
     -- of two weights of a range the first counts, and of ranges as close the higher,
     × (weighed "text/html;q=0.2;q=0.9" "text/html" ≡ 200 ∷ [])
     × (weighed "text/html;q=0.2,text/html;q=0.9,text/html;q=0.5" "text/html" ≡ 900 ∷ [])
@@ -119,7 +121,7 @@ not_acceptable is =
 not_in_order : ¬ (AreInOrder (all "application/json,*/*") (all "text/html,application/json") (0 ∷ 1 ∷ []))
 not_in_order are =
     let same : 1 ≡ 0 = ap (λ (best : Option ℕ). unwrap_or best 0) (best_is_first _ _ (0 ∷ 1 ∷ []) are) in
-        absurd (omega (arith, same))
+    absurd (omega (arith, same))
 
 -- an entry that covers no offer changes nothing, so `text/html` stays the best
 stranger : best "text/html,image/jpeg;q=0,*/*;q=0.1" "text/html" ≡ Some 0
@@ -135,7 +137,7 @@ stranger = (stranger_changes_nothing (all "text/html") (all "*/*;q=0.1") (all "t
 -- dot, and no other byte
 qvalues : (list_all is_qvalue (codes "0" ∷ codes "0." ∷ codes "0.125" ∷ codes "1.000" ∷ []) ≡ true)
     × (list_any is_qvalue (codes "0.1250" ∷ codes "1.5" ∷ codes "2" ∷ codes ".5" ∷ codes "-1" ∷ codes "high" ∷ []
-        ∷ codes "0x5"
+    ∷ codes "0x5"
     ∷ codes "0.x" ∷ []) ≡ false)
 qvalues = (refl, refl)
 

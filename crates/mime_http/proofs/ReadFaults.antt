@@ -64,14 +64,14 @@ dead_at state front b bytes stops viable goes = record {
 -- The answer from a state on explains the value.
 explained_from : (bytes : List ℕ) (state : State) (at : ℕ) (front : List ℕ) → at ≡ length front → Spells state front
     → ((more : List ℕ) → answer_of (front ++ more) ≡ answer_from state at more)
-        → IsExplained (front ++ bytes) (answer_from state at bytes)
+    → IsExplained (front ++ bytes) (answer_from state at bytes)
 explained_from [] state at front there is goes = rw (append-nil front) (explained_at_end state front is).1
 explained_from (b ∷ bytes) state at front there is goes = by_option (next state b)
     (λ stops. rw (stops, there) (dead_at state front b bytes stops (explained_at_end state front is).0 (rw there at goes)))
     (λ after leads.
     let here : at + 1 ≡ length (front ++ (b ∷ [])) = omega (arith, there, length-append front (b ∷ [])) in
     let on = λ (more : List ℕ). ap answer_of (append_assoc front (b ∷ []) more) ∙ goes (b ∷ more)
-        ∙ one_byte state after at b more leads in
+    ∙ one_byte state after at b more leads in
     rw leads (rw append_assoc at (explained_from bytes after (at + 1) _ here (spelled_after state after b front leads is) on)))
 
 -- The answer's fault is the value's.

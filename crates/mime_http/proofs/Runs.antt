@@ -63,7 +63,7 @@ on_subtype top (b ∷ run) all (s ∷ sub) at bytes = grind (arith, on_subtype t
 -- Token bytes go on a parameter's value.
 pub on_value : (parts : Parts) (name run : List ℕ) → AreTokenBytes run → (value : List ℕ) (at : ℕ) (bytes : List ℕ)
     → answer_from (in_value parts name value) at (run ++ bytes)
-        ≡ answer_from (in_value parts name (value ++ run)) (at + length run) bytes
+    ≡ answer_from (in_value parts name (value ++ run)) (at + length run) bytes
 on_value parts name [] all value at bytes = grind (arith, append-nil)
 on_value parts name (b ∷ run) all [] at bytes = grind (arith, on_value parts name run)
 on_value parts name (b ∷ run) all (v ∷ value) at bytes = grind (arith, on_value parts name run, append_assoc)
@@ -108,7 +108,7 @@ value_ends parts name (v ∷ value) is at (b ∷ bytes) ends = rw ends refl
 pub on_open : (parts : Parts) (name run done : List ℕ) → takes_all (awaits_after false done) run ≡ true
     → (at : ℕ) (bytes : List ℕ)
     → answer_from (in_string parts name done) at (run ++ bytes)
-        ≡ answer_from (in_string parts name (done ++ run)) (at + length run) bytes
+    ≡ answer_from (in_string parts name (done ++ run)) (at + length run) bytes
 on_open parts name [] done all at bytes = grind (arith, append-nil)
 on_open parts name (b ∷ run) done all at bytes =
     grind (arith, on_open parts name run (done ++ (b ∷ [])), awaits_after-append, append_assoc)

@@ -182,7 +182,7 @@ entry_first line count bad (Some at) counted first =
 -- What is held of a line's pieces is its header, with the number of bad entries and the first one's position.
 pub line_counted : (line : List ℕ) {now : Held} → length line < 2 ^ 63 → Takes false (cut line) nothing_held now
     → ((header : Header) × IsHeader (line ∷ []) header × (now.kept ≡ record header { bad = [] })
-        × (now.count ≡ length header.bad))
+    × (now.count ≡ length header.bad))
     × MatchOption now.first (now.count ≡ 0) (IsFirstBad (line ∷ []))
 line_counted line {now} short taken =
     let held = held_of taken in

@@ -48,7 +48,7 @@ well_formed_list (name, value) (next ∷ pairs) (is, all) = grind (arith, token_
 -- The parameters of pairs are written as the pairs are, and read as the pairs.
 written_list : (pair : List ℕ × List ℕ) (pairs : List (List ℕ × List ℕ))
     → (59 ∷ text_of_list (list_of pair pairs) ≡ text_of_pairs (pair ∷ pairs))
-        × (pairs_of_list (list_of pair pairs) ≡ pair ∷ pairs)
+    × (pairs_of_list (list_of pair pairs) ≡ pair ∷ pairs)
 written_list (name, value) [] = grind (arith, append-nil)
 written_list (name, value) (next ∷ pairs) = grind (arith, written_list next pairs, append-nil, append_assoc)
 

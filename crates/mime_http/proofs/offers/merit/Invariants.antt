@@ -5,5 +5,5 @@ use Rattle.mime_http.proofs.offers.merit.Given as goal
 abbrev pub invariant-loop-at : goal.invariant-loop-at
 invariant-loop-at l = (fold (ord_max (option_cmp rank_cmp)) l.closest.1 (map (closeness l.offer.media)
     (enumerate_from l.at (map (λ range. range.media) (drop l.at l.ranges))))
-        ≡ closest (map (λ range. range.media) l.ranges) l.offer.media)
+    ≡ closest (map (λ range. range.media) l.ranges) l.offer.media)
     × (l.closest.0 ≡ length l.ranges) × IfSome l.closest.1 (λ kept. kept.3 < l.at)

@@ -35,7 +35,7 @@ loop-at-preserved c =
           rw (w.text-is, none, no_part value at) (sym (append-nil _))
     ] in
     let pushed : string_bytes c.push_str-in-loop-at.new.self ≡ string_bytes c.if-from-at.text
-        ++ (backslash_byte ∷ get_or value at 0 ∷ []) =
+    ++ (backslash_byte ∷ get_or value at 0 ∷ []) =
     grind (arith, nat_tests, c.push_str-in-loop-at.ensures, c.in_ok-push_str-2, seen.stop within, same, c.if-bytes-at-eq92) in
     let next = c.special_from-at-in-loop-at in
     let found = rw same at (run_found c.as_bytes-bytes.result.now (at + 1) next.result next.ensures.special) in

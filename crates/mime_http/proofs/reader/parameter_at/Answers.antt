@@ -37,7 +37,7 @@ parameter_is : (value : List ℕ) (name equals : ℕ) (spans : Spans) → name <
     → IsRun is_token_byte value name equals → spans.first ≡ equals + 1
     → IsParameterAt value (slice_range value name equals) (λ parts. in_value parts (slice_range value name equals) []) (equals + 1) spans
     → (text : List ℕ) × (text ++ (61 ∷ []) ≡ slice_range value name spans.first)
-        × IsParameterAt value text after_semicolon name spans
+    × IsParameterAt value text after_semicolon name spans
 parameter_is value name equals spans some within is run first at =
     let text : List ℕ = slice_range value name equals in
     let sign = one_part value equals within ∙ ap (λ b. b ∷ []) is in (
