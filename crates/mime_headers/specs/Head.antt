@@ -1,50 +1,134 @@
--- The heads of an input, and the values of a field there (RFC 9110, 5.5 and 5.6.3; RFC 9112, 2.2 and 5).
-use Rattle.std.specs.Prelude.{ℕ, Bool, List, [], ◌∷◌, ◌++◌, ◌==◌, ◌||◌, ◌&&◌, not, Option, Some, None, map, take, drop, length, if◌then◌else◌, codes}
-use Rattle.std.specs.{List.slice_index, Str.str_eq_ignore_ascii_case, Str.Lines.strip_carriage_return}
-use Rattle.mime.specs.Grammar.{is_space}
+-- The heads of an input, and the values of a field there (RFC 9110, 5.5, 5.6.2 and 5.6.3; RFC 9112, 2 to 5).
+use Rattle.std.specs.Prelude.{ℕ, ◌+◌, ◌-◌, Bool, false, List, [], ◌∷◌, ◌++◌, ◌==◌, ◌||◌, ◌&&◌, not, nat_lt, map, filter, take, drop, length, if◌then◌else◌, codes}
+use Rattle.std.specs.{Char.is_ascii_digit, List.list_all, List.list_any, List.prefix_len, List.slice_index, List.before_first, List.after_first, Str.bytes_eq, Str.str_eq_ignore_ascii_case, Str.Lines.strip_carriage_return}
+use Rattle.mime.specs.{Bytes.is_token_byte, Grammar.is_space}
 use Rattle.mime_http.specs.HttpList.{trimmed}
 use Rattle.mime_io.specs.Lines.{lines_of}
-
--- a line without a mark of `curl -v` at its start: `<` or `>`, which begins no field's name, and one space after it, if there is one
-abbrev pub without_mark : List ℕ → List ℕ
-without_mark [] = []
-without_mark (b ∷ line) = if b == 60 || b == 62 then (if slice_index line 0 == 32 then drop 1 line else line) else b ∷ line
-
--- the lines of an input, each without one carriage return at its end, and then without its mark
-abbrev pub bare_lines : List ℕ → List (List ℕ)
-bare_lines bytes = map (λ line. without_mark (strip_carriage_return line)) (lines_of bytes)
 
 -- whether a line begins with a label, ignoring ASCII case
 abbrev pub begins : List ℕ → List ℕ → Bool
 begins label line = str_eq_ignore_ascii_case (take (length label) line) label
 
--- whether a line begins an indented head, as `wget -S` prints it: with two spaces and `HTTP/`, ignoring ASCII case
-abbrev pub is_indented : List ℕ → Bool
-is_indented line = begins (codes "  http/") line
+-- ---- lines
 
--- a line as it is added to a head: without two spaces at its start, if it has them and the head's first line is indented
-abbrev pub in_head : List (List ℕ) → List ℕ → List ℕ
-in_head [] line = line
-in_head (first ∷ head) line = if begins (codes "  ") line && is_indented first then drop 2 line else line
+-- what begins with the first `<` or `>` of a line, or all of it if it has neither
+abbrev pub from_angle : List ℕ → List ℕ → List ℕ
+from_angle all [] = all
+from_angle all (b ∷ line) = if b == 60 || b == 62 then b ∷ line else from_angle all line
 
--- a head of this first line, if the line begins with `HTTP/`, ignoring ASCII case, or begins an indented head
-abbrev pub begun : List ℕ → Option (List (List ℕ))
-begun line = if begins (codes "http/") line || is_indented line then Some (line ∷ []) else None
+-- A line without one carriage return at its end. If it then begins with one, it stands behind a progress meter of curl, which is left out.
+abbrev pub bare : List ℕ → List ℕ
+bare line = let line = strip_carriage_return line in if begins (13 ∷ []) line then from_angle line line else line
 
--- The heads of lines that follow the first lines of a head, or follow a head. A head ends with an empty line, with the input, or, if it has
--- a line, before a line that begins an indented head. In an input that is cut off, a head counts only if a line follows its end.
-abbrev pub heads_from : Bool → Option (List (List ℕ)) → List (List ℕ) → List (List (List ℕ))
-heads_from cut None [] = []
-heads_from cut None (line ∷ lines) = heads_from cut (begun line) lines
-heads_from cut (Some head) [] = if cut then [] else head ∷ []
-heads_from cut (Some head) (line ∷ lines) =
-    if not (length line == 0) && (length head == 0 || not (is_indented line))
-    then heads_from cut (Some (head ++ (in_head head line ∷ []))) lines else
-    if cut && (length line == 0 && length lines == 0) then [] else head ∷ heads_from cut (begun line) lines
+-- the lines of an input without a byte order mark, each bare; of an input that is cut off, without the last line
+abbrev pub bare_lines : Bool → List ℕ → List (List ℕ)
+bare_lines cut bytes =
+    let lines = map bare (lines_of (if begins (239 ∷ 187 ∷ 191 ∷ []) bytes then drop 3 bytes else bytes)) in
+    if cut then take (length lines - 1) lines else lines
 
--- the heads of an input's lines; the first line begins the first head
+-- the length of a line's mark: the white space at its start, and `> ` or `< ` after it, if that follows
+abbrev pub mark_len : List ℕ → ℕ
+mark_len line =
+    let white = prefix_len is_space line in
+    if begins (codes "> ") (drop white line) || begins (codes "< ") (drop white line) then white + 2 else white
+
+abbrev pub mark_of : List ℕ → List ℕ
+mark_of line = take (mark_len line) line
+
+-- what follows a line's mark
+abbrev pub text_of : List ℕ → List ℕ
+text_of line = drop (mark_len line) line
+
+-- ---- start lines
+
+-- the first of the words that single spaces part, and the others
+abbrev pub word : List ℕ → List ℕ
+word text = before_first (λ b. b == 32) text
+
+abbrev pub other_words : List ℕ → List ℕ
+other_words text = after_first (λ b. b == 32) text
+
+abbrev pub is_token : List ℕ → Bool
+is_token bytes = nat_lt 0 (length bytes) && list_all is_token_byte bytes
+
+-- the number of a version: a digit, and then nothing or a dot and a digit
+abbrev pub is_number : List ℕ → Bool
+is_number (b ∷ []) = is_ascii_digit b
+is_number (b ∷ dot ∷ c ∷ []) = is_ascii_digit b && (dot == 46 && is_ascii_digit c)
+is_number bytes = false
+
+-- HTTP-version, in which case counts (RFC 9112, 2.3), or with one digit, as curl prints it: `HTTP/1.1`, `HTTP/2`
+abbrev pub is_version : List ℕ → Bool
+is_version bytes = bytes_eq (take 5 bytes) (codes "HTTP/") && is_number (drop 5 bytes)
+
+-- request-line = method SP request-target SP HTTP-version (RFC 9112, 3)
+abbrev pub is_request_line : List ℕ → Bool
+is_request_line text =
+    is_token (word text) && (nat_lt 0 (length (word (other_words text))) && is_version (other_words (other_words text)))
+
+-- status-code = 3DIGIT
+abbrev pub is_code : List ℕ → Bool
+is_code bytes = length bytes == 3 && list_all is_ascii_digit bytes
+
+-- status-line = HTTP-version SP status-code SP [ reason-phrase ], or without the last space (RFC 9112, 4)
+abbrev pub is_status_line : List ℕ → Bool
+is_status_line text = is_version (word text) && is_code (word (other_words text))
+
+abbrev pub is_start : List ℕ → Bool
+is_start line = is_request_line (text_of line) || is_status_line (text_of line)
+
+-- ---- heads
+
+-- whether a line is of the head with a mark: it begins with the mark, or is the mark without the space at its end
+abbrev pub is_own : List ℕ → List ℕ → Bool
+is_own mark line = bytes_eq (take (length mark) line) mark || bytes_eq (line ++ (32 ∷ [])) mark
+
+-- What a line and the rest of a head after it make, of which there is none or one. A line of the head adds what follows its mark, or ends the
+-- head if nothing does. Any other line ends a head without `>` or `<` in its mark.
+abbrev pub with_line : List ℕ → List ℕ → List (List (List ℕ)) → List (List (List ℕ))
+with_line mark line rest =
+    if is_own mark line
+    then (if nat_lt (length mark) (length line) then map (λ head. drop (length mark) line ∷ head) rest else [] ∷ [])
+    else if list_all is_space mark then [] ∷ [] else rest
+
+-- the rest of a head with a mark, up to a start line; none if only the end of an input that is cut off ends it
+abbrev pub rest_of : Bool → List ℕ → List (List ℕ) → List (List (List ℕ))
+rest_of cut mark [] = if cut then [] else [] ∷ []
+rest_of cut mark (line ∷ lines) = if is_start line then [] ∷ [] else with_line mark line (rest_of cut mark lines)
+
+-- the head that a line begins before others, of which there is none or one
+abbrev pub head_at : Bool → List ℕ → List (List ℕ) → List (List (List ℕ))
+head_at cut line lines = map (λ rest. text_of line ∷ rest) (rest_of cut (mark_of line) lines)
+
+-- the heads that begin with start lines
+abbrev pub started_heads : Bool → List (List ℕ) → List (List (List ℕ))
+started_heads cut [] = []
+started_heads cut (line ∷ lines) = (if is_start line then head_at cut line lines else []) ++ started_heads cut lines
+
+-- whether a text begins with a field's name and a colon (RFC 9112, 5)
+abbrev pub is_field : List ℕ → Bool
+is_field text = is_token (before_first (λ b. b == 58) text) && list_any (λ b. b == 58) text
+
+-- whether a head has a `Content-Type` or an `Accept`
+abbrev pub has_field : List (List ℕ) → Bool
+has_field head = list_any (λ line. begins (codes "content-type:") line || begins (codes "accept:") line) head
+
+-- the head without a start line: it begins with the first field before all start lines
+abbrev pub pasted_head : Bool → List (List ℕ) → List (List (List ℕ))
+pasted_head cut [] = []
+pasted_head cut (line ∷ lines) =
+    if is_start line then [] else
+    if is_field (text_of line) then filter has_field (head_at cut line lines) else pasted_head cut lines
+
 abbrev pub heads_of : Bool → List (List ℕ) → List (List (List ℕ))
-heads_of cut lines = heads_from cut (Some []) lines
+heads_of cut lines = pasted_head cut lines ++ started_heads cut lines
+
+-- the first line of a head, which is its title
+abbrev pub title_of : List (List ℕ) → List ℕ
+title_of [] = []
+title_of (line ∷ lines) = line
+
+-- ---- fields
 
 -- whether a line begins with white space, and so continues a field (RFC 9112, 5.2)
 abbrev pub goes_on : List ℕ → Bool
@@ -62,11 +146,6 @@ values_of label (line ∷ lines) =
     if begins label line
     then (trimmed (drop (length label) line) ++ continued lines) ∷ values_of label lines
     else values_of label lines
-
--- the title of a head: its first line that isn't a remark of curl, which begins with `*`, without the two spaces of an indented line
-abbrev pub title_of : List (List ℕ) → List ℕ
-title_of [] = []
-title_of (line ∷ lines) = if begins (codes "*") line then title_of lines else if is_indented line then drop 2 line else line
 
 -- whether a line begins with a field's name, white space and a colon, which HTTP doesn't allow (RFC 9112, 5.1)
 abbrev pub is_spaced : List ℕ → List ℕ → Bool

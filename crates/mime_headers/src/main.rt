@@ -16,9 +16,11 @@ mod verdict;
 
 use crate::offers::read_offers;
 pub use crate::program::run;
+use crate::shown::without_controls;
 pub use crate::verdict::Verdict;
 use mime_http::FieldError;
 use mime_io::{Device, RunError};
+use std::alloc::Global;
 use std::io::{Stdout, Write};
 use std::process::ExitCode;
 use std::{env, fmt, io};
@@ -54,12 +56,7 @@ fn main(rt: HostRuntime) -> ExitCode {
     let offers = match read_offers(rt.alloc(), arguments) {
         Ok(offers) => offers,
         Err((_, FieldError::NoMemory)) => return stopped(&rt, &RunError::NoMemory),
-        Err((word, error)) => {
-            return stopped(
-                &rt,
-                &format_args!("bad offer {word}: {error}\nusage: mime_headers [OFFER..]"),
-            );
-        }
+        Err((word, error)) => return refused(&rt, rt.alloc(), word, error),
     };
     let mut input = device(rt.stdin());
     let mut output = device(Output {
@@ -71,6 +68,19 @@ fn main(rt: HostRuntime) -> ExitCode {
         Err(RunError::Write) if output.inner.is_closed => ExitCode::from(141),
         outcome => status(&rt, outcome),
     }
+}
+
+/// Prints on standard error that a word isn't an offer and why, and returns the exit status 2. A dot replaces each control character.
+fn refused(rt: &impl Eprint, alloc: Global, word: String, error: FieldError) -> ExitCode
+    ensures { exit_status result ≡ 2 }
+{
+    let Ok(Ok(word)) = without_controls(alloc, word.into_bytes()).map(String::from_utf8) else {
+        return stopped(rt, &RunError::NoMemory);
+    };
+    stopped(
+        rt,
+        &format_args!("bad offer {word}: {error}\nusage: mime_headers [OFFER..]"),
+    )
 }
 
 /// Returns a device over a reader or a writer.
@@ -85,11 +95,13 @@ fn device<T>(inner: T) -> Device<T> {
 fn status(rt: &impl Eprint, outcome: Result<Verdict, RunError>) -> ExitCode
     ensures acceptable { outcome ≡ Ok Verdict.Acceptable → exit_status result ≡ 0 }
     ensures not_acceptable { outcome ≡ Ok Verdict.NotAcceptable → exit_status result ≡ 1 }
+    ensures no_head { outcome ≡ Ok Verdict.NoHead → exit_status result ≡ 2 }
     ensures stopped { OnErr outcome (exit_status result ≡ 2) }
 {
     match outcome {
         Ok(Verdict::Acceptable) => ExitCode::SUCCESS,
         Ok(Verdict::NotAcceptable) => ExitCode::FAILURE,
+        Ok(Verdict::NoHead) => stopped(rt, &"no head"),
         Err(error) => stopped(rt, &error),
     }
 }

@@ -1,100 +1,158 @@
 //! The report on heads.
 
-ghost use Rattle.std.specs.Prelude.{◌≡◌, ◌<◌, ◌++◌, ℕ, List, [], Err, Ok, Option, length, map, flat_map, slice_get, true, if◌then◌else◌, OnOk, IfOk, IfSome, MatchOption, option_map};
-ghost use Rattle.std.specs.List.{FoldsTo};
+ghost use Rattle.std.specs.Prelude.{◌≡◌, ◌<◌, ◌^◌, ◌++◌, ℕ, Bool, false, List, [], Err, Ok, Option, length, map, flat_map, slice_get, true, if◌then◌else◌, OnOk, IfOk, IfSome, MatchOption, option_map};
+ghost use Rattle.std.specs.List.{FoldsTo, enumerate_from};
 ghost use Rattle.std.specs.Vec.{vec_items};
+ghost use Rattle.mime.specs.Values.{MediaType};
+ghost use Rattle.mime_http.specs.Ranking.{IsRanking};
 ghost use Rattle.mime_io.specs.Lines.{row};
 ghost use Rattle.mime_headers.specs.Head.{bare_lines, heads_of};
-ghost use Rattle.mime_headers.specs.Report.{AddsChoice, AddsEntry, AddsLines, AddsType, HasBoundary, IsRead, IsReport, best_row, count_row, fault_place, fault_rows, media_rows, missing, offer_row, place_text, range_row, row_if, shown, spaced_row, weighed_text};
+ghost use Rattle.mime_headers.specs.Inner.{state_now};
+ghost use Rattle.mime_headers.specs.Report.{AddsChoice, AddsEntry, AddsHead, AddsLines, AddsType, HasBoundary, IsAnswer, IsRead, IsReport, best_row, byte_text, count_row, decider, fault_place, fault_rows, has_quoted_q, lacks_text, last_choice, media_rows, missing, numbered, offer_row, offer_rows, range_row, row_if, shown, spaced_row, weighed_text, weight_text};
 
-use crate::head::{heads_of, is_spaced, title_of, values_of};
+use crate::head::{
+    bare_lines, begins, heads_of, is_spaced, is_status_line, title_of, values_of,
+};
 use crate::shown::without_controls;
 use crate::verdict::Verdict;
 use mime::{Mime, ParseError};
 use mime_http::{
-    FieldError, RankedOffer, boundary, content_type, first_entry, has_weight, lacking, rank_offers,
+    FieldError, RankedOffer, boundary, content_type, first_entry, has_weight, lacked, rank_offers,
     trimmed, unescape, weight_of,
 };
 use std::alloc::{AllocError, Global};
 
-/// Returns the text and the verdict of the report on the heads of an input and on offers, or `None` if the input is cut off and no
-/// line follows the end of its first head.
+/// What is known after some heads.
+#[derive(Drop)]
+struct Report {
+    text: Vec<u8>,
+    /// Whether each `Content-Type` is accepted.
+    are_good: bool,
+    /// Whether the last `Accept` has an acceptable offer or there are no offers, or `None` if no head has an `Accept`.
+    choice: Option<bool>,
+    /// The ranges of the last request, if it has an `Accept`.
+    asked: Option<Vec<Mime>>,
+}
+
+/// Returns the text and the verdict of the report on the heads of an input and on offers, or `None` if the input is cut off and has no head
+/// that ends.
 pub(crate) fn report_of(
     alloc: Global,
     input: &[u8],
     is_cut: bool,
     offers: &[Mime],
 ) -> Result<Option<(Vec<u8>, Verdict)>, AllocError>
-    ensures { IfOk result (λ answer. MatchOption answer ((is_cut ≡ true) × (heads_of true (bare_lines input.now) ≡ [])) (λ report.
-        IsReport (map (λ offer. offer.media) offers.now) is_cut (heads_of is_cut (bare_lines input.now)) (vec_items report.0) report.1)) }
+    ensures { IfOk result (λ answer. MatchOption answer ((is_cut ≡ true) × (heads_of true (bare_lines true input.now) ≡ [])) (λ report.
+        IsReport (map (λ offer. offer.media) offers.now) is_cut (heads_of is_cut (bare_lines is_cut input.now)) (vec_items report.0) report.1)) }
 {
-    let heads = heads_of(alloc, input, is_cut)?;
+    let lines = bare_lines(alloc, input, is_cut)?;
+    let heads = heads_of(alloc, &lines, is_cut)?;
     if heads.is_empty() {
-        return Ok(None);
+        return Ok((!is_cut).then_some((Vec::new(alloc), Verdict::NoHead)));
     }
-    let many = heads.len() > 1;
-    let mut text = Vec::new(alloc);
-    let (mut are_good, mut choice) = (true, None);
+    let mut report = Report {
+        text: Vec::new(alloc),
+        are_good: true,
+        choice: None,
+        asked: None,
+    };
     for head in &heads {
-        let head = head.as_slice();
-        push_shown(&mut text, many, b"head ", title_of(head))?;
-        push_spaced(&mut text, head)?;
-        let types = values_of(alloc, b"content-type:", head)?;
-        push_types(&mut text, &mut are_good, &types)?;
-        push(&mut text, &[count_row(&types)])?;
-        let accepts = values_of(alloc, b"accept:", head)?;
-        choice = push_choice(&mut text, offers, &accepts, choice)?;
+        push_head(&mut report, offers, heads.len() > 1, head)?;
     }
-    let last = push_missing(&mut text, offers, choice)?;
-    push_shown(&mut text, is_cut, b"not read after ", b"1048576 bytes")?;
-    let verdict = if are_good && last.unwrap_or(true) {
+    push_missing(&mut report, offers)?;
+    push_shown(&mut report.text, is_cut, b"not read after ", b"1048576 bytes")?;
+    let verdict = if report.are_good && report.choice.unwrap_or(true) {
         Verdict::Acceptable
     } else {
         Verdict::NotAcceptable
     };
-    let text = without_controls(alloc, text)?;
+    let text = without_controls(alloc, report.text)?;
     Ok(Some((text, verdict)))
 }
 
-/// Adds the rows of the lines of `Accept` and of the offers, and returns the outcome: `Some(true)` if an offer is acceptable or there
-/// are no offers, and otherwise `Some(false)`. If there are no lines, adds nothing and returns `last`.
+/// Adds the rows of a head. `many` says whether there are several heads.
+fn push_head(report: &mut Report, offers: &[Mime], many: bool, head: &[&[u8]]) -> Pushed
+    ensures { OnOk result (AddsHead (map (λ offer. offer.media) offers.now) many (state_now report.old) (map (λ line. line.now) head.now)
+        (state_now report.new)) }
+{
+    let alloc = *report.text.allocator();
+    let title = title_of(head);
+    let is_answer = is_status_line(title);
+    let text = &mut report.text;
+    push_shown(text, many, b"head ", title)?;
+    push_spaced(text, head)?;
+    let types = values_of(alloc, b"content-type:", head)?;
+    let asked = if is_answer { report.asked.as_deref() } else { None };
+    push_types(text, &mut report.are_good, asked, &types)?;
+    push(text, &[count_row(&types)])?;
+    let accepts = values_of(alloc, b"accept:", head)?;
+    let chosen = push_choice(text, offers, &accepts)?;
+    report.choice = chosen.as_ref().map(|chosen| chosen.1).or(report.choice);
+    if !is_answer {
+        report.asked = chosen.map(|chosen| chosen.0);
+    }
+    Ok(())
+}
+
+/// Adds the rows of the lines of `Accept` and of the offers, and returns the ranges, and whether an offer is acceptable or there are no
+/// offers. If there are no lines, adds nothing and returns `None`.
 fn push_choice(
     text: &mut Vec<u8>,
     offers: &[Mime],
     lines: &[Vec<u8>],
-    last: Option<bool>,
-) -> Result<Option<bool>, AllocError>
-    ensures { IfOk result (λ choice. AddsChoice (map (λ offer. offer.media) offers.now) (map vec_items lines.now) (vec_items text.old, last)
-        (vec_items text.new, choice)) }
+) -> Result<Option<(Vec<Mime>, bool)>, AllocError>
+    ensures { IfOk result (λ choice. AddsChoice (map (λ offer. offer.media) offers.now) (map vec_items lines.now) (vec_items text.old)
+        (vec_items text.new, option_map (λ choice. (map (λ range. range.media) (vec_items choice.0), choice.1)) choice)) }
 {
     if lines.is_empty() {
-        return Ok(last);
+        return Ok(None);
     }
+    let before = text.len();
     let mut ranges = Vec::new(*text.allocator());
     push_lines(text, &mut ranges, lines)?;
-    let ranking = rank_offers(*text.allocator(), &ranges, offers)?;
-    for one in &ranking {
-        push_offer(text, &ranges, one, nth(offers, one.offer))?;
+    if text.len() == before {
+        push(text, &[b"empty Accept\n"])?;
     }
+    let ranking = push_offers(text, b"offer ", &ranges, offers)?;
     let is_acceptable = push_best(text, offers, &ranking)?;
-    Ok(Some(is_acceptable))
+    Ok(Some((ranges, is_acceptable)))
 }
 
-/// Adds `no Accept`, and the rows of `*/*` and of the offers, if `choice` is `None` (RFC 9110, 12.5.1). Returns their outcome or `choice`.
-fn push_missing(
+/// Adds the rows of offers, the best first, and returns the ranking.
+fn push_offers(
     text: &mut Vec<u8>,
+    label: &[u8],
+    ranges: &[Mime],
     offers: &[Mime],
-    choice: Option<bool>,
-) -> Result<Option<bool>, AllocError>
-    ensures { IfOk result (λ last. AddsChoice (map (λ offer. offer.media) offers.now) (missing choice).1
-        (vec_items text.old ++ (missing choice).0, choice) (vec_items text.new, last)) }
+) -> Result<Vec<RankedOffer>, AllocError>
+    ensures ranking { IfOk result (λ ranking.
+        IsRanking (map (λ range. range.media) ranges.now) (map (λ offer. offer.media) offers.now) (vec_items ranking)) }
+    ensures rows { IfOk result (λ ranking. vec_items text.new ≡ vec_items text.old
+        ++ offer_rows label.now (map (λ range. range.media) ranges.now) (map (λ offer. offer.media) offers.now) (vec_items ranking)) }
 {
-    if choice.is_some() {
-        return Ok(choice);
+    let ranking = rank_offers(*text.allocator(), ranges, offers)?;
+    for one in &ranking {
+        push_offer(text, label, ranges, one, nth(offers, one.offer))?;
     }
+    Ok(ranking)
+}
+
+/// If there are offers and no choice so far, adds `no Accept`, and the rows of `*/*` and of the offers (RFC 9110, 12.5.1), as the choice.
+fn push_missing(report: &mut Report, offers: &[Mime]) -> Pushed
+    ensures { OnOk result ((last : List ℕ × Option (List MediaType × Bool))
+        × AddsChoice (map (λ offer. offer.media) offers.now) (missing (map (λ offer. offer.media) offers.now) report.old.choice).1
+        (vec_items report.old.text ++ (missing (map (λ offer. offer.media) offers.now) report.old.choice).0) last
+        × (vec_items report.new.text ≡ last.0) × (report.new.choice ≡ last_choice report.old.choice last.1)
+        × (report.new.are_good ≡ report.old.are_good)) }
+{
+    if offers.is_empty() || report.choice.is_some() {
+        return Ok(());
+    }
+    let text = &mut report.text;
     push(text, &[b"no Accept\n"])?;
     let any = values_of(*text.allocator(), b"accept:", &[b"accept:*/*"])?;
-    push_choice(text, offers, &any, None)
+    report.choice = push_choice(text, offers, &any)?.map(|chosen| chosen.1);
+    Ok(())
 }
 
 /// The result of adding to a report.
@@ -147,10 +205,16 @@ fn push_spaced(text: &mut Vec<u8>, head: &[&[u8]]) -> Pushed
     Ok(())
 }
 
-/// Adds the rows of values of `Content-Type`, each trimmed. Sets `are_good` to `false` if a value is rejected.
-fn push_types(text: &mut Vec<u8>, are_good: &mut bool, values: &[Vec<u8>]) -> Pushed
-    ensures { OnOk result (FoldsTo AddsType (vec_items text.old, are_good.old) (map vec_items values.now)
-        (vec_items text.new, are_good.new)) }
+/// Adds the rows of values of `Content-Type`, each trimmed. `asked` has the ranges by which they are weighed, if any. Sets `are_good` to
+/// `false` if a value is rejected.
+fn push_types(
+    text: &mut Vec<u8>,
+    are_good: &mut bool,
+    asked: Option<&[Mime]>,
+    values: &[Vec<u8>],
+) -> Pushed
+    ensures { OnOk result (FoldsTo (AddsType (option_map (λ ranges. map (λ range. range.media) ranges.now) asked.entry))
+        (vec_items text.old, are_good.old) (map vec_items values.now) (vec_items text.new, are_good.new)) }
 {
     for value in values {
         let Some(mime) = read(text, b"bad Content-Type ", trimmed(value))? else {
@@ -158,6 +222,18 @@ fn push_types(text: &mut Vec<u8>, are_good: &mut bool, values: &[Vec<u8>]) -> Pu
             continue;
         };
         push_media(text, &mime)?;
+        push_answer(text, asked, mime)?;
+    }
+    Ok(())
+}
+
+/// Adds the row of a response's media type, weighed like an offer by `asked`, or nothing if `asked` is `None`.
+fn push_answer(text: &mut Vec<u8>, asked: Option<&[Mime]>, mime: Mime) -> Pushed
+    ensures { OnOk result ((answer : List ℕ) × IsAnswer (option_map (λ ranges. map (λ range. range.media) ranges.now) asked.entry) mime.media answer
+        × (vec_items text.new ≡ vec_items text.old ++ answer)) }
+{
+    if let Some(ranges) = asked {
+        let _ranking = push_offers(text, b"answer ", ranges, &[mime])?;
     }
     Ok(())
 }
@@ -215,27 +291,43 @@ fn push_fault(text: &mut Vec<u8>, label: &[u8], value: &[u8], error: FieldError)
     let said = format!(in *text.allocator(); "{error}")?;
     push(text, &[label, said.as_bytes(), b"\n"])?;
     push_shown(text, true, b"    ", value)?;
-    let (at, remark) = fault_place(value, error);
+    let at = fault_place(value, error);
     push(text, &[b"    "])?;
     for _ in 0..at {
         text.push(b' ')?;
     }
-    push(text, &[b"^", remark, b"\n"])
+    push(text, &[b"^"])?;
+    if let Some(byte) = value.get(at) {
+        push_byte(text, *byte)?;
+    }
+    push(text, &[b"\n"])
 }
 
-/// Returns the position of the byte at fault, or the value's length if something is missing at its end. Also returns a remark, which is
-/// empty unless that byte is `(`, which begins a comment in mail.
-fn fault_place(value: &[u8], error: FieldError) -> (usize, &'static [u8])
-    ensures { (result.0, result.1.now) ≡ fault_place value.now error }
+/// Returns the position of the byte at fault, or the value's length if something is missing at its end.
+fn fault_place(value: &[u8], error: FieldError) -> usize
+    ensures { result ≡ fault_place value.now error }
 {
     match error {
-        FieldError::NotUtf8 { pos } => (pos, b""),
-        FieldError::Invalid(ParseError::InvalidToken { pos, byte: b'(' }) => {
-            (pos, b" (HTTP has no comments)")
-        }
-        FieldError::Invalid(ParseError::InvalidToken { pos, .. }) => (pos, b""),
-        _ => (value.len(), b""),
+        FieldError::NotUtf8 { pos } => pos,
+        FieldError::Invalid(ParseError::InvalidToken { pos, .. }) => pos,
+        _ => value.len(),
     }
+}
+
+/// Adds a byte as a person reads it, and in hexadecimal. Adds a remark if it is `(`, which begins a comment in mail.
+fn push_byte(text: &mut Vec<u8>, byte: u8) -> Pushed
+    ensures { OnOk result (vec_items text.new ≡ vec_items text.old ++ byte_text byte) }
+{
+    let printed = [b' ', byte];
+    let name = match byte {
+        b' ' => b" space".as_slice(),
+        b'\t' => b" tab",
+        _ if byte.is_ascii_graphic() => &printed,
+        _ => b"",
+    };
+    let remark = if byte == b'(' { b"): HTTP has no comments".as_slice() } else { b")" };
+    let number = format!(in *text.allocator(); "{byte:X}")?;
+    push(text, &[name, b" (", number.as_bytes(), remark])
 }
 
 /// Adds the rows of each entry in lines of `Accept`, and pushes the ranges to `ranges`.
@@ -266,60 +358,115 @@ fn push_entry(text: &mut Vec<u8>, ranges: &mut Vec<Mime>, entry: &[u8]) -> Pushe
         return Ok(());
     }
     if let Some(range) = read(text, b"bad Accept ", entry)? {
-        push_range(text, &range)?;
+        push_range(text, entry, &range)?;
         ranges.push(range)?;
     }
     Ok(())
 }
 
-/// Adds the row of a range.
-fn push_range(text: &mut Vec<u8>, range: &Mime) -> Pushed
-    ensures { OnOk result (vec_items text.new ≡ vec_items text.old ++ range_row range.now.media) }
+/// Adds the row of a range that is read of an entry.
+fn push_range(text: &mut Vec<u8>, entry: &[u8], range: &Mime) -> Pushed
+    ensures { OnOk result (vec_items text.new ≡ vec_items text.old ++ range_row entry.now range.now.media) }
 {
-    push_weighed(text, b"Accept ", weight_of(range), range)?;
-    if has_weight(range) {
+    let weight = weight_of(range);
+    push_weighed(text, b"Accept ", weight, range)?;
+    if has_weight(range) && !has_quoted_q(entry) {
         return push(text, &[b"\n"]);
     }
-    push(text, &[b" (q is no weight)\n"])?;
-    Ok(())
+    let remark = b" (q isn't a weight in HTTP, counted as ";
+    push(text, &[remark, &decimals(weight), b")\n"])
+}
+
+/// Returns `true` if the first `q` of an entry is written in quotes.
+fn has_quoted_q(entry: &[u8]) -> bool
+    ensures { result ≡ has_quoted_q false entry.now }
+{
+    let mut is_inside = false;
+    let mut left = entry;
+    while let [byte, rest @ ..] = left {
+        left = rest;
+        match *byte {
+            b'\\' => left = &rest[rest.len().min(1)..],
+            b'"' => is_inside = !is_inside,
+            b';' if !is_inside && begins(b"q=", trimmed(rest)) => {
+                return begins(b"q=\"", trimmed(rest));
+            }
+            _ => {}
+        }
+    }
+    false
+}
+
+/// Returns a weight in thousandths as a number with three decimals.
+fn decimals(weight: u16) -> [u8; 5]
+    ensures { result.items ≡ weight_text weight }
+{
+    [
+        b'0' + (weight / 1000 % 10) as u8,
+        b'.',
+        b'0' + (weight / 100 % 10) as u8,
+        b'0' + (weight / 10 % 10) as u8,
+        b'0' + (weight % 10) as u8,
+    ]
 }
 
 /// Adds a label, a weight with three decimals, and a media type. `weight` is in thousandths.
 fn push_weighed(text: &mut Vec<u8>, label: &[u8], weight: u16, mime: &Mime) -> Pushed
     ensures { OnOk result (vec_items text.new ≡ vec_items text.old ++ weighed_text label.now weight mime.now.media) }
 {
-    let decimals = [
-        b'0' + (weight / 1000 % 10) as u8,
-        b'.',
-        b'0' + (weight / 100 % 10) as u8,
-        b'0' + (weight / 10 % 10) as u8,
-        b'0' + (weight % 10) as u8,
-    ];
-    push(text, &[label, &decimals, b" ", mime.as_str().as_bytes()])
+    push(text, &[label, &decimals(weight), b" ", mime.as_str().as_bytes()])
 }
 
 /// Adds the row of a ranked offer, or nothing if `offer` is `None`.
 fn push_offer(
     text: &mut Vec<u8>,
+    label: &[u8],
     ranges: &[Mime],
     one: &RankedOffer,
     offer: Option<&Mime>,
 ) -> Pushed
     ensures { OnOk result (vec_items text.new ≡ vec_items text.old
-        ++ offer_row (map (λ range. range.media) ranges.now) one.now (option_map (λ offer. offer.now.media) offer.entry)) }
+        ++ offer_row label.now (map (λ range. range.media) ranges.now) one.now (option_map (λ offer. offer.now.media) offer.entry)) }
 {
     let Some(offer) = offer else {
         return Ok(());
     };
-    push_weighed(text, b"offer ", one.weight, offer)?;
-    push_place(text, ranges, b" by ", one.range, b"", b" by none")?;
-    let lacking = if one.weight > 0 {
-        None
-    } else {
-        lacking(ranges, offer)
-    };
-    let before = b" (lacks a parameter of ";
-    push_place(text, ranges, before, lacking, b")\n", b"\n")
+    push_weighed(text, label, one.weight, offer)?;
+    push(text, &[b" by "])?;
+    let decider = decider(ranges, one);
+    match decider {
+        Some((at, range)) => push_numbered(text, at, range)?,
+        None => push(text, &[b"none"])?,
+    }
+    push_lacked(text, ranges, decider.map(|decider| decider.1), offer)?;
+    push(text, &[b"\n"])
+}
+
+/// Returns the range that decides the weight of an offer, with its position, or `None` if none does.
+fn decider<'r>(ranges: &'r [Mime], one: &RankedOffer) -> Option<(usize, &'r Mime)>
+    ensures item { option_map (λ item. (item.0, item.1.now.media)) result ≡ decider (map (λ range. range.media) ranges.now) one.now }
+    ensures within { IfSome result (λ item. item.0 < length ranges.now) }
+{
+    let at = one.range?;
+    Some((at, nth(ranges, at)?))
+}
+
+/// Adds each range that would decide the weight of an offer if the offer didn't lack a parameter.
+fn push_lacked(text: &mut Vec<u8>, ranges: &[Mime], decider: Option<&Mime>, offer: &Mime) -> Pushed
+    ensures { OnOk result (vec_items text.new ≡ vec_items text.old
+        ++ flat_map (lacks_text offer.now.media (option_map (λ decider. decider.now.media) decider.entry))
+        (enumerate_from 0 (map (λ range. range.media) ranges.now))) }
+{
+    for (at, range) in ranges.iter().enumerate() {
+        if let Some((name, value)) = lacked(range, decider, offer) {
+            push(text, &[b" (lacks ", name.text.as_bytes(), b"="])?;
+            unescape(value.text, text)?;
+            push(text, &[b" of "])?;
+            push_numbered(text, at, range)?;
+            push(text, &[b")"])?;
+        }
+    }
+    Ok(())
 }
 
 /// Returns the media type at a position, or `None` if there is none.
@@ -330,27 +477,13 @@ fn nth(mimes: &[Mime], at: usize) -> Option<&Mime>
     mimes.get(at)
 }
 
-/// Adds `before`, the number (from 1) and the text of the range at position `at`, and `after`. Adds only `none` if `at` is `None`.
-fn push_place(
-    text: &mut Vec<u8>,
-    ranges: &[Mime],
-    before: &[u8],
-    at: Option<usize>,
-    after: &[u8],
-    none: &[u8],
-) -> Pushed
-    ensures { OnOk result (vec_items text.new ≡ vec_items text.old
-        ++ place_text (map (λ range. range.media) ranges.now) before.now at after.now none.now) }
+/// Adds the number (from 1) and the text of the range at position `at`.
+fn push_numbered(text: &mut Vec<u8>, at: usize, range: &Mime) -> Pushed
+    requires { at < 2 ^ 63 }
+    ensures { OnOk result (vec_items text.new ≡ vec_items text.old ++ numbered (at, range.now.media)) }
 {
-    let Some(at) = at else {
-        return push(text, &[none]);
-    };
-    let Some(range) = nth(ranges, at) else {
-        return Ok(());
-    };
     let number = format!(in *text.allocator(); "{}", at + 1)?;
-    push(text, &[before, number.as_bytes(), b" "])?;
-    push(text, &[range.as_str().as_bytes(), after])
+    push(text, &[number.as_bytes(), b" ", range.as_str().as_bytes()])
 }
 
 /// Adds the row of the best offer, or `406 Not Acceptable` if no offer is acceptable. Adds nothing if there are no offers. Returns `true`

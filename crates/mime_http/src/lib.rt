@@ -43,6 +43,7 @@
 
 mod accept;
 pub mod laws;
+mod lacks;
 mod list;
 mod meaning;
 mod multipart;
@@ -56,6 +57,7 @@ mod value;
 mod weights;
 
 pub use crate::accept::Accept;
+pub use crate::lacks::lacked;
 pub use crate::list::trimmed;
 pub use crate::multipart::{boundary, is_boundary};
 pub use crate::parameter::{with_boundary, with_charset, with_parameter};
