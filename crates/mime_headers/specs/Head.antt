@@ -1,8 +1,8 @@
 -- The heads of an input, and the values of a field there (RFC 9110, 5.5, 5.6.2 and 5.6.3; RFC 9112, 2 to 5).
-use Rattle.std.specs.Prelude.{ℕ, ◌+◌, ◌-◌, Bool, false, List, [], ◌∷◌, ◌++◌, ◌==◌, ◌||◌, ◌&&◌, not, nat_lt, map, filter, take, drop, length, if◌then◌else◌, codes}
-use Rattle.std.specs.{Char.is_ascii_digit, List.list_all, List.list_any, List.prefix_len, List.slice_index, List.before_first, List.after_first, Str.bytes_eq, Str.str_eq_ignore_ascii_case, Str.Lines.strip_carriage_return}
+use Rattle.std.specs.Prelude.{ℕ, ◌-◌, Bool, List, [], ◌∷◌, ◌++◌, ◌==◌, ◌||◌, ◌&&◌, not, nat_le, nat_lt, map, filter, take, drop, length, if◌then◌else◌, codes}
+use Rattle.std.specs.{Char.is_ascii_digit, List.list_all, List.slice_index, List.before_first, List.after_first, Str.bytes_eq, Str.str_eq_ignore_ascii_case, Str.Lines.strip_carriage_return}
 use Rattle.mime.specs.{Bytes.is_token_byte, Grammar.is_space}
-use Rattle.mime_http.specs.HttpList.{trimmed}
+use Rattle.mime_http.specs.HttpList.{trim_start, trimmed}
 use Rattle.mime_io.specs.Lines.{lines_of}
 
 -- whether a line begins with a label, ignoring ASCII case
@@ -26,18 +26,13 @@ bare_lines cut bytes =
     let lines = map bare (lines_of (if begins (239 ∷ 187 ∷ 191 ∷ []) bytes then drop 3 bytes else bytes)) in
     if cut then take (length lines - 1) lines else lines
 
--- the length of a line's mark: the white space at its start, and `> ` or `< ` after it, if that follows
-abbrev pub mark_len : List ℕ → ℕ
-mark_len line =
-    let white = prefix_len is_space line in
-    if begins (codes "> ") (drop white line) || begins (codes "< ") (drop white line) then white + 2 else white
+-- what follows a line's mark, which is the white space at its start, and `> ` or `< ` after it, if that follows
+abbrev pub text_of : List ℕ → List ℕ
+text_of line =
+    let rest = trim_start line in if begins (codes "> ") rest || begins (codes "< ") rest then drop 2 rest else rest
 
 abbrev pub mark_of : List ℕ → List ℕ
-mark_of line = take (mark_len line) line
-
--- what follows a line's mark
-abbrev pub text_of : List ℕ → List ℕ
-text_of line = drop (mark_len line) line
+mark_of line = take (length line - length (text_of line)) line
 
 -- ---- start lines
 
@@ -48,80 +43,71 @@ word text = before_first (λ b. b == 32) text
 abbrev pub other_words : List ℕ → List ℕ
 other_words text = after_first (λ b. b == 32) text
 
+-- token = 1*tchar (RFC 9110, 5.6.2)
 abbrev pub is_token : List ℕ → Bool
-is_token bytes = nat_lt 0 (length bytes) && list_all is_token_byte bytes
-
--- the number of a version: a digit, and then nothing or a dot and a digit
-abbrev pub is_number : List ℕ → Bool
-is_number (b ∷ []) = is_ascii_digit b
-is_number (b ∷ dot ∷ c ∷ []) = is_ascii_digit b && (dot == 46 && is_ascii_digit c)
-is_number bytes = false
+is_token bytes = not (length bytes == 0) && list_all is_token_byte bytes
 
 -- HTTP-version, in which case counts (RFC 9112, 2.3), or with one digit, as curl prints it: `HTTP/1.1`, `HTTP/2`
-abbrev pub is_version : List ℕ → Bool
-is_version bytes = bytes_eq (take 5 bytes) (codes "HTTP/") && is_number (drop 5 bytes)
+unfoldable pub is_version : List ℕ → Bool
+is_version bytes =
+    bytes_eq (take 5 bytes) (codes "HTTP/") && (is_ascii_digit (slice_index bytes 5) && (length bytes == 6
+    || (length bytes == 8 && (slice_index bytes 6 == 46 && is_ascii_digit (slice_index bytes 7)))))
 
 -- request-line = method SP request-target SP HTTP-version (RFC 9112, 3)
 abbrev pub is_request_line : List ℕ → Bool
 is_request_line text =
-    is_token (word text) && (nat_lt 0 (length (word (other_words text))) && is_version (other_words (other_words text)))
+    is_token (word text) && (not (length (word (other_words text)) == 0) && is_version (other_words (other_words text)))
 
 -- status-code = 3DIGIT
-abbrev pub is_code : List ℕ → Bool
-is_code bytes = length bytes == 3 && list_all is_ascii_digit bytes
+unfoldable pub is_code : List ℕ → Bool
+is_code bytes =
+    length bytes == 3
+    && (is_ascii_digit (slice_index bytes 0) && (is_ascii_digit (slice_index bytes 1) && is_ascii_digit (slice_index bytes 2)))
 
 -- status-line = HTTP-version SP status-code SP [ reason-phrase ], or without the last space (RFC 9112, 4)
 abbrev pub is_status_line : List ℕ → Bool
 is_status_line text = is_version (word text) && is_code (word (other_words text))
 
-abbrev pub is_start : List ℕ → Bool
+unfoldable pub is_start : List ℕ → Bool
 is_start line = is_request_line (text_of line) || is_status_line (text_of line)
 
 -- ---- heads
 
 -- whether a line is of the head with a mark: it begins with the mark, or is the mark without the space at its end
-abbrev pub is_own : List ℕ → List ℕ → Bool
-is_own mark line = bytes_eq (take (length mark) line) mark || bytes_eq (line ++ (32 ∷ [])) mark
+unfoldable pub is_own : List ℕ → List ℕ → Bool
+is_own mark line =
+    bytes_eq (take (length mark) line) mark
+    || (slice_index mark (length mark - 1) == 32 && bytes_eq (take (length mark - 1) mark) line)
 
--- What a line and the rest of a head after it make, of which there is none or one. A line of the head adds what follows its mark, or ends the
--- head if nothing does. Any other line ends a head without `>` or `<` in its mark.
-abbrev pub with_line : List ℕ → List ℕ → List (List (List ℕ)) → List (List (List ℕ))
-with_line mark line rest =
-    if is_own mark line
-    then (if nat_lt (length mark) (length line) then map (λ head. drop (length mark) line ∷ head) rest else [] ∷ [])
-    else if list_all is_space mark then [] ∷ [] else rest
+-- whether a line ends a head: a start line, the mark alone, or, if the mark is an indent, a line that isn't the head's
+abbrev pub is_end : Bool → List ℕ → List ℕ → Bool
+is_end is_indent mark line = is_start line || (if is_own mark line then nat_le (length line) (length mark) else is_indent)
 
--- the rest of a head with a mark, up to a start line; none if only the end of an input that is cut off ends it
+-- a line of the head without the mark, or none for any other line
+abbrev pub own_lines : List ℕ → List ℕ → List (List ℕ)
+own_lines mark line = if is_own mark line then drop (length mark) line ∷ [] else []
+
+-- the rest of a head, of which there is none if only the end of an input that is cut off ends it, or one
 abbrev pub rest_of : Bool → List ℕ → List (List ℕ) → List (List (List ℕ))
 rest_of cut mark [] = if cut then [] else [] ∷ []
-rest_of cut mark (line ∷ lines) = if is_start line then [] ∷ [] else with_line mark line (rest_of cut mark lines)
+rest_of cut mark (line ∷ lines) =
+    if is_end (length (trimmed mark) == 0) mark line then [] ∷ []
+    else map (λ rest. own_lines mark line ++ rest) (rest_of cut mark lines)
 
--- the head that a line begins before others, of which there is none or one
-abbrev pub head_at : Bool → List ℕ → List (List ℕ) → List (List (List ℕ))
-head_at cut line lines = map (λ rest. text_of line ∷ rest) (rest_of cut (mark_of line) lines)
+-- the head that the first of lines begins, of which there is none or one
+abbrev pub head_at : Bool → List (List ℕ) → List (List (List ℕ))
+head_at cut [] = []
+head_at cut (line ∷ lines) = map (λ rest. text_of line ∷ rest) (rest_of cut (mark_of line) lines)
 
 -- the heads that begin with start lines
 abbrev pub started_heads : Bool → List (List ℕ) → List (List (List ℕ))
 started_heads cut [] = []
-started_heads cut (line ∷ lines) = (if is_start line then head_at cut line lines else []) ++ started_heads cut lines
+started_heads cut (line ∷ lines) = (if is_start line then head_at cut (line ∷ lines) else []) ++ started_heads cut lines
 
 -- whether a text begins with a field's name and a colon (RFC 9112, 5)
 abbrev pub is_field : List ℕ → Bool
-is_field text = is_token (before_first (λ b. b == 58) text) && list_any (λ b. b == 58) text
-
--- whether a head has a `Content-Type` or an `Accept`
-abbrev pub has_field : List (List ℕ) → Bool
-has_field head = list_any (λ line. begins (codes "content-type:") line || begins (codes "accept:") line) head
-
--- the head without a start line: it begins with the first field before all start lines
-abbrev pub pasted_head : Bool → List (List ℕ) → List (List (List ℕ))
-pasted_head cut [] = []
-pasted_head cut (line ∷ lines) =
-    if is_start line then [] else
-    if is_field (text_of line) then filter has_field (head_at cut line lines) else pasted_head cut lines
-
-abbrev pub heads_of : Bool → List (List ℕ) → List (List (List ℕ))
-heads_of cut lines = pasted_head cut lines ++ started_heads cut lines
+is_field text =
+    let name = before_first (λ b. b == 58) text in is_token name && nat_lt (length name) (length text)
 
 -- the first line of a head, which is its title
 abbrev pub title_of : List (List ℕ) → List ℕ
@@ -147,7 +133,23 @@ values_of label (line ∷ lines) =
     then (trimmed (drop (length label) line) ++ continued lines) ∷ values_of label lines
     else values_of label lines
 
+-- whether a head has a `Content-Type` or an `Accept`
+abbrev pub has_field : List (List ℕ) → Bool
+has_field head = nat_lt 0 (length (values_of (codes "content-type:") head ++ values_of (codes "accept:") head))
+
 -- whether a line begins with a field's name, white space and a colon, which HTTP doesn't allow (RFC 9112, 5.1)
 abbrev pub is_spaced : List ℕ → List ℕ → Bool
 is_spaced name line =
     begins name line && (goes_on (drop (length name) line) && begins (codes ":") (trimmed (drop (length name) line)))
+
+-- ---- all heads
+
+-- the head without a start line: it begins with the first field before all start lines, and has a `Content-Type` or an `Accept`
+abbrev pub pasted_head : Bool → List (List ℕ) → List (List (List ℕ))
+pasted_head cut [] = []
+pasted_head cut (line ∷ lines) =
+    if is_start line then [] else
+    if is_field (text_of line) then filter has_field (head_at cut (line ∷ lines)) else pasted_head cut lines
+
+abbrev pub heads_of : Bool → List (List ℕ) → List (List (List ℕ))
+heads_of cut lines = pasted_head cut lines ++ started_heads cut lines

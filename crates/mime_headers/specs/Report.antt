@@ -1,10 +1,10 @@
 -- The report on heads and offers: the rows of each `Content-Type`, of `Accept`, and of each offer (RFC 9110, 8.3, 12.5.1 and 15.5.7).
-use Rattle.std.specs.Prelude.{◌≡◌, ◌≢◌, ◌<◌, ℕ, ◌+◌, ◌/◌, ◌%◌, Bool, true, false, List, [], ◌∷◌, ◌++◌, ◌==◌, ◌||◌, ◌&&◌, not, Option, Some, None, Result, Ok, Err, MatchOption, option_and_then, option_map, option_or, unwrap_or, map, flat_map, length, slice_get, replicate, nat_lt, if◌then◌else◌, codes}
-use Rattle.std.specs.{Char.is_ascii_graphic, Fmt.decimal, Fmt.digits, List.FoldsTo, List.enumerate_from, Str.IsUtf8}
-use Rattle.mime.specs.{Bytes.backslash_byte, Bytes.quote_byte, Bytes.semicolon_byte, Values.MediaType, Values.suffix_of, declared.scan.fault.ParseError.TheVariants.InvalidToken}
-use Rattle.mime_http.specs.{Boundary.IsBoundaryOf, HttpFaults.HttpExplains, HttpList.trimmed, HttpList.AreBetweenCommas, HttpList.IsPrinted, HttpList.IsPiece, HttpList.BeginsPiece, HttpMediaType.HttpReads, HttpPrinted.field_error_text, Lacks.lacked, Ranges.weight_of, Ranges.first_value, Ranking.is_qvalue, Ranking.IsRanking, Unescaped.unescaped, declared.ranking.RankedOffer.RankedOffer, declared.value.FieldError.FieldError, declared.value.FieldError.TheVariants.NotUtf8, declared.value.FieldError.TheVariants.Invalid, declared.value.FieldError.TheVariants.NoMemory}
+use Rattle.std.specs.Prelude.{◌≡◌, ◌≢◌, ◌<◌, ℕ, ◌+◌, ◌/◌, ◌%◌, Bool, true, false, List, [], ◌∷◌, ◌++◌, ◌==◌, ◌||◌, ◌&&◌, not, Option, Some, None, Result, Ok, Err, MatchOption, option_and_then, option_map, unwrap_or, map, flat_map, length, slice_get, replicate, nat_lt, if◌then◌else◌, codes}
+use Rattle.std.specs.{Char.is_ascii_graphic, Fmt.decimal, Fmt.digits, List.FoldsTo, List.enumerate_from, Option.option_or, Str.IsUtf8}
+use Rattle.mime.specs.{Values.MediaType, Values.suffix_of, declared.scan.fault.ParseError.TheVariants.InvalidToken}
+use Rattle.mime_http.specs.{Boundary.IsBoundaryOf, HttpFaults.HttpExplains, HttpList.trimmed, HttpList.AreBetweenCommas, HttpList.IsPrinted, HttpList.IsPiece, HttpList.BeginsPiece, HttpMediaType.HttpReads, HttpPrinted.field_error_text, Lacks.is_quoted, Lacks.lacked, Ranges.weight_of, Ranges.first_value, Ranking.is_qvalue, Ranking.IsRanking, Unescaped.unescaped, declared.ranking.RankedOffer.RankedOffer, declared.value.FieldError.FieldError, declared.value.FieldError.TheVariants.NotUtf8, declared.value.FieldError.TheVariants.Invalid, declared.value.FieldError.TheVariants.NoMemory}
 use Rattle.mime_io.specs.{Lines.row, Stops.limit}
-use Rattle.mime_headers.specs.{Head.bare_lines, Head.begins, Head.heads_of, Head.is_spaced, Head.is_status_line, Head.title_of, Head.values_of, Shown.without_controls}
+use Rattle.mime_headers.specs.{Head.bare_lines, Head.heads_of, Head.is_spaced, Head.is_status_line, Head.title_of, Head.values_of, Shown.without_controls}
 use Rattle.mime_headers.specs.declared.verdict.Verdict.{Verdict}
 
 -- A value of a field is read as this media type, which is printed for the value, or is rejected with this error, which isn't `NoMemory`.
@@ -75,22 +75,16 @@ weight_text weight = (48 + weight / 1000 % 10) ∷ 46 ∷ (48 + weight / 100 % 1
 abbrev pub weighed_text : List ℕ → ℕ → MediaType → List ℕ
 weighed_text label weight media = label ++ (weight_text weight ++ (codes " " ++ media.kept))
 
--- Whether the first `q` of an entry is written in quotes. `inside` says whether the entry's bytes are in quotes, where a backslash pairs the
--- next byte.
-abbrev pub has_quoted_q : Bool → List ℕ → Bool
-has_quoted_q inside [] = false
-has_quoted_q inside (b ∷ []) = false
-has_quoted_q inside (b ∷ c ∷ bytes) =
-    if b == backslash_byte then has_quoted_q inside bytes else
-    if b == quote_byte then has_quoted_q (not inside) (c ∷ bytes) else
-    if not inside && (b == semicolon_byte && begins (codes "q=") (trimmed (c ∷ bytes))) then begins (codes "q=\"") (trimmed (c ∷ bytes))
-    else has_quoted_q inside (c ∷ bytes)
+-- whether RFC 9110, 12.4.2, allows the `q` of a range that is read of an entry: it is a qvalue, without quotes, or there is none
+unfoldable pub is_plain : List ℕ → MediaType → Bool
+is_plain entry range =
+    unwrap_or (option_map is_qvalue (first_value (codes "q") range.pairs)) true && not (is_quoted false false entry)
 
--- the row of a range that is read of an entry, with a remark if RFC 9110, 12.4.2, doesn't allow its `q`
+-- the row of a range that is read of an entry, with a remark if its `q` isn't allowed
 abbrev pub range_row : List ℕ → MediaType → List ℕ
 range_row entry range =
     weighed_text (codes "Accept ") (weight_of range) range
-    ++ (if unwrap_or (option_map is_qvalue (first_value (codes "q") range.pairs)) true && not (has_quoted_q false entry) then codes "\n"
+    ++ (if is_plain entry range then codes "\n"
     else codes " (q isn't a weight in HTTP, counted as " ++ (weight_text (weight_of range) ++ codes ")\n"))
 
 -- a report and its ranges after an entry: an entry that is a range adds its row and itself, and a rejected entry adds its fault's rows
@@ -118,7 +112,7 @@ numbered (at, range) = decimal (at + 1) ++ (codes " " ++ range.kept)
 
 -- the range that decides, with its position
 abbrev pub decider : List MediaType → RankedOffer → Option (ℕ × MediaType)
-decider ranges one = option_and_then one.range (λ at. option_map (λ range. (at, range)) (slice_get ranges at))
+decider ranges one = option_and_then (λ at. option_map (λ range. (at, range)) (slice_get ranges at)) one.range
 
 -- that a range would decide but for a parameter; nothing if it wouldn't
 abbrev pub lacks_text : MediaType → Option MediaType → ℕ × MediaType → List ℕ
@@ -153,8 +147,8 @@ IsAnswer None media answer = answer ≡ []
 IsAnswer (Some ranges) media answer =
     (ranking : List RankedOffer) × IsRanking ranges (media ∷ []) ranking × (answer ≡ offer_rows (codes "answer ") ranges (media ∷ []) ranking)
 
--- What is read of a value of `Content-Type` adds its rows to a report, for the ranges `asked` of a request. `are_good`, whether all values so far are accepted, becomes `false`
--- if this value is rejected.
+-- What is read of a value of `Content-Type` adds its rows to a report, for the ranges `asked` of a request. `are_good`, whether all values so
+-- far are accepted, becomes `false` if this value is rejected.
 abbrev pub AddsReading : Option (List MediaType) → List ℕ × Bool → List ℕ → Result MediaType FieldError → List ℕ × Bool → Type 0
 AddsReading asked (text, are_good) value (Ok media) new =
     (boundary : Option (List ℕ)) × (answer : List ℕ) × HasBoundary media boundary × IsAnswer asked media answer
@@ -184,8 +178,10 @@ pub record IsChoice (offers : List MediaType) (lines : List (List ℕ)) (old : L
   pub are_read : AddsLines lines (old, []) read
   pub ranking : List RankedOffer
   pub is_ranking : IsRanking read.1 offers ranking
-  pub is_new : new ≡ (read.0 ++ (empty_row old read.0 ++ (offer_rows (codes "offer ") read.1 offers ranking ++ (best_row offers ranking).0)),
-      Some (read.1, (best_row offers ranking).1))
+  pub is_new : new ≡ (
+    read.0 ++ (empty_row old read.0 ++ (offer_rows (codes "offer ") read.1 offers ranking ++ (best_row offers ranking).0)),
+    Some (read.1, (best_row offers ranking).1),
+  )
 
 -- Without lines of `Accept`, nothing is added, and no choice is made.
 abbrev pub AddsChoice : List MediaType → List (List ℕ) → List ℕ → List ℕ × Option (List MediaType × Bool) → Type 0

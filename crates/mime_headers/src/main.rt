@@ -20,7 +20,6 @@ use crate::shown::without_controls;
 pub use crate::verdict::Verdict;
 use mime_http::FieldError;
 use mime_io::{Device, RunError};
-use std::alloc::Global;
 use std::io::{Stdout, Write};
 use std::process::ExitCode;
 use std::{env, fmt, io};
@@ -56,7 +55,14 @@ fn main(rt: HostRuntime) -> ExitCode {
     let offers = match read_offers(rt.alloc(), arguments) {
         Ok(offers) => offers,
         Err((_, FieldError::NoMemory)) => return stopped(&rt, &RunError::NoMemory),
-        Err((word, error)) => return refused(&rt, rt.alloc(), word, error),
+        Err((word, error)) => {
+            let shown = without_controls(rt.alloc(), word.into_bytes()).map(String::from_utf8);
+            let Ok(Ok(word)) = shown else {
+                return stopped(&rt, &RunError::NoMemory);
+            };
+            let usage = "usage: mime_headers [OFFER..]";
+            return stopped(&rt, &format_args!("bad offer {word}: {error}\n{usage}"));
+        }
     };
     let mut input = device(rt.stdin());
     let mut output = device(Output {
@@ -68,19 +74,6 @@ fn main(rt: HostRuntime) -> ExitCode {
         Err(RunError::Write) if output.inner.is_closed => ExitCode::from(141),
         outcome => status(&rt, outcome),
     }
-}
-
-/// Prints on standard error that a word isn't an offer and why, and returns the exit status 2. A dot replaces each control character.
-fn refused(rt: &impl Eprint, alloc: Global, word: String, error: FieldError) -> ExitCode
-    ensures { exit_status result ≡ 2 }
-{
-    let Ok(Ok(word)) = without_controls(alloc, word.into_bytes()).map(String::from_utf8) else {
-        return stopped(rt, &RunError::NoMemory);
-    };
-    stopped(
-        rt,
-        &format_args!("bad offer {word}: {error}\nusage: mime_headers [OFFER..]"),
-    )
 }
 
 /// Returns a device over a reader or a writer.

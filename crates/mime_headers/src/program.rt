@@ -9,7 +9,7 @@ ghost use Rattle.mime_headers.specs.Report.{IsReportOf};
 use crate::report::report_of;
 use crate::verdict::Verdict;
 use mime::Mime;
-use mime_io::{LIMIT, RunError, Sink, Source, read_past_limit, write_report};
+use mime_io::{RunError, Sink, Source, read_past_limit, write_report};
 use std::alloc::{AllocError, Global};
 
 /// Reads a source to its end, or to one byte past the limit. Then writes the report on the source's heads and on the offers to a sink, and
@@ -44,8 +44,7 @@ pub fn run<S: Source, T: Sink>(
     ensures untouched { IfErr result (λ error. error ≢ RunError.Write → sink.new ≡ sink.old) }
 {
     let input = read_past_limit(alloc, source)?;
-    let is_cut = input.len() > LIMIT;
-    let (report, verdict) = match report_of(alloc, input.as_slice(), is_cut, offers) {
+    let (report, verdict) = match report_of(alloc, input.as_slice(), offers) {
         Ok(Some(answer)) => answer,
         Ok(None) => return Err(RunError::TooLong),
         Err(AllocError) => return Err(RunError::NoMemory),

@@ -29,7 +29,10 @@ pub(crate) fn without_controls(alloc: Global, bytes: Vec<u8>) -> Result<Vec<u8>,
     let mut found = false;
     for byte in &bytes {
         found |= (*byte < 32 && *byte != b'\n')
-            || matches!(*byte, 127 | 0xC2 | 0xD8 | 0xE2);
+            || *byte == 127
+            || *byte == 0xC2
+            || *byte == 0xD8
+            || *byte == 0xE2;
     }
     if !found {
         return Ok(bytes);

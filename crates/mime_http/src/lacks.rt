@@ -1,10 +1,10 @@
-//! Says which parameter keeps a range from deciding the weight of an offer.
+//! Says which parameter keeps a range from deciding the weight of an offer, and whether a weight is written in quotes.
 
-ghost use Rattle.std.specs.Prelude.{◌≡◌, ◌≤◌, find, length, not, option_map};
-ghost use Rattle.mime.specs.Items.{item_seen};
-ghost use Rattle.mime_http.specs.{Lacks.is_above, Lacks.lacked, Lacks.specificity, Ranges.demanded, Ranges.has};
+ghost use Rattle.std.specs.Prelude.{◌≡◌, false, find, length, not, option_map};
+ghost use Rattle.mime_http.specs.{Lacks.begins, Lacks.is_quoted, Lacks.lacked, Lacks.specificity, Ranges.demanded, Ranges.has};
 
-use crate::range::{has, named_parts};
+use crate::list::trimmed;
+use crate::range::{has, named_parts, param_count};
 use mime::{Mime, Name};
 
 /// Returns the first parameter of a range other than `q` that an offer lacks, or `None` if the offer has each.
@@ -24,7 +24,15 @@ fn first_lacked<'r>(range: &'r Mime, offer: &Mime) -> Option<(Name<'r>, Name<'r>
 fn demanded_count(range: &Mime) -> usize
     ensures { result ≡ length (demanded range.now.media.pairs) }
 {
-    range.params().filter(|(name, _)| name.text != "q").count()
+    // Only for the proof: `most` bounds the count.
+    let most = param_count(range);
+    let mut count = 0;
+    for (name, _) in range.params() {
+        if name.text != "q" {
+            count += 1;
+        }
+    }
+    count
 }
 
 /// Returns how many parts of an offer's essence a range names, and how many parameters it demands, or `None` if it doesn't match the essence.
@@ -51,4 +59,30 @@ pub fn lacked<'r>(
     let one = specificity(offer, range)?;
     let other = decider.and_then(|decider| specificity(offer, decider));
     other.is_none_or(|other| one > other).then_some(parameter)
+}
+
+/// Returns `true` if bytes begin with a label, ignoring ASCII case.
+fn begins(label: &[u8], bytes: &[u8]) -> bool
+    ensures { result ≡ begins label.now bytes.now }
+{
+    bytes.len() >= label.len() && bytes[..label.len()].eq_ignore_ascii_case(label)
+}
+
+/// Returns `true` if the first `q` of an entry of an `Accept` header is written in quotes, as in `text/html;q="0.5"`. RFC 9110 (12.4.2) has no
+/// quotes there, though [`weight_of`](crate::weight_of) reads them.
+pub fn has_quoted_weight(entry: &[u8]) -> bool
+    ensures { result ≡ is_quoted false false entry.now }
+{
+    let mut is_inside = false;
+    let mut is_paired = false;
+    for (at, &byte) in entry.iter().enumerate() {
+        if !(is_inside || is_paired) && byte == b';' && begins(b"q=", trimmed(&entry[at + 1..])) {
+            return begins(b"q=\"", trimmed(&entry[at + 1..]));
+        }
+        if byte == b'"' && !is_paired {
+            is_inside = !is_inside;
+        }
+        is_paired = byte == b'\\' && !is_paired;
+    }
+    false
 }

@@ -42,8 +42,8 @@
 #![tactic(auto)]
 
 mod accept;
-pub mod laws;
 mod lacks;
+pub mod laws;
 mod list;
 mod meaning;
 mod multipart;
@@ -57,7 +57,7 @@ mod value;
 mod weights;
 
 pub use crate::accept::Accept;
-pub use crate::lacks::lacked;
+pub use crate::lacks::{has_quoted_weight, lacked};
 pub use crate::list::trimmed;
 pub use crate::multipart::{boundary, is_boundary};
 pub use crate::parameter::{with_boundary, with_charset, with_parameter};
