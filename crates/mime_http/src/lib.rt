@@ -43,6 +43,7 @@
 #![tactic(auto)]
 
 mod accept;
+mod lacks;
 pub mod laws;
 mod list;
 mod meaning;
@@ -57,6 +58,7 @@ mod value;
 mod weights;
 
 pub use crate::accept::{Accept, BadEntries};
+pub use crate::lacks::{has_quoted_weight, lacked};
 pub use crate::list::trimmed;
 pub use crate::multipart::{boundary, is_boundary};
 pub use crate::parameter::{with_boundary, with_charset, with_parameter};

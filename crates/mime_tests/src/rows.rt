@@ -27,9 +27,10 @@ use crate::constants::{show_bytes, show_copies};
 use crate::fields::string_at;
 use crate::http::{
     show, show_accept, show_accept_in_latin_1, show_best, show_boundary,
-    show_content_type_in_latin_1, show_counting_bad, show_covers, show_order, show_ranking,
-    show_text, show_unescaped, show_unescaped_in_room, show_value, show_weight_of, show_weights,
-    show_with_boundary, show_with_charset, show_with_parameter, show_without_bad, shown,
+    show_content_type_in_latin_1, show_counting_bad, show_covers, show_lacked, show_order,
+    show_ranking, show_text, show_unescaped, show_unescaped_in_room, show_value, show_weight_of,
+    show_weights, show_with_boundary, show_with_charset, show_with_parameter, show_without_bad,
+    shown,
 };
 use crate::items::{show_again, show_items, show_list};
 use crate::recipes::{
@@ -48,7 +49,7 @@ use mime_examples::answer::{refusal, refusal_of_body, status_of};
 use mime_examples::callers::{has_suffix, reads_alike};
 use mime_examples::reader::reader_of;
 use mime_examples::utf8::says_utf8;
-use mime_http::{FieldError, content_type, is_boundary, trimmed};
+use mime_http::{FieldError, content_type, has_quoted_weight, is_boundary, trimmed};
 use std::alloc::Global;
 
 /// Writes the answers to a row.
@@ -107,7 +108,9 @@ fn show_of_headers(alloc: Global, out: &mut String, word: &str, strings: &[Strin
         "covers" => show_covers(alloc, out, one, two),
         "from_line_counting_bad" => show_counting_bad(alloc, out, one),
         "from_lines_without_bad" => show_without_bad(alloc, out, one),
+        "has_quoted_weight" => show(out, &has_quoted_weight(one.as_bytes())),
         "is_boundary" => show(out, &is_boundary(one.as_bytes())),
+        "lacked" => show_lacked(alloc, out, one, two, three),
         "order" => show_order(alloc, out, strings),
         "rank_offers" => show_ranking(alloc, out, strings),
         "trimmed" => show_text(out, Some(shown(trimmed(one.as_bytes())))),
