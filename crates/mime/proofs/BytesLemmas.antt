@@ -1,34 +1,29 @@
 -- Bytes: their classes and tables, the byte at a position of joined bytes, and where a text may be cut at an ASCII byte.
 use Rattle.std.proofs.Common.{◌≡◌, ℕ, ◌<◌, Bool, List, get_or, map, ap, sym, ◌∙◌, arith, length, true, suc, ◌+◌, [], ◌∷◌, ◌++◌, Some, slice_get, refl, false, ◌==◌, rules}
-use Rattle.std.specs.List.{range_with_len, list_all}
-use Rattle.std.proofs.lemmas.List.{get_or-map}
-use Rattle.std.proofs.lemmas.List.Folds.{list_all-append}
-use Rattle.std.proofs.lemmas.List.FromFn.{get_or-map-range_with_len}
+use Rattle.std.specs.{List.range_with_len, List.list_all, Str.IsUtf8, Str.IsCharBoundary}
+use Rattle.std.proofs.{lemmas.List.get_or-map, lemmas.List.Folds.list_all-append, lemmas.List.FromFn.get_or-map-range_with_len, lemmas.Bool.and_parts, lemmas.Bool.and_from, lemmas.Bool.Decides.nat_tests, lemmas.Option.slice_get_within, lemmas.Option.get_or_from_slice_get, lemmas.Str.IsCharBoundary-after_ascii}
 use Rattle.std.specs.Prelude.{IsTrue, IsFalse, ◌==◌, not}
-use Rattle.std.proofs.lemmas.Bool.{and_parts, and_from}
-use Rattle.std.proofs.lemmas.Bool.Decides.{nat_tests}
-use Rattle.mime.specs.Bytes.{is_token_byte, semicolon_byte, quote_byte}
-use Rattle.mime.specs.Grammar.{is_space, AreTokenBytes, IsToken}
-use Rattle.std.specs.Str.{IsUtf8, IsCharBoundary}
-use Rattle.std.proofs.lemmas.Option.{slice_get_within, get_or_from_slice_get}
-use Rattle.std.proofs.lemmas.Str.{IsCharBoundary-after_ascii}
+use Rattle.mime.specs.{Bytes.is_token_byte, Bytes.semicolon_byte, Bytes.quote_byte, Grammar.is_space, Grammar.AreTokenBytes, Grammar.IsToken}
 
 -- what a test of a table says of a byte is whether the byte is of the class, if it does byte by byte
-pub in_table : (class test : ℕ → Bool) (table : List ℕ) → map test table ≡ map class (range_with_len 0 256) → length table ≡ 256
+pub in_table : (class test : ℕ → Bool) (table : List ℕ) → map test table ≡ map class (range_with_len 0 256)
+    → length table ≡ 256
     → (b : ℕ) → b < 256 → test (get_or table b 0) ≡ class b
 in_table class test table is size b below =
     sym (get_or-map test table b 0 (class b) (omega (arith, size, below)))
     ∙ ap (λ t. get_or t b (class b)) is ∙ get_or-map-range_with_len class 0 256 b b (class b) (omega arith) (omega arith)
 
 -- a byte after a prefix
-pub slice_get-after : (prefix after : List ℕ) (i n : ℕ) → n ≡ length prefix + i → slice_get (prefix ++ after) n ≡ slice_get after i
+pub slice_get-after : (prefix after : List ℕ) (i n : ℕ) → n ≡ length prefix + i
+    → slice_get (prefix ++ after) n ≡ slice_get after i
 slice_get-after [] after i n is = ap (slice_get after) (omega (arith, is))
 slice_get-after (b ∷ prefix) after i n is =
     let next : n ≡ suc (length prefix + i) = omega (arith, is) in
     ap (slice_get (b ∷ (prefix ++ after))) next ∙ slice_get-after prefix after i (length prefix + i) refl
 
 -- the first byte after a prefix
-pub slice_get-prefix : (prefix : List ℕ) (b : ℕ) (after : List ℕ) (n : ℕ) → n ≡ length prefix → slice_get (prefix ++ b ∷ after) n ≡ Some b
+pub slice_get-prefix : (prefix : List ℕ) (b : ℕ) (after : List ℕ) (n : ℕ) → n ≡ length prefix
+    → slice_get (prefix ++ b ∷ after) n ≡ Some b
 slice_get-prefix prefix b after n long = slice_get-after prefix (b ∷ after) 0 n (omega (arith, long))
 
 -- a semicolon is no token byte
@@ -82,7 +77,8 @@ pub AreTokenBytes-from_token : (bytes : List ℕ) → IsToken bytes → AreToken
 AreTokenBytes-from_token bytes token = search rules
 
 -- a text may be cut after an ASCII byte
-pub boundary_after : (text : List ℕ) (at b : ℕ) → IsUtf8 text → slice_get text at ≡ Some b → b < 128 → IsCharBoundary text (at + 1)
+pub boundary_after : (text : List ℕ) (at b : ℕ) → IsUtf8 text → slice_get text at ≡ Some b → b < 128
+    → IsCharBoundary text (at + 1)
 boundary_after text at b utf8 there ascii =
     IsCharBoundary-after_ascii text at utf8 (slice_get_within text at b there) (omega (arith, get_or_from_slice_get text at b 0 there))
 

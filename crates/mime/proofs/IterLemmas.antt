@@ -1,23 +1,11 @@
 -- One call of a `MimeIter`: pieces are read up to the first that is an item, which is yielded.
 use Rattle.std.proofs.Common.{◌≡◌, ℕ, ◌≤◌, true, false, List, [], length, Option, Some, None, Result, Ok, Err, refl, sym, ap, ◌∙◌, subst, arith, Bor, ◌∷◌, ◌++◌, map}
 use Rattle.std.specs.Prelude.{codes}
-use Rattle.std.proofs.lemmas.Bool.{true≢false}
-use Rattle.std.proofs.lemmas.Option.{none-some}
-use Rattle.mime.specs.Values.{OwnedMedia, Reads}
-use Rattle.mime.specs.Cut.{TakesSteps, Cut, CutItem, good}
-use Rattle.mime.specs.Runs.{Iteration, GivesItem, IsNext}
-use Rattle.mime.specs.Inner.BetweenCalls.{IsUnderWay, PassesOn, IsFound}
-use Rattle.mime.specs.declared.iter.Bad.{Bad}
-use Rattle.mime.specs.declared.iter.Bad.TheVariants.{Piece, NoMemory}
-use Rattle.mime.specs.declared.iter.MimeIter.TheInside.{Inside}
-use Rattle.mime.specs.declared.scan.Positions.{Positions}
-use Rattle.mime.proofs.CutLemmas.Cuts.{empty-cut, takes-viable, has_cut, cut_unique}
-use Rattle.mime.specs.Faults.{Explains}
+use Rattle.std.proofs.{lemmas.Bool.true≢false, lemmas.Option.none-some}
+use Rattle.mime.specs.{Values.OwnedMedia, Values.Reads, Cut.TakesSteps, Cut.Cut, Cut.CutItem, Cut.good, Runs.Iteration, Runs.GivesItem, Runs.IsNext, Inner.BetweenCalls.IsUnderWay, Inner.BetweenCalls.PassesOn, Inner.BetweenCalls.IsFound, declared.iter.Bad.Bad, declared.iter.Bad.TheVariants.Piece, declared.iter.Bad.TheVariants.NoMemory, declared.iter.MimeIter.TheInside.Inside, declared.scan.Positions.Positions, Faults.Explains, CutLaws.items_of_rest, CutLaws.kept_item, CutLaws.AreGiven, CutLaws.none_left, CutLaws.a_value, CutLaws.a_piece, CutLaws.no_memory, CutLaws.RunGivesCut, CutLaws.PrintedListComesBack, CutLaws.CommaContainsOnRuns}
+use Rattle.mime.proofs.{CutLemmas.Cuts.empty-cut, CutLemmas.Cuts.takes-viable, CutLemmas.Cuts.has_cut, CutLemmas.Cuts.cut_unique, GrammarLemmas.Viability.empty_is_viable, CutLemmas.Containment.comma_contains, CutLemmas.Containment.joined_comes_back}
 use Rattle.mime.specs.declared.scan.fault.ParseError.TheVariants as error
-use Rattle.mime.proofs.GrammarLemmas.Viability.{empty_is_viable}
 use Rattle.std.specs.Iterator.{Drains}
-use Rattle.mime.specs.CutLaws.{items_of_rest, kept_item, AreGiven, none_left, a_value, a_piece, no_memory, RunGivesCut, PrintedListComesBack, CommaContainsOnRuns}
-use Rattle.mime.proofs.CutLemmas.Containment.{comma_contains, joined_comes_back}
 
 -- ---- what is kept
 
@@ -74,7 +62,8 @@ next-none old new found = record {
 }
 
 -- a call returns the item of the piece that was found
-next-some : (old now new : Iteration) (piece : Bor (List ℕ) × Option Positions) (given : Result OwnedMedia Bad) → IsFound old (Some piece) now
+next-some : (old now new : Iteration) (piece : Bor (List ℕ) × Option Positions) (given : Result OwnedMedia Bad)
+    → IsFound old (Some piece) now
     → IsSound new → new.text ≡ now.text → new.steps ≡ now.steps → GivesItem old (Some given) new → IsNext old (Some given) new
 next-some old now new piece given found sound text steps item = record {
   item = item;
@@ -101,7 +90,8 @@ next-good old new piece positions mime found reads star =
 
 -- a call returns `NoMemory`, which ends the run
 pub next-out_of_memory : (old now new : Iteration) (piece : Bor (List ℕ)) (positions : Positions)
-    → IsFound old (Some (piece, Some positions)) now → Explains piece.now error.NoMemory → new ≡ record now { left = []; out_of_memory = true } → IsNext old (Some (Err NoMemory)) new
+    → IsFound old (Some (piece, Some positions)) now → Explains piece.now error.NoMemory
+    → new ≡ record now { left = []; out_of_memory = true } → IsNext old (Some (Err NoMemory)) new
 next-out_of_memory old now new piece positions found (value, reads, long) is =
     let others = has_cut now.left in
     next-some old now new (piece, Some positions) (Err NoMemory) found
@@ -120,7 +110,8 @@ next-out_of_memory old now new piece positions found (value, reads, long) is =
     )
 
 -- nothing is given after an end
-given_ended : (first : Iteration) (given : List (Result OwnedMedia Bad)) → first.left ≡ [] → Drains IsNext first given → given ≡ []
+given_ended : (first : Iteration) (given : List (Result OwnedMedia Bad)) → first.left ≡ [] → Drains IsNext first given
+    → given ≡ []
 given_ended first [] ended drains = refl
 given_ended first (item ∷ given) ended (end, (last, (next, step, others), none)) = absurd (none-some item (sym (step.stays ended).0))
 
@@ -154,6 +145,7 @@ comma_contains_on_runs before after items others rest end cut closed follows fir
     (subst (λ t. Cut t (items ++ (items_of_rest rest ++ others)) end) (sym is)
     (comma_contains before after items others rest end cut closed follows))
 
+-- A printed list yields its values again.
 pub printed_list_comes_back : PrintedListComesBack
 printed_list_comes_back values are first given is drains =
     run_gives_cut first given drains (map kept_item values) []

@@ -1,19 +1,11 @@
 -- What lowercasing leaves as it is: lengths, cuts, classes of bytes, positions; and lowercasing twice is lowercasing once.
 use Rattle.std.proofs.Common.{◌≡◌, ℕ, ◌+◌, Bool, true, false, map, cond, List, [], ◌∷◌, ◌++◌, length, drop, refl, sym, ap, ◌∙◌, arith, rules}
 use Rattle.std.specs.Prelude.{◌==◌, IsTrue}
-use Rattle.std.specs.Char.{to_ascii_lowercase}
-use Rattle.std.proofs.lemmas.Bool.Decides.{nat_tests}
-use Rattle.std.proofs.lemmas.List.{map-append, length-map}
-use Rattle.std.proofs.lemmas.List.Folds.{list_all-map}
-use Rattle.std.proofs.lemmas.Str.Ascii.{lowercase-lowercase}
-use Rattle.mime.specs.Bytes.{is_token_byte}
-use Rattle.mime.specs.Grammar.{Parameter, plain, quoted, Parameters, blank, final, more, Tail, no_list, listed, SyntaxTree, IsToken, IsContent, IsParameter, AreParameters, IsTail, IsWellFormed}
-use Rattle.mime.specs.Values.{lowered, is_charset, lowered_value, lowered_parameter, lowered_list, lowered_tail, lowered_tree, last_plus, pair_of, pairs_of_list, pairs_of_tail}
-use Rattle.mime.specs.Inner.Scanning.{positions_of, semicolon_of}
-use Rattle.mime.specs.Inner.KeptText.{IsLowPair, lowered_pair}
+use Rattle.std.specs.{Char.to_ascii_lowercase, List.list_all}
+use Rattle.std.proofs.{lemmas.Bool.Decides.nat_tests, lemmas.List.map-append, lemmas.List.length-map, lemmas.List.Folds.list_all-map, lemmas.Str.Ascii.lowercase-lowercase}
+use Rattle.mime.specs.{Bytes.is_token_byte, Grammar.Parameter, Grammar.plain, Grammar.quoted, Grammar.Parameters, Grammar.blank, Grammar.final, Grammar.more, Grammar.Tail, Grammar.no_list, Grammar.listed, Grammar.SyntaxTree, Grammar.IsToken, Grammar.IsContent, Grammar.IsParameter, Grammar.AreParameters, Grammar.IsTail, Grammar.IsWellFormed, Values.lowered, Values.is_charset, Values.lowered_value, Values.lowered_parameter, Values.lowered_list, Values.lowered_tail, Values.lowered_tree, Values.last_plus, Values.pair_of, Values.pairs_of_list, Values.pairs_of_tail, Inner.Scanning.positions_of, Inner.Scanning.semicolon_of, Inner.KeptText.IsLowPair, Inner.KeptText.lowered_pair}
 use Rattle.mime.proofs.GrammarLemmas.Content.{IsContent-case}
 pub use Rattle.mime_search.proofs.IgnoringCase.{length-lowered, lowered-drop}
-use Rattle.std.specs.List.{list_all}
 
 -- lowercasing twice is lowercasing once
 pub lowered-lowered : (text : List ℕ) → lowered (lowered text) ≡ lowered text
@@ -43,11 +35,13 @@ IsToken-case (b ∷ bytes) [] is token = absurd cc
 IsToken-case (b ∷ bytes) (c ∷ other) is token =
     list_all-case is_token_byte (λ x. grind (arith, nat_tests)) (b ∷ bytes) (c ∷ other) is token
 
+-- A token in lowercase is a token.
 pub IsToken-lowered : (bytes : List ℕ) → IsToken bytes → IsToken (lowered bytes)
 IsToken-lowered bytes = IsToken-case bytes (lowered bytes) (lowered-lowered bytes)
 
 -- what holds of a value and of it in lowercase holds of it under any parameter's name
-pub lowered_value-either : (P : List ℕ → Type 0) (name value : List ℕ) → P value → P (lowered value) → P (lowered_value name value)
+pub lowered_value-either : (P : List ℕ → Type 0) (name value : List ℕ) → P value → P (lowered value)
+    → P (lowered_value name value)
 lowered_value-either P name value same lowercase =
     elim (is_charset name) as (λ b. P (cond b (lowered value) value)) [ true ↦ lowercase | false ↦ same ]
 
@@ -70,7 +64,8 @@ pub IsWellFormed-lowered_tree : (tree : SyntaxTree) → IsWellFormed tree → Is
 IsWellFormed-lowered_tree tree well = (
   IsToken-lowered tree.top well.0,
   IsToken-lowered tree.sub well.1,
-  (elim tree.tail as (λ tail. IsTail tail → IsTail (lowered_tail tail)) [ no_list ↦ λ well. tt | listed list ↦ AreParameters-lowered list ]) well.2,
+  (elim tree.tail as (λ tail. IsTail tail
+      → IsTail (lowered_tail tail)) [ no_list ↦ λ well. tt | listed list ↦ AreParameters-lowered list ]) well.2,
 )
 
 -- a kept value is its own lowercased form
@@ -121,6 +116,7 @@ pairs_of_list-lowered (blank n) = refl
 pairs_of_list-lowered (final n p) = ap (λ pair. pair ∷ []) (pair_of-lowered p)
 pairs_of_list-lowered (more n p rest) = cc (pair_of-lowered p, pairs_of_list-lowered rest)
 
+-- The pairs of a lowercased tail are those of the tail, lowercased.
 pub pairs_of_tail-lowered : (tail : Tail) → pairs_of_tail (lowered_tail tail) ≡ map lowered_pair (pairs_of_tail tail)
 pairs_of_tail-lowered no_list = refl
 pairs_of_tail-lowered (listed list) = pairs_of_list-lowered list
@@ -134,6 +130,7 @@ pub positions_of-lowered_tree : (tree : SyntaxTree) → positions_of (lowered_tr
 positions_of-lowered_tree tree =
     let at = length tree.top + 1 + length tree.sub in
     let plus = last_plus-lowered (length tree.top + 2) (drop 1 tree.sub) in
-    let semicolon = elim tree.tail as (λ tail. semicolon_of at (lowered_tail tail) ≡ semicolon_of at tail) [ no_list ↦ refl | listed list ↦ refl ] in
+    let semicolon = elim tree.tail as (λ tail. semicolon_of at (lowered_tail tail)
+    ≡ semicolon_of at tail) [ no_list ↦ refl | listed list ↦ refl ] in
     rw (length-lowered tree.top, length-lowered tree.sub, ← lowered-drop 1 tree.sub)
     (cc (semicolon, length-tail_lowered tree.tail, plus))

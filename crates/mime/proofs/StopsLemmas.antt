@@ -1,18 +1,11 @@
 -- The bytes that a search for the end of a token, or of quoted text, passes.
 use Rattle.std.proofs.Common.{◌≡◌, ℕ, ◌<◌, Bool, true, false, not, refl, sym, ap, ◌∙◌, arith, inl, inr}
 use Rattle.std.specs.Prelude.{◌||◌, nat_lt}
-use Rattle.std.specs.List.{list_all, range_with_len}
-use Rattle.std.proofs.lemmas.Bool.{lt-ltb, cases_lt, not-true, true≢false}
-use Rattle.std.proofs.Math.Bool.{or-true}
-use Rattle.std.proofs.lemmas.Nat.{le_or_l}
-use Rattle.std.specs.Int.Bits.{bit_or}
+use Rattle.std.specs.{List.list_all, List.range_with_len, Int.Bits.bit_or}
+use Rattle.std.proofs.{lemmas.Bool.lt-ltb, lemmas.Bool.cases_lt, lemmas.Bool.not-true, lemmas.Bool.true≢false, Math.Bool.or-true, lemmas.Nat.le_or_l}
 use Rattle.mime_search.proofs.IgnoringCase.{at_byte}
-use Rattle.mime.specs.Bytes.{is_token_byte, is_quoted_byte, is_quoted_text_byte}
-use Rattle.mime.specs.Inner.ByteClasses.{is_token_except_plus}
-use Rattle.mime.specs.declared.scan.runs.TheConstants.{TOKEN_STOPS, QUOTED_TEXT_STOPS}
-use Rattle.mime_search.specs.Classes.{is_outside_range, is_outside, is_stop}
-use Rattle.mime_search.specs.declared.class.Class.{Class}
-use Rattle.mime_search.specs.declared.class.Range.{Range}
+use Rattle.mime.specs.{Bytes.is_token_byte, Bytes.is_quoted_byte, Bytes.is_quoted_text_byte, Inner.ByteClasses.is_token_except_plus, declared.scan.runs.TheConstants.TOKEN_STOPS, declared.scan.runs.TheConstants.QUOTED_TEXT_STOPS}
+use Rattle.mime_search.specs.{Classes.is_outside_range, Classes.is_outside, Classes.is_stop, declared.class.Class.Class, declared.class.Range.Range}
 
 -- what is past all ranges is outside
 past_range : (range : Range) (b : ℕ) → range.1 < b → is_outside_range range b ≡ true
@@ -20,7 +13,8 @@ past_range range b past = rw (lt-ltb range.1 b past) (or-true (nat_lt b range.0)
 
 -- a byte is inside the ranges only if a wider class has it: tried on all bytes
 pub in_ranges : (class : Class) (wider : ℕ → Bool) → class.folded.1 < 256 → class.second.1 < 256 → class.third.1 < 256
-    → list_all (λ b. is_outside class b || wider b) (range_with_len 0 256) ≡ true → (b : ℕ) → is_outside class b ≡ false → wider b ≡ true
+    → list_all (λ b. is_outside class b || wider b) (range_with_len 0 256) ≡ true → (b : ℕ) → is_outside class b ≡ false
+    → wider b ≡ true
 in_ranges class wider one two three all b inside =
     elim (cases_lt b 256) [
       | inl within ↦ ap (λ t. t || wider b) (sym inside) ∙ at_byte (λ x. is_outside class x || wider x) b within all

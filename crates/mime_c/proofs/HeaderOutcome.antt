@@ -22,7 +22,8 @@ module _ (line old : List ℕ) where
       held_of header =
           let bytes = strings (ranges_texts header.ranges) in (written bytes old, length bytes, length header.bad)
 
-      only : (n : ℕ) (held : List ℕ × ℕ × ℕ) → n ≢ MIME_NO_MEMORY → AreRanges line old n held → (n ≡ MIME_OK) × (held ≡ held_of is.0)
+      only : (n : ℕ) (held : List ℕ × ℕ × ℕ) → n ≢ MIME_NO_MEMORY → AreRanges line old n held
+          → (n ≡ MIME_OK) × (held ≡ held_of is.0)
       only n held some (are_ranges two too back) = (refl, ap held_of (one_header (line ∷ []) two is.0 too is.1))
       only n held some (ranges_have_no_memory none) = absurd (some refl)
 
@@ -43,7 +44,8 @@ some_or_none (Some x) = inl (x, refl)
 some_or_none None = inr refl
 
 -- If a list has no first bad offer, none of its offers is bad.
-pub none_bad : (list : List ℕ) (first : Option ℕ) {count : ℕ} (offered : Header) → MatchOption first (count ≡ 0) (IsFirstBad (list ∷ []))
+pub none_bad : (list : List ℕ) (first : Option ℕ) {count : ℕ} (offered : Header)
+    → MatchOption first (count ≡ 0) (IsFirstBad (list ∷ []))
     → ((at : ℕ) → first ≢ Some at) → count ≡ length offered.bad → offered.bad ≡ []
 none_bad list None offered is other counted = nil_from_length offered.bad (sym counted ∙ is)
 none_bad list (Some at) offered is other counted = absurd (other at refl)
@@ -61,7 +63,8 @@ module _ {Held : Type 0} (is_there : Bool) (line offers : List ℕ) (failed : �
   Outcome = OfOffers is_there line offers failed Is
 
   -- A list of good offers has no other outcome.
-  only_good : (header offered : Header) → IsHeader (lines_of is_there line) header → IsHeader (offers ∷ []) offered → offered.bad ≡ []
+  only_good : (header offered : Header) → IsHeader (lines_of is_there line) header → IsHeader (offers ∷ []) offered
+      → offered.bad ≡ []
       → (n : ℕ) (held : Held) → n ≢ MIME_NO_MEMORY → Outcome n held
       → (n ≡ (one header.ranges offered.ranges).0) × (held ≡ (one header.ranges offered.ranges).1)
   only_good header offered is of good n held some (are_offers another others _ _ too again fine has) =

@@ -45,7 +45,8 @@ kept_pairs test ((name, value) ∷ pairs) (is, are) =
     ))
   where
     -- This holds whether the parameter passes the test or not.
-    by_kept : (kept : Bool) (pair : List ℕ × List ℕ) (others : List (List ℕ × List ℕ)) {most : ℕ} → length (text_of_pairs others) ≤ most
+    by_kept : (kept : Bool) (pair : List ℕ × List ℕ) (others : List (List ℕ × List ℕ)) {most : ℕ}
+        → length (text_of_pairs others) ≤ most
         → length (text_of_pairs (pair ∷ others)) ≤ most → length (text_of_pairs (if kept then pair ∷ others else others)) ≤ most
     by_kept true pair others less more = more
     by_kept false pair others less more = less
@@ -111,7 +112,8 @@ sizes_of value media reads =
     )
 
 -- What is written anew for a value is read as its media type.
-pub read_anew : (value : List ℕ) (media : MediaType) → HttpReads value media → (text : List ℕ) × Reads text (with_pairs media media.pairs)
+pub read_anew : (value : List ℕ) (media : MediaType) → HttpReads value media
+    → (text : List ℕ) × Reads text (with_pairs media media.pairs)
 read_anew value media reads =
     let is = http_is_answered value media reads in
     (text_of_parts is.0, subst (Reads (text_of_parts is.0)) is.2 (written_reads value is.0 is.1))
@@ -161,7 +163,8 @@ value_fits value media reads printed =
 -- ---- the strings of ranges
 
 -- The strings of a range are at most three times as many bytes as its text with a comma.
-range_fits : (text : List ℕ) (range : MediaType) → HttpReads text range → length (strings (range_texts range)) ≤ 3 * (length text + 1)
+range_fits : (text : List ℕ) (range : MediaType) → HttpReads text range
+    → length (strings (range_texts range)) ≤ 3 * (length text + 1)
 range_fits text range reads =
     let sizes = sizes_of text range reads in
     omega (

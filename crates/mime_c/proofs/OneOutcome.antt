@@ -14,7 +14,8 @@ use Rattle.mime_c.proofs.NoZero.{texts_come_back, items_come_back}
 
 -- An outcome is the one if any other is the same.
 pub one_is : {Held : Type 0} {Is : ℕ → Held → Type 0} {n : ℕ} {held : Held} → n ≢ MIME_NO_MEMORY → Is n held
-    → ((m : ℕ) (other : Held) → n ≢ MIME_NO_MEMORY → m ≢ MIME_NO_MEMORY → Is n held → Is m other → (m ≡ n) × (other ≡ held)) → HasOne Is
+    → ((m : ℕ) (other : Held) → n ≢ MIME_NO_MEMORY → m ≢ MIME_NO_MEMORY → Is n held → Is m other
+        → (m ≡ n) × (other ≡ held)) → HasOne Is
 one_is {n = n} {held = held} some is same = (n, held, some, is, λ m other too has. same m other some too is has)
 
 -- A call that succeeds with what it has to hold has one outcome.
@@ -46,8 +47,10 @@ pub record IsReading (IsRead : MediaType → Type 0) (Explained : FieldError →
   pub either : ((media : MediaType) × IsRead media)
       ⊎ ((error : FieldError) × (number_of_error error ≢ MIME_NO_MEMORY) × Explained error)
   pub one_media : (one two : MediaType) → IsRead one → IsRead two → two ≡ one
-  pub not_both : (media : MediaType) (error : FieldError) → number_of_error error ≢ MIME_NO_MEMORY → IsRead media → ¬ (Explained error)
-  pub one_error : (one two : FieldError) → number_of_error one ≢ MIME_NO_MEMORY → number_of_error two ≢ MIME_NO_MEMORY → Explained one
+  pub not_both : (media : MediaType) (error : FieldError) → number_of_error error ≢ MIME_NO_MEMORY → IsRead media
+      → ¬ (Explained error)
+  pub one_error : (one two : FieldError) → number_of_error one ≢ MIME_NO_MEMORY → number_of_error two ≢ MIME_NO_MEMORY
+      → Explained one
       → Explained two → two ≡ one
 
 -- A call has one outcome if it reads a media type first and has one outcome for each.
@@ -55,14 +58,16 @@ module _ {Held : Type 0} {IsRead : MediaType → Type 0} {Explained : FieldError
     {Is : MediaType → ℕ → Held → Type 0} (reading : IsReading IsRead Explained) (one : (media : MediaType) → IsRead media
     → HasOne (Is media)) where
   -- A media type that is read has no other outcome.
-  only_read : (media : MediaType) (is : IsRead media) (n : ℕ) (held : Held) → n ≢ MIME_NO_MEMORY → Of IsRead Explained failed Is n held
+  only_read : (media : MediaType) (is : IsRead media) (n : ℕ) (held : Held) → n ≢ MIME_NO_MEMORY
+      → Of IsRead Explained failed Is n held
       → (n ≡ (one media is).0) × (held ≡ (one media is).1)
   only_read media is n held some (is_read other _ _ too has) =
       (one media is).4 n held some (subst (λ (it : MediaType). Is it n held) (reading.one_media media other is too) has)
   only_read media is n held some (fails error why) = absurd (reading.not_both media error some is why)
 
   -- An error has no other outcome.
-  only_failed : (error : FieldError) → number_of_error error ≢ MIME_NO_MEMORY → Explained error → (n : ℕ) (held : Held) → n ≢ MIME_NO_MEMORY
+  only_failed : (error : FieldError) → number_of_error error ≢ MIME_NO_MEMORY → Explained error → (n : ℕ) (held : Held)
+      → n ≢ MIME_NO_MEMORY
       → Of IsRead Explained failed Is n held → (n ≡ number_of_error error) × (held ≡ failed (found_of_error error))
   only_failed error h why n held some (is_read media _ _ is has) = absurd (reading.not_both media error h is why)
   only_failed error h why n held some (fails other too) =
@@ -132,7 +137,8 @@ module _ (text : List ℕ) where
   not_both media NoMemory some is why = why
 
   -- A text that isn't read has one error.
-  one_error : (one two : FieldError) → number_of_error one ≢ MIME_NO_MEMORY → number_of_error two ≢ MIME_NO_MEMORY → TextExplains text one
+  one_error : (one two : FieldError) → number_of_error one ≢ MIME_NO_MEMORY → number_of_error two ≢ MIME_NO_MEMORY
+      → TextExplains text one
       → TextExplains text two → two ≡ one
   one_error NoMemory two h k why too = absurd why
   one_error one NoMemory h k why too = absurd too

@@ -60,7 +60,8 @@ module _ {X : Type 0} (R : X → X → Type 0) (goes_on : (x y z : X) → R x y 
           λ is. ⊎_elim (λ same. inr (the_first y z xs same))
               (λ there. ⊎_elim inl (λ deeper. inr (a_later y z xs deeper)) ((rest.2 z).0 there)) (one_of y z rest.0 is),
           λ is. ⊎_elim (λ same. a_later y z rest.0 ((rest.2 z).1 (inl same)))
-              (λ there. ⊎_elim (the_first y z rest.0) (λ deeper. a_later y z rest.0 ((rest.2 z).1 (inr deeper))) (one_of y z xs there)) is,
+              (λ there. ⊎_elim (the_first y z rest.0) (λ deeper. a_later y z rest.0 ((rest.2 z).1 (inr deeper)))
+                  (one_of y z xs there)) is,
         ),
       ))
       (All-head (λ z. R x z ⊎ R z x) y xs apart)
@@ -144,7 +145,8 @@ module _ (ranges offers : List MediaType) where
 
 module _ (old : List ℕ) (ranges offers : List MediaType) where
   -- No order is the only outcome if no offer is acceptable.
-  only_unordered : AreInOrder ranges offers [] → (n : ℕ) (held : List ℕ × ℕ) → n ≢ MIME_NO_MEMORY → IsOrder old ranges offers n held
+  only_unordered : AreInOrder ranges offers [] → (n : ℕ) (held : List ℕ × ℕ) → n ≢ MIME_NO_MEMORY
+      → IsOrder old ranges offers n held
       → (n ≡ MIME_NOT_ACCEPTABLE) × (held ≡ (old, 0))
   only_unordered none n held some (order_is order _ _ are more is) = absurd (more (one_order ranges offers order [] are none))
   only_unordered none n held some (none_is_ordered too) = (refl, refl)
@@ -158,7 +160,8 @@ module _ (old : List ℕ) (ranges offers : List MediaType) where
   one_place order = one_in_room one_success
 
   -- An order is the only one.
-  only_some : (order : List ℕ) → AreInOrder ranges offers order → order ≢ [] → (n : ℕ) (held : List ℕ × ℕ) → n ≢ MIME_NO_MEMORY
+  only_some : (order : List ℕ) → AreInOrder ranges offers order → order ≢ [] → (n : ℕ) (held : List ℕ × ℕ)
+      → n ≢ MIME_NO_MEMORY
       → IsOrder old ranges offers n held → (n ≡ (one_place order).0) × (held ≡ (one_place order).1)
   only_some order are more n held some (order_is other _ _ too _ is) =
       (one_place order).4 n held some (subst (λ it. IsPlaced it n held) (one_order ranges offers other order too are) is)

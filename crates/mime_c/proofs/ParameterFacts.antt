@@ -35,7 +35,8 @@ unfolding is_quoted_byte
 no_line_feed name is = true≢false (sym is.safe)
 
 -- A byte isn't enough for a boundary, nor are five for an empty parameter.
-no_room_for_either : BoundaryIs [] (codes "-") MIME_NO_ROOM (codes "-", 0) × SetsTo [] [] [] (codes "-----") MIME_NO_ROOM (codes "-----", 0)
+no_room_for_either : BoundaryIs [] (codes "-") MIME_NO_ROOM (codes "-", 0)
+    × SetsTo [] [] [] (codes "-----") MIME_NO_ROOM (codes "-----", 0)
 no_room_for_either = (has_no_room (omega arith), has_no_room (omega arith))
 
 -- No boundary is written into one byte.

@@ -7,7 +7,8 @@ use Rattle.mime_c.specs.{Strings.string_of, Strings.strings, Strings.texts_of, S
 use Rattle.mime_c.proofs.NoZero.{pair_texts}
 
 -- A string has one byte more than its text.
-length-strings : (text : List ℕ) (texts : List (List ℕ)) → length (strings (text ∷ texts)) ≡ length text + 1 + length (strings texts)
+length-strings : (text : List ℕ) (texts : List (List ℕ))
+    → length (strings (text ∷ texts)) ≡ length text + 1 + length (strings texts)
 length-strings text texts = omega (arith, length-append {A = ℕ})
 
 -- ---- the strings of a tree that is in lowercase already
@@ -44,7 +45,8 @@ Lengths text media =
     × (length media.essence + length (strings (pair_texts media.pairs)) ≤ length text)
 
 -- A text in lowercase is long enough for the strings of its media type.
-lengths-low : (text : List ℕ) (tree : SyntaxTree) → length (text_of tree) ≤ length text → 2 < length text → Lengths text (value_of_low tree)
+lengths-low : (text : List ℕ) (tree : SyntaxTree) → length (text_of tree) ≤ length text → 2 < length text
+    → Lengths text (value_of_low tree)
 lengths-low text tree size some =
     let pairs = pairs_of_tail tree.tail in
     let parts = essence_of tree ∷ pair_texts pairs in

@@ -80,14 +80,16 @@ boundary_or_not media =
     (λ multipart. ⊎_elim
     (λ found. ⊎_elim
     (λ is. inl (found.0, record { multipart = named.0 multipart; found = found.1; is = is }))
-    (λ no. inr (λ other is. no (subst IsBoundary (same_Some other found.0 (sym is.found ∙ found.1)) is.is))) (is_boundary_or_not found.0))
+    (λ no. inr (λ other is. no (subst IsBoundary (same_Some other found.0 (sym is.found ∙ found.1)) is.is)))
+        (is_boundary_or_not found.0))
     (λ none. inr (λ other is. none-some other (sym none ∙ is.found)))
     (some_or_none (option_map unescaped (first_value (codes "boundary") media.pairs))))
     (λ no. inr (λ other is. true≢false (sym (named.1 is.multipart) ∙ no)))
     (cases_Bool (bytes_eq (type_of media) (codes "multipart")))
 
 -- Two outcomes of a boundary are the same unless memory runs out.
-same_boundary : {old : List ℕ} {media : MediaType} {n m : ℕ} {held other : List ℕ × ℕ} → n ≢ MIME_NO_MEMORY → m ≢ MIME_NO_MEMORY
+same_boundary : {old : List ℕ} {media : MediaType} {n m : ℕ} {held other : List ℕ × ℕ} → n ≢ MIME_NO_MEMORY
+    → m ≢ MIME_NO_MEMORY
     → HasBoundary old media n held → HasBoundary old media m other → (m ≡ n) × (other ≡ held)
 same_boundary h k boundary_has_no_memory two = absurd (h refl)
 same_boundary h k one boundary_has_no_memory = absurd (k refl)
@@ -139,7 +141,8 @@ comes_back text name value media reads is =
     set_comes_back (with_parameter media name value) (kept_is_read _ _ made)
 
 -- Two outcomes of a parameter are the same unless memory runs out.
-same_set : {name value old : List ℕ} {media : MediaType} {n m : ℕ} {held other : List ℕ × ℕ} → n ≢ MIME_NO_MEMORY → m ≢ MIME_NO_MEMORY
+same_set : {name value old : List ℕ} {media : MediaType} {n m : ℕ} {held other : List ℕ × ℕ} → n ≢ MIME_NO_MEMORY
+    → m ≢ MIME_NO_MEMORY
     → IsSet name value old media n held → IsSet name value old media m other → (m ≡ n) × (other ≡ held)
 same_set h k one two = search rules
 

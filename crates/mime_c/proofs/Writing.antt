@@ -20,7 +20,8 @@ both_written now mid new one other at next end first second = record {
 -- A text fits if there is room for it after what is written.
 pub fits : {old now prefix : List ℕ} {at : ℕ} → HasWritten old now at prefix → (text more : List ℕ)
     → length (prefix ++ (string_of text ++ more)) ≤ length old → at + length text < length now
-fits {old} {now} {prefix} wrote text more room = omega (arith, wrote.end, ap length wrote.there, length-append {A = ℕ}, length-drop {A = ℕ})
+fits {old} {now} {prefix} wrote text more room =
+    omega (arith, wrote.end, ap length wrote.there, length-append {A = ℕ}, length-drop {A = ℕ})
 
 -- Of all bytes that are to be written some are there, and the others are left.
 pub record Leaves (old now : List ℕ) (at : ℕ) (left all : List ℕ) : Type 0 where
@@ -42,17 +43,20 @@ leaves-room old all at room = omega (arith, length-append (take at old) all, len
 
 module _ {old now left all : List ℕ} {at : ℕ} (leaves : Leaves old now at left all) where
   -- The next string that is left fits.
-  pub leaves-fits : (text more : List ℕ) → left ≡ string_of text ++ more → length all ≤ length old → at + length text < length now
+  pub leaves-fits : (text more : List ℕ) → left ≡ string_of text ++ more → length all ≤ length old
+      → at + length text < length now
   leaves-fits text more is room = fits leaves.wrote text more (rw (← is, leaves.onward) room)
 
   -- The next bytes that are left fit.
   pub leaves-holds : (bytes more : List ℕ) → left ≡ bytes ++ more → length all ≤ length old → at + length bytes ≤ length now
   leaves-holds bytes more is room =
       let sizes = ap length leaves.onward in
-      omega (arith, leaves.wrote.end, ap length leaves.wrote.there, sizes, ap length is, room, length-append {A = ℕ}, length-drop {A = ℕ})
+      omega (arith, leaves.wrote.end, ap length leaves.wrote.there, sizes, ap length is, room, length-append {A = ℕ},
+          length-drop {A = ℕ})
 
   -- The bytes after the next are left once the next are written.
-  pub leaves-next : (bytes more new : List ℕ) (end : ℕ) → left ≡ bytes ++ more → Writes now at bytes new end → Leaves old new end more all
+  pub leaves-next : (bytes more new : List ℕ) (end : ℕ) → left ≡ bytes ++ more → Writes now at bytes new end
+      → Leaves old new end more all
   leaves-next bytes more new end is writes = record {
     prefix = leaves.prefix ++ bytes;
     wrote = writes.adds old leaves.prefix leaves.wrote;
@@ -74,12 +78,14 @@ writes-all {old} {now} {left} {all} {at} {end} leaves none = record {
       ap (drop (length prefix)) wrote.there ∙ drop_at prefix _ (length prefix) refl in
       let after : drop (length (prefix ++ all)) old ≡ drop (length (prefix ++ all)) older =
       rw (length-append prefix all)
-      (sym (drop-drop (length all) (length prefix) old) ∙ ap (drop (length all)) behind ∙ drop-drop (length all) (length prefix) older) in
+      (sym (drop-drop (length all) (length prefix) old) ∙ ap (drop (length all)) behind
+          ∙ drop-drop (length all) (length prefix) older) in
       record { there = cc (before, after, last.there); end = last.end ∙ ap (λ it. length (it ++ all)) before };
 }
 
 -- A text is a string if the 0 was written before it.
-pub ended_before : (now text new : List ℕ) (i at end : ℕ) → i ≡ at + length text → i < length now → Writes (set now i 0) at text new end
+pub ended_before : (now text new : List ℕ) (i at end : ℕ) → i ≡ at + length text → i < length now
+    → Writes (set now i 0) at text new end
     → Writes now at (string_of text) new (end + 1)
 unfolding leaves-first
 ended_before now text new i at end is room writes =
@@ -91,7 +97,8 @@ ended_before now text new i at end is room writes =
     }) refl
 
 -- The position after bytes that were written is as many bytes further on.
-pub writes-end : {old new bytes : List ℕ} {at end : ℕ} → at ≤ length old → Writes old at bytes new end → end ≡ at + length bytes
+pub writes-end : {old new bytes : List ℕ} {at end : ℕ} → at ≤ length old → Writes old at bytes new end
+    → end ≡ at + length bytes
 unfolding leaves-first
 writes-end {old} {new} {bytes} {at} within writes =
     omega (

@@ -2,8 +2,7 @@
 use Rattle.std.proofs.Common.{◌≡◌, ◌≢◌, ◌∙◌, ◌≤◌, ◌++◌, ◌∷◌, [], inl, inr, ℕ, List, Bool, true, false, Option, Some, None, drop, length, length-append, refl, sym, ap, arith, codes, ⊎_elim}
 use Rattle.std.specs.List.{list_all}
 use Rattle.std.specs.Prelude.{◌==◌, not}
-use Rattle.std.proofs.lemmas.Bool.{true≢false, false≢true}
-use Rattle.std.proofs.lemmas.Option.{same_Some}
+use Rattle.std.proofs.{lemmas.Bool.true≢false, lemmas.Bool.false≢true, lemmas.Option.same_Some}
 use Rattle.mime.proofs.HandedOut.{length-lowered}
 use Rattle.mime_examples.specs.Multipart.{IsLine, IsEmptyLine, EndsLine, HasNoDelimiter, IsCut, IsPart, no_line, with_return, without_return, Closes, closed, cut_off, a_part, IsBody, no_delimiter, after_preamble, IsField, IsFirstField, in_line, after_line, empty_line, no_line_end}
 
@@ -137,7 +136,8 @@ after_start body [] after rest is cut = ap (drop 3) (sym cut.whole ∙ is)
 after_start body (b ∷ before) after rest is cut = absurd (omega (arith, cut.first [] rest line_ends.0 is))
 
 -- The body `--x--` is whole, and has no part.
-closed_at_once : (parts : List (List ℕ)) (is_whole : Bool) → IsBody mark (codes "--x--") parts is_whole → (parts ≡ []) × (is_whole ≡ true)
+closed_at_once : (parts : List (List ℕ)) (is_whole : Bool) → IsBody mark (codes "--x--") parts is_whole
+    → (parts ≡ []) × (is_whole ≡ true)
 closed_at_once parts is_whole (no_delimiter _ none) = absurd (none [] (codes "--") line_ends.0 refl)
 closed_at_once parts is_whole (after_preamble _ before after _ _ cut (closed _ closes)) = (refl, refl)
 closed_at_once parts is_whole (after_preamble _ before after _ _ cut (cut_off _ off)) =
@@ -206,7 +206,8 @@ begins_with_feed (b ∷ line) more is same =
     let isnt : list_all (λ b. not (b == 10)) (b ∷ line) ≡ false = rw feed refl in absurd (true≢false (sym is ∙ isnt))
 
 -- No field is found after the empty line that ends a header.
-none_after_header : (text : List ℕ) (found : Option (List ℕ)) → IsFirstField (codes "a") text found → text ≡ codes "\nA: b\n" → found ≡ None
+none_after_header : (text : List ℕ) (found : Option (List ℕ)) → IsFirstField (codes "a") text found → text ≡ codes "\nA: b\n"
+    → found ≡ None
 none_after_header text found (in_line line more value is_line is) same =
     absurd (omega (arith, simp length-append at (ap length (sym (begins_with_feed line more is_line same) ∙ is.spelled))))
 none_after_header text found (after_line line more _ is_line none full rest) same =

@@ -1,10 +1,8 @@
 -- Values of Content-Disposition for which the words of the recipe hold, and others for which they don't.
 use Rattle.std.proofs.Common.{◌≡◌, ◌∙◌, ◌++◌, ◌∷◌, [], ℕ, List, Option, Some, None, false, length, map, length-append, refl, sym, ap, arith, codes}
-use Rattle.std.specs.Option.{option_map}
-use Rattle.std.specs.Str.{IsUtf8}
+use Rattle.std.specs.{Option.option_map, Str.IsUtf8}
 use Rattle.std.proofs.lemmas.Option.{same_Some, none-some}
-use Rattle.mime.specs.Bytes.{is_token_byte, is_quoted_byte}
-use Rattle.mime.specs.Values.{MediaType}
+use Rattle.mime.specs.{Bytes.is_token_byte, Bytes.is_quoted_byte, Values.MediaType}
 use Rattle.mime.proofs.HandedOut.{IsContent-taken, length-lowered}
 use Rattle.mime_http.specs.HttpMediaType.{HttpReads, with_token, with_string, no_more, semicolon_and}
 use Rattle.mime_examples.specs.Disposition.{FirstMeans, IsDisposition, unescaped_name}
@@ -25,7 +23,11 @@ meanings :
     × FirstMeans pairs (codes "nam") None
 meanings = (
   (Some (codes "a\\\"b", false), ((λ _. refl), (λ other. absurd (other refl))), refl),
-  (Some (codes "c", false), ((λ same. absurd (omega (arith, ap length same))), λ _. ((λ _. refl), (λ other. absurd (other refl)))), refl),
+  (
+    Some (codes "c", false),
+    ((λ same. absurd (omega (arith, ap length same))), λ _. ((λ _. refl), (λ other. absurd (other refl)))),
+    refl,
+  ),
   (
     None,
     (

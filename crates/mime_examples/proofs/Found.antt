@@ -1,11 +1,8 @@
 -- A parameter that was written is the one that is found under its name.
 use Rattle.std.proofs.Common.{◌≡◌, ◌∙◌, ◌++◌, ◌∷◌, [], ℕ, List, Bool, true, false, Option, Some, refl, sym, ap, not, cond, codes}
 use Rattle.std.specs.Str.{bytes_eq}
-use Rattle.std.proofs.lemmas.Slice.Eq.{bytes_eq-Decides}
-use Rattle.std.proofs.lemmas.Bool.{true≢false}
-use Rattle.mime.specs.Values.{lowered}
-use Rattle.mime.specs.Names.{NameIs}
-use Rattle.mime.specs.Items.{items_of, IsFirstAccepted}
+use Rattle.std.proofs.{lemmas.Slice.Eq.bytes_eq-Decides, lemmas.Bool.true≢false}
+use Rattle.mime.specs.{Values.lowered, Names.NameIs, Items.items_of, Items.IsFirstAccepted}
 use Rattle.mime_http.specs.Written.{others}
 
 -- The last pair is found after a pair of another name, which stays, and after one of its name, which goes.

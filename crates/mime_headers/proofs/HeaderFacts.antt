@@ -9,7 +9,8 @@ use Rattle.mime_headers.specs.{Head.is_code, Head.is_own, Head.is_start, Head.is
 -- White space before and after is left out, which a form feed and a carriage return aren't. A line loses a carriage return at its end, and
 -- what is before its first `<` or `>` if it begins with another. An input loses a byte order mark and, if it is cut off, its last line.
 lines :
-    (map trimmed (codes " \t a b\t " ∷ codes " \r " ∷ (12 ∷ codes " a ") ∷ []) ≡ codes "a b" ∷ codes "\r" ∷ (12 ∷ codes " a") ∷ [])
+    (map trimmed (codes " \t a b\t " ∷ codes " \r " ∷ (12 ∷ codes " a ") ∷ []) ≡ codes "a b" ∷ codes "\r"
+    ∷ (12 ∷ codes " a") ∷ [])
     × (map bare (lines_of (codes "a<\r\n\ra\r> b<\n\ra< b\n\ra\na\r\r")) ≡ lines_of (codes "a<\n> b<\n< b\n\ra\na\r"))
     × (map (bare_lines false) ((239 ∷ 187 ∷ 191 ∷ codes "a\r\nb") ∷ (239 ∷ 187 ∷ codes "a\n") ∷ [])
     ≡ lines_of (codes "a\nb") ∷ ((239 ∷ 187 ∷ codes "a") ∷ []) ∷ [])
@@ -76,14 +77,16 @@ pasted :
     × (heads false (codes "> accept: a/b\n< Accept-Ranges: c\n> d: e\n") ≡ codes "accept: a/b|d: e|\n")
     × (heads false (codes " Accept: a\n b\nc\n") ≡ codes "Accept: a|b|\n")
     × (heads false (codes "Accept: a\nHTTP/2 200\nb\n") ≡ codes "Accept: a|\nHTTP/2 200|b|\n")
-    × (map (heads false) (codes "HTTP/2 200\n\nAccept: a\n" ∷ codes "From: b\n\nAccept: c\n" ∷ codes "a: b\nAccept : c\n" ∷ [] ∷ [])
+    × (map (heads false) (codes "HTTP/2 200\n\nAccept: a\n" ∷ codes "From: b\n\nAccept: c\n" ∷ codes "a: b\nAccept : c\n"
+    ∷ [] ∷ [])
     ≡ codes "HTTP/2 200|\n" ∷ [] ∷ [] ∷ [] ∷ [])
 unfolding is_code is_own is_start is_token_byte is_version
 pasted = (refl, refl, refl, refl, refl)
 
 -- In an input that is cut off a head counts only if a line before the last ends it.
 cut_heads :
-    (map (heads true) (codes "HTTP/2 200\n\n" ∷ codes "> GET / HTTP/2\n* a\n* b" ∷ codes "Accept: a\nb" ∷ []) ≡ [] ∷ [] ∷ [] ∷ [])
+    (map (heads true) (codes "HTTP/2 200\n\n" ∷ codes "> GET / HTTP/2\n* a\n* b" ∷ codes "Accept: a\nb" ∷ []) ≡ [] ∷ []
+    ∷ [] ∷ [])
     × (map (heads true) (codes "HTTP/2 200\n\na" ∷ codes "HTTP/2 200\nHTTP/2 201\na" ∷ codes " HTTP/2 200\na\nb" ∷ [])
     ≡ codes "HTTP/2 200|\n" ∷ codes "HTTP/2 200|\n" ∷ codes "HTTP/2 200|\n" ∷ [])
     × (heads true (codes "Accept: a\n\nb") ≡ codes "Accept: a|\n")
@@ -91,7 +94,8 @@ unfolding is_code is_own is_start is_token_byte is_version
 cut_heads = (refl, refl, refl)
 
 -- An input of one byte more than 1,048,576 is cut off.
-cut_inputs : (bytes : List ℕ) → (length bytes ≡ 1048576 → is_cut bytes ≡ false) × (length bytes ≡ 1048577 → is_cut bytes ≡ true)
+cut_inputs : (bytes : List ℕ) → (length bytes ≡ 1048576 → is_cut bytes ≡ false)
+    × (length bytes ≡ 1048577 → is_cut bytes ≡ true)
 cut_inputs bytes = (λ len. rw len refl, λ len. rw len refl)
 
 -- ---- fields
@@ -100,7 +104,8 @@ cut_inputs bytes = (λ len. rw len refl, λ len. rw len refl)
 values :
     (filter (begins (codes "accept:")) (lines_of (codes "ACCEPT: a/b\nAccept : a/b\nAccept\nX-Accept: a/b")) ≡ codes "ACCEPT: a/b" ∷ [])
     × (filter goes_on (codes "\ta" ∷ codes "a b" ∷ [] ∷ (12 ∷ codes "a") ∷ codes "\ra" ∷ []) ≡ codes "\ta" ∷ [])
-    × (map continued (lines_of (codes "  b\t\n\tc d\ne\n f") ∷ lines_of (codes " \n a") ∷ []) ≡ codes " b c d" ∷ codes "  a" ∷ [])
+    × (map continued (lines_of (codes "  b\t\n\tc d\ne\n f") ∷ lines_of (codes " \n a") ∷ []) ≡ codes " b c d"
+    ∷ codes "  a" ∷ [])
     × (values_of (codes "accept:") (lines_of (codes "Accept: a/b, \n  c/d\nHost: e\n f\naccept:g/h")) ≡ lines_of (codes "a/b, c/d\ng/h"))
 values = (refl, refl, refl, refl)
 
@@ -132,7 +137,8 @@ rows_of_media = (refl, refl)
 -- Bytes that aren't printable ASCII have dots. A caret is under the byte at fault, which is named, or after the value.
 faults :
     (shown (97 ∷ 32 ∷ 126 ∷ 0 ∷ 9 ∷ 27 ∷ 127 ∷ 195 ∷ []) ≡ codes "a ~.....")
-    × (map (fault_place (codes "a/")) (Invalid (InvalidToken 1 98) ∷ Invalid MissingSubtype ∷ NotUtf8 1 ∷ []) ≡ 1 ∷ 2 ∷ 1 ∷ [])
+    × (map (fault_place (codes "a/")) (Invalid (InvalidToken 1 98) ∷ Invalid MissingSubtype ∷ NotUtf8 1 ∷ []) ≡ 1 ∷ 2
+    ∷ 1 ∷ [])
     × (map byte_text (99 ∷ 32 ∷ 9 ∷ 233 ∷ [])
     ≡ (codes " c (" ++ (digits 16 true 99 ++ codes ")")) ∷ (codes " space (" ++ (digits 16 true 32 ++ codes ")"))
     ∷ (codes " tab (" ++ (digits 16 true 9 ++ codes ")")) ∷ (codes " (" ++ (digits 16 true 233 ++ codes ")")) ∷ [])
@@ -148,7 +154,8 @@ faults = (refl, refl, refl, refl, refl, refl)
 rows_of_heads :
     (map (missing (plain ∷ [])) (None ∷ Some false ∷ []) ≡ (codes "no Accept\n", codes "*/*" ∷ []) ∷ ([], []) ∷ [])
     × (missing [] None ≡ ([], []))
-    × (flat_map count_row ([] ∷ ([] ∷ []) ∷ ([] ∷ [] ∷ []) ∷ []) ≡ codes "no Content-Type\nseveral Content-Type lines (HTTP allows one)\n")
+    × (flat_map count_row ([] ∷ ([] ∷ []) ∷ ([] ∷ [] ∷ []) ∷ [])
+    ≡ codes "no Content-Type\nseveral Content-Type lines (HTTP allows one)\n")
     × (map (empty_row (codes "a")) (codes "a" ∷ codes "ab" ∷ []) ≡ codes "empty Accept\n" ∷ [] ∷ [])
     × (map cut_row (true ∷ false ∷ []) ≡ codes "not read after 1048576 bytes\n" ∷ [] ∷ [])
     × (map (title_row true) (lines_of (codes "GET /\t\nb: c") ∷ [] ∷ []) ≡ codes "head GET /.\n" ∷ codes "head \n" ∷ [])
@@ -159,12 +166,14 @@ rows_of_heads = (refl, refl, refl, refl, refl, refl, refl, refl)
 
 -- A control character of each kind has one dot, also at the end of a text, and others and the line feed stay.
 controls :
-    (without_controls (97 ∷ 27 ∷ 10 ∷ 127 ∷ 194 ∷ 155 ∷ 51 ∷ 226 ∷ 128 ∷ 174 ∷ 226 ∷ 129 ∷ 166 ∷ 216 ∷ 156 ∷ 98 ∷ []) ≡ codes "a.\n..3...b")
+    (without_controls (97 ∷ 27 ∷ 10 ∷ 127 ∷ 194 ∷ 155 ∷ 51 ∷ 226 ∷ 128 ∷ 174 ∷ 226 ∷ 129 ∷ 166 ∷ 216 ∷ 156
+    ∷ 98 ∷ []) ≡ codes "a.\n..3...b")
     × (map (λ d. control_len (194 ∷ d ∷ [])) (127 ∷ 128 ∷ 159 ∷ 160 ∷ []) ≡ 0 ∷ 2 ∷ 2 ∷ 0 ∷ [])
     × (map (λ d. control_len (216 ∷ d ∷ [])) (155 ∷ 156 ∷ 157 ∷ []) ≡ 0 ∷ 2 ∷ 0 ∷ [])
     × (map (λ d. control_len (226 ∷ 128 ∷ d ∷ [])) (141 ∷ 142 ∷ 143 ∷ 144 ∷ 169 ∷ 170 ∷ 174 ∷ 175 ∷ [])
     ≡ 0 ∷ 3 ∷ 3 ∷ 0 ∷ 0 ∷ 3 ∷ 3 ∷ 0 ∷ [])
-    × (map (λ d. control_len (226 ∷ 129 ∷ d ∷ [])) (165 ∷ 166 ∷ 169 ∷ 170 ∷ []) ≡ 0 ∷ 3 ∷ 3 ∷ 0 ∷ []) × (control_len (226 ∷ 128 ∷ []) ≡ 0)
+    × (map (λ d. control_len (226 ∷ 129 ∷ d ∷ [])) (165 ∷ 166 ∷ 169 ∷ 170 ∷ []) ≡ 0 ∷ 3 ∷ 3 ∷ 0 ∷ [])
+    × (control_len (226 ∷ 128 ∷ []) ≡ 0)
 controls = (refl, refl, refl, refl, refl, refl)
 
 -- ---- offers
@@ -174,7 +183,8 @@ weights :
     (map weight_text (1000 ∷ 50 ∷ 7 ∷ []) ≡ codes "1.000" ∷ codes "0.050" ∷ codes "0.007" ∷ [])
     × (flat_map (λ q. range_row (codes "*/*;q=" ++ q) (star q)) (codes "0.5" ∷ codes ".5" ∷ [])
     ≡ codes "Accept 0.500 */*;q=0.5\nAccept 0.500 */*;q=.5 (q isn't a weight in HTTP, counted as 0.500)\n")
-    × (range_row (codes "*/* ; q=\"1\"") (star (codes "1")) ≡ codes "Accept 1.000 */*;q=1 (q isn't a weight in HTTP, counted as 1.000)\n")
+    × (range_row (codes "*/* ; q=\"1\"") (star (codes "1"))
+    ≡ codes "Accept 1.000 */*;q=1 (q isn't a weight in HTTP, counted as 1.000)\n")
     × (with_entry (codes "<", plain ∷ []) (codes "a") (Ok media) ≡ (codes "<" ++ range_row (codes "a") media, plain ∷ media ∷ []))
     × (with_entry (codes "<", plain ∷ []) (codes "a") (Err (NotUtf8 0))
     ≡ (codes "<" ++ fault_rows (codes "bad Accept ") (codes "a") (NotUtf8 0), plain ∷ []))
@@ -199,10 +209,12 @@ rows_of_offers = (refl, refl, refl, refl, refl, refl)
 
 -- The best offer has a row, and one that isn't acceptable another. The verdict is that of all values and of the last choice.
 verdicts :
-    (best_row (plain ∷ media ∷ []) (record { offer = 1; weight = 1; range = Some 0 } ∷ []) ≡ (codes "best a/b+c;p=\"x\\\"y\"\n", true))
+    (best_row (plain ∷ media ∷ []) (record { offer = 1; weight = 1; range = Some 0 } ∷ [])
+    ≡ (codes "best a/b+c;p=\"x\\\"y\"\n", true))
     × (best_row (media ∷ []) (record { offer = 0; weight = 0; range = None } ∷ []) ≡ (codes "406 Not Acceptable\n", false))
     × (best_row [] [] ≡ ([], true))
-    × (map (verdict_of true) (Some true ∷ None ∷ Some false ∷ []) ≡ Verdict.Acceptable ∷ Verdict.Acceptable ∷ Verdict.NotAcceptable ∷ [])
+    × (map (verdict_of true) (Some true ∷ None ∷ Some false ∷ []) ≡ Verdict.Acceptable ∷ Verdict.Acceptable
+    ∷ Verdict.NotAcceptable ∷ [])
     × (verdict_of false (Some true) ≡ Verdict.NotAcceptable)
     × (map (last_choice (Some true)) (None ∷ Some ([], false) ∷ []) ≡ Some true ∷ Some false ∷ [])
 verdicts = (refl, refl, refl, refl, refl, refl)
@@ -230,7 +242,8 @@ refused_words : (word : List ℕ) (offer : MediaType) (other : String Global) (e
 refused_words word offer other error reads is = a_word reads (bad_word other error (λ _. is.1))
 
 -- If there is no word, none is rejected.
-some_refused : (words : List (List ℕ)) (offers : List MediaType) (error : String Global × FieldError) → AreOffers words offers (Err error)
+some_refused : (words : List (List ℕ)) (offers : List MediaType) (error : String Global × FieldError)
+    → AreOffers words offers (Err error)
     → words ≢ []
 some_refused words offers error (a_word reads rest) none = absurd (cc)
 some_refused words offers error (bad_word word fault is) none = absurd (cc)

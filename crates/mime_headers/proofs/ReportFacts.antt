@@ -2,7 +2,8 @@
 use Rattle.mime_headers.proofs.Common.{utf8_valid_len-IsValidUpTo, nat_lt, length, AddsChoice, AddsEntry, AddsHead, AddsReading, AddsType, Bool, Err, FieldError, FoldsTo, HasBoundary, HttpExplains, Invalid, IsHttpMediaType, IsRanking, IsRead, IsReportOf, IsUtf8, List, MediaType, NoMemory, None, NotUtf8, Ok, Option, RankedOffer, Result, Some, State, true, Verdict, [], ap, ap₂, arith, media_rows, no_fault, one_http_fault, one_printed_text, only_cut, refl, sym, trimmed, with_entry, ℕ, ◌++◌, ◌∙◌, ◌∷◌, ◌≡◌, ◌≢◌, IsAnswer, IsReport, bare_lines, codes, heads_of, is_cut, last_choice, offer_rows}
 
 -- No value is both a media type and rejected.
-not_both : (value : List ℕ) (error : FieldError) → IsUtf8 value → IsHttpMediaType value → error ≢ NoMemory → ¬ (HttpExplains value error)
+not_both : (value : List ℕ) (error : FieldError) → IsUtf8 value → IsHttpMediaType value → error ≢ NoMemory
+    → ¬ (HttpExplains value error)
 not_both value (NotUtf8 pos) utf8 is some why = why.0 utf8
 not_both value (Invalid fault) utf8 is some why = no_fault value fault is why.1
 not_both value NoMemory utf8 is some why = some refl
@@ -43,7 +44,8 @@ one_entry old (b ∷ entry) new other one two =
     adds.2 ∙ ap (with_entry old (b ∷ entry)) (one_reading (b ∷ entry) adds.0 more.0 adds.1 more.1) ∙ sym more.2
 
 -- Items in a row add one text, if each does.
-one_of_all : {P A : Type 0} (R : P → A → P → Type 0) → ((p : P) (x : A) (q r : P) → R p x q → R p x r → q ≡ r) → (p : P) (xs : List A) (q r : P)
+one_of_all : {P A : Type 0} (R : P → A → P → Type 0) → ((p : P) (x : A) (q r : P) → R p x q → R p x r → q ≡ r)
+    → (p : P) (xs : List A) (q r : P)
     → FoldsTo R p xs q → FoldsTo R p xs r → q ≡ r
 one_of_all R one p [] q r is too = sym is ∙ too
 one_of_all R one p (x ∷ xs) q r (next, is, rest) (other, too, others) =
@@ -56,11 +58,13 @@ module _ (one_ranking : (ranges offers : List MediaType) (ranking other : List R
       → IsAnswer asked media other → answer ≡ other
   one_answer None media answer other is too = is ∙ sym too
   one_answer (Some ranges) media answer other (ranking, is, rows) (another, too, others) =
-      rows ∙ ap (offer_rows (codes "answer ") ranges (media ∷ [])) (one_ranking ranges (media ∷ []) ranking another is too) ∙ sym others
+      rows ∙ ap (offer_rows (codes "answer ") ranges (media ∷ [])) (one_ranking ranges (media ∷ []) ranking another is too)
+      ∙ sym others
 
   -- A value of `Content-Type` adds one text.
   one_added : (asked : Option (List MediaType)) (old : List ℕ × Bool) (value : List ℕ) (reading : Result MediaType FieldError)
-      (new other : List ℕ × Bool) → AddsReading asked old value reading new → AddsReading asked old value reading other → new ≡ other
+      (new other : List ℕ × Bool) → AddsReading asked old value reading new → AddsReading asked old value reading other
+      → new ≡ other
   one_added asked old value (Ok media) new other (one, answer, is, says, adds) (two, another, too, saying, more) =
       adds ∙ ap₂ (λ boundary answer. (old.0 ++ (media_rows media boundary ++ answer), old.1)) (one_boundary media one two is too)
       (one_answer asked media answer another says saying) ∙ sym more
@@ -73,7 +77,8 @@ module _ (one_ranking : (ranges offers : List MediaType) (ranking other : List R
       one_added asked old (trimmed value) two new other (rw (one_reading (trimmed value) one two is too) at adds) more
 
   -- Lines of `Accept` add one text and make one choice.
-  one_choice : (offers : List MediaType) (lines : List (List ℕ)) (old : List ℕ) (new other : List ℕ × Option (List MediaType × Bool))
+  one_choice : (offers : List MediaType) (lines : List (List ℕ)) (old : List ℕ) (new other : List ℕ
+      × Option (List MediaType × Bool))
       → AddsChoice offers lines old new → AddsChoice offers lines old other → new ≡ other
   one_choice offers [] old new other one two = one.0 refl ∙ sym (two.0 refl)
   one_choice offers (line ∷ lines) old new other one two =
@@ -85,7 +90,8 @@ module _ (one_ranking : (ranges offers : List MediaType) (ranking other : List R
       cc (adds.is_new, more.is_new, read, rank)
 
   -- A head adds one text.
-  one_head : (offers : List MediaType) (many : Bool) (old : State) (head : List (List ℕ)) (new other : State) → AddsHead offers many old head new
+  one_head : (offers : List MediaType) (many : Bool) (old : State) (head : List (List ℕ)) (new other : State)
+      → AddsHead offers many old head new
       → AddsHead offers many old head other → new ≡ other
   one_head offers many old head new other one two =
       let same = one_of_all _ (one_type _) _ _ _ _ one.types two.types in

@@ -1,21 +1,11 @@
--- A text that begins with a value's essence and a semicolon, ignoring ASCII case: what the scanner says of it, by what it says of the list after
+-- A text that begins with a value's essence and a semicolon, ignoring ASCII case: what the scanner says of it, by what it says of the list
+-- after
 -- the semicolon.
 use Rattle.std.proofs.Common.{◌≡◌, ℕ, ◌+◌, List, [], ◌∷◌, ◌++◌, length, take, drop, Some, refl, sym, ap, ◌∙◌, subst, arith, append_assoc}
-use Rattle.std.proofs.lemmas.List.{take-append-drop, drop_more}
-use Rattle.std.proofs.lemmas.Option.{get_or_from_slice_get, slice_get_within}
-use Rattle.mime.specs.Bytes.{slash_byte, semicolon_byte}
-use Rattle.mime.specs.Grammar.{text_of, IsToken}
-use Rattle.mime.specs.Values.{MediaType, Reads, essence_of, lowered, last_plus}
-use Rattle.mime.specs.Inner.Remaining.{Remaining}
-use Rattle.mime.specs.Inner.Scanning.{positions_of, before_list, Judges, ScansList}
-use Rattle.mime.specs.Inner.ComparedText.{StartsWithEssence, positions_before_list}
-use Rattle.mime.specs.declared.scan.Positions.{Positions}
-use Rattle.mime.specs.declared.scan.Scanned.{Scanned}
-use Rattle.mime.proofs.LowercaseLemmas.{lowered-lowered, last_plus-lowered, IsToken-case}
+use Rattle.std.proofs.{lemmas.List.take-append-drop, lemmas.List.drop_more, lemmas.Option.get_or_from_slice_get, lemmas.Option.slice_get_within}
+use Rattle.mime.specs.{Bytes.slash_byte, Bytes.semicolon_byte, Grammar.text_of, Grammar.IsToken, Values.MediaType, Values.Reads, Values.essence_of, Values.lowered, Values.last_plus, Inner.Remaining.Remaining, Inner.Scanning.positions_of, Inner.Scanning.before_list, Inner.Scanning.Judges, Inner.Scanning.ScansList, Inner.ComparedText.StartsWithEssence, Inner.ComparedText.positions_before_list, declared.scan.Positions.Positions, declared.scan.Scanned.Scanned}
+use Rattle.mime.proofs.{LowercaseLemmas.lowered-lowered, LowercaseLemmas.last_plus-lowered, LowercaseLemmas.IsToken-case, ValueLemmas.KeptText.length-before_list, CompareLemmas.OtherCase.case_cut, CompareLemmas.Parts.essence-lowered, CompareLemmas.Parts.length-value_essence}
 use Rattle.mime_search.proofs.IgnoringCase.{length-lowered, lowered-drop}
-use Rattle.mime.proofs.ValueLemmas.KeptText.{length-before_list}
-use Rattle.mime.proofs.CompareLemmas.OtherCase.{case_cut}
-use Rattle.mime.proofs.CompareLemmas.Parts.{essence-lowered, length-value_essence}
 
 -- a text up to the semicolon after its essence: a type, a slash and a subtype, with the positions of a value
 record Begun (text : List ℕ) (value : MediaType) : Type 0 where
@@ -33,17 +23,20 @@ record Begun (text : List ℕ) (value : MediaType) : Type 0 where
 same_length : (one other : List ℕ) → lowered one ≡ lowered other → length one ≡ length other
 same_length one other is = sym (length-lowered one) ∙ ap length is ∙ length-lowered other
 
+-- If a value's essence begins a text, ignoring case, the text begins as the kept text does.
 begun : (kept text : List ℕ) (value : MediaType) → Reads kept value → StartsWithEssence value.essence text → Begun text value
 begun kept text value reads (there, same) =
     let tree = reads.tree in
     let end = length value.essence in
-    let essence : value.essence ≡ lowered (essence_of tree) = ap (λ (v : MediaType). v.essence) (sym reads.valued) ∙ essence-lowered tree in
+    let essence : value.essence ≡ lowered (essence_of tree) =
+    ap (λ (v : MediaType). v.essence) (sym reads.valued) ∙ essence-lowered tree in
     let cut = case_cut (take end text) tree.top (slash_byte ∷ []) tree.sub refl
     (sym same ∙ ap lowered essence ∙ lowered-lowered (essence_of tree)) in
     let tops = same_length cut.first tree.top cut.first_is in
     let subs = same_length cut.second tree.sub cut.second_is in
     let rest : drop end text ≡ semicolon_byte ∷ drop (end + 1) text =
-    drop_more text end 0 (slice_get_within text end _ there) ∙ ap (λ b. b ∷ drop (end + 1) text) (get_or_from_slice_get text end _ 0 there) in
+    drop_more text end 0 (slice_get_within text end _ there)
+    ∙ ap (λ b. b ∷ drop (end + 1) text) (get_or_from_slice_get text end _ 0 there) in
     let ends : end ≡ length cut.first + 1 + length cut.second =
     ap (λ (v : MediaType). length v.essence) (sym reads.valued) ∙ length-value_essence tree ∙ omega (arith, tops, subs) in
     record {
@@ -57,20 +50,24 @@ begun kept text value reads (there, same) =
       counted = length-before_list cut.first cut.second ∙ omega (arith, ends);
       slash = ap (λ (v : MediaType). v.slash) (sym reads.valued) ∙ sym tops;
       plus = ap (λ (v : MediaType). v.plus) (sym reads.valued)
-          ∙ ap (last_plus (length tree.top + 2)) (sym (lowered-drop 1 tree.sub)) ∙ last_plus-lowered (length tree.top + 2) (drop 1 tree.sub)
+          ∙ ap (last_plus (length tree.top + 2)) (sym (lowered-drop 1 tree.sub))
+          ∙ last_plus-lowered (length tree.top + 2) (drop 1 tree.sub)
           ∙ sym (last_plus-lowered (length tree.top + 2) (drop 1 tree.sub))
-          ∙ ap (last_plus (length tree.top + 2)) (lowered-drop 1 tree.sub ∙ ap (drop 1) (sym cut.second_is) ∙ sym (lowered-drop 1 cut.second))
+          ∙ ap (last_plus (length tree.top + 2)) (lowered-drop 1 tree.sub ∙ ap (drop 1) (sym cut.second_is)
+          ∙ sym (lowered-drop 1 cut.second))
           ∙ last_plus-lowered (length tree.top + 2) (drop 1 cut.second) ∙ ap (λ n. last_plus (n + 2) (drop 1 cut.second)) (sym tops);
       semicolon = ends;
     }
   where
-    regrouped : (top sub after : List ℕ) → text_of (before_list top sub) ++ after ≡ (top ++ (slash_byte ∷ sub)) ++ (semicolon_byte ∷ after)
+    regrouped : (top sub after : List ℕ)
+        → text_of (before_list top sub) ++ after ≡ (top ++ (slash_byte ∷ sub)) ++ (semicolon_byte ∷ after)
     regrouped top sub after = simp append_assoc
 
 -- what the scanner says of the text is what it says of its list
 pub judged-by_list : (kept text : List ℕ) (value : MediaType) → Reads kept value → StartsWithEssence value.essence text
     → (before : Positions) → before ≡ positions_before_list value
-    → (old new : Remaining) (verdict : Scanned) → old.left ≡ drop (length value.essence + 1) text → old.count ≡ length value.essence + 1
+    → (old new : Remaining) (verdict : Scanned) → old.left ≡ drop (length value.essence + 1) text
+    → old.count ≡ length value.essence + 1
     → ScansList before old new verdict → Judges text new.count verdict
 judged-by_list kept text value reads starts before is old new verdict left count scans =
     let head = begun kept text value reads starts in

@@ -1,27 +1,17 @@
 -- Where two texts first differ ignoring ASCII case: a text stripped of spaces, tabs and quotes.
 use Rattle.std.proofs.Common.{◌≡◌, ℕ, ◌+◌, ◌<◌, List, [], ◌∷◌, ◌++◌, take, drop, refl, sym, ap, ◌∙◌, subst, arith, length, append-nil, append_assoc}
 use Rattle.std.specs.Prelude.{IsTrue}
-use Rattle.std.specs.Char.{to_ascii_lowercase}
-use Rattle.std.specs.List.{filter, slice_index, list_all}
-use Rattle.std.proofs.lemmas.Bool.{and_parts, cond-true, cond-false}
-use Rattle.std.proofs.lemmas.Bool.Decides.{nat_tests}
-use Rattle.std.proofs.lemmas.List.{take-append-drop, drop_more}
-use Rattle.std.proofs.lemmas.List.Elements.{filter-append}
-use Rattle.mime.specs.Bytes.{semicolon_byte, equals_byte, quote_byte}
-use Rattle.mime.specs.Grammar.{Parameter, plain, quoted, Parameters, blank, final, more, Tail, no_list, listed, text_of, text_of_tail, text_of_list, text_of_parameter, is_space, AreSpaces, AreParameters, IsParameter, IsTail}
-use Rattle.mime.specs.Values.{MediaType, Reads, value_of, essence_of, lowered, lowered_parameter, lowered_list, lowered_tail, pair_of, pairs_of_list, pairs_of_tail}
-use Rattle.mime.specs.Comparison.{Same}
-use Rattle.mime.specs.Difference.{reaches_value, DifferInValue}
-use Rattle.mime.proofs.ValueLemmas.KeptText.{text_of-essence}
-use Rattle.mime.proofs.LowercaseLemmas.{lowered-append, lowered-lowered}
+use Rattle.std.specs.{Char.to_ascii_lowercase, List.filter, List.slice_index, List.list_all}
+use Rattle.std.proofs.{lemmas.Bool.and_parts, lemmas.Bool.cond-true, lemmas.Bool.cond-false, lemmas.Bool.Decides.nat_tests, lemmas.List.take-append-drop, lemmas.List.drop_more, lemmas.List.Elements.filter-append}
+use Rattle.mime.specs.{Bytes.semicolon_byte, Bytes.equals_byte, Bytes.quote_byte, Grammar.Parameter, Grammar.plain, Grammar.quoted, Grammar.Parameters, Grammar.blank, Grammar.final, Grammar.more, Grammar.Tail, Grammar.no_list, Grammar.listed, Grammar.text_of, Grammar.text_of_tail, Grammar.text_of_list, Grammar.text_of_parameter, Grammar.is_space, Grammar.AreSpaces, Grammar.AreParameters, Grammar.IsParameter, Grammar.IsTail, Values.MediaType, Values.Reads, Values.value_of, Values.essence_of, Values.lowered, Values.lowered_parameter, Values.lowered_list, Values.lowered_tail, Values.pair_of, Values.pairs_of_list, Values.pairs_of_tail, Comparison.Same, Difference.reaches_value, Difference.DifferInValue}
+use Rattle.mime.proofs.{ValueLemmas.KeptText.text_of-essence, LowercaseLemmas.lowered-append, LowercaseLemmas.lowered-lowered, CompareLemmas.OtherCase.lowered-lowered_value, CompareLemmas.Parts.essence-lowered}
 use Rattle.mime_search.proofs.IgnoringCase.{lowered-drop}
-use Rattle.mime.proofs.CompareLemmas.OtherCase.{lowered-lowered_value}
-use Rattle.mime.proofs.CompareLemmas.Parts.{essence-lowered}
 
 -- a text stripped: its bytes in lowercase, without spaces, tabs and quotes
 abbrev stripped : List ℕ → List ℕ
 stripped text = filter reaches_value (lowered text)
 
+-- Joined texts are stripped one by one.
 stripped-append : (xs ys : List ℕ) → stripped (xs ++ ys) ≡ stripped xs ++ stripped ys
 stripped-append xs ys = ap (filter reaches_value) (lowered-append xs ys) ∙ filter-append reaches_value (lowered xs) (lowered ys)
 
@@ -84,7 +74,8 @@ stripped-list (more n p others) (white, well, follow) =
 stripped-tail : (tail : Tail) → IsTail tail
     → Begins (stripped (text_of_tail tail)) (semicolon_byte ∷ stripped_pairs (pairs_of_tail (lowered_tail tail)))
 stripped-tail no_list well = record { rest = semicolon_byte ∷ []; is = refl }
-stripped-tail (listed list) well = let parts = stripped-list list well in record { rest = parts.rest; is = ap (λ t. semicolon_byte ∷ t) parts.is }
+stripped-tail (listed list) well = let parts = stripped-list list well in
+    record { rest = parts.rest; is = ap (λ t. semicolon_byte ∷ t) parts.is }
 
 -- a text is stripped to what the value is that it is read as
 stripped-reads : (text : List ℕ) (value : MediaType) → Reads text value → Begins (stripped text) (stripped_value value)
@@ -99,12 +90,14 @@ stripped-reads text value reads =
     (subst (λ (v : MediaType). Begins (stripped (text_of tree)) (stripped_value v)) reads.valued (record {
       rest = tail.rest;
       is = (λ i. essence i ++ tail.is i)
-          ∙ sym (ap (λ t. t ++ tail.rest) text_parts ∙ append_assoc (stripped (essence_of tree)) (stripped (text_of_tail tree.tail)) tail.rest);
+          ∙ sym (ap (λ t. t ++ tail.rest) text_parts
+          ∙ append_assoc (stripped (essence_of tree)) (stripped (text_of_tail tree.tail)) tail.rest);
     }))
 
 -- a stripped text, cut at a byte that stays
 stripped-at : (text : List ℕ) (n : ℕ) → n < length text → IsTrue (reaches_value (slice_index text n))
-    → stripped text ≡ filter reaches_value (take n (lowered text)) ++ (to_ascii_lowercase (slice_index text n) ∷ stripped (drop (n + 1) text))
+    → stripped text ≡ filter reaches_value (take n (lowered text))
+    ++ (to_ascii_lowercase (slice_index text n) ∷ stripped (drop (n + 1) text))
 stripped-at text n within reaches =
     let b = to_ascii_lowercase (slice_index text n) in
     let rest : drop n (lowered text) ≡ b ∷ lowered (drop (n + 1) text) = sym (lowered-drop n text)
@@ -114,12 +107,14 @@ stripped-at text n within reaches =
     ∙ ap (λ t. filter reaches_value (take n (lowered text)) ++ t) (cond-true (reaches_value b) _ _ (grind (arith, nat_tests, reaches)))
 
 -- the bytes after the same prefix
-same_byte : (prefix : List ℕ) (x y : ℕ) (xs ys rest others : List ℕ) → (prefix ++ (x ∷ xs)) ++ rest ≡ (prefix ++ (y ∷ ys)) ++ others → x ≡ y
+same_byte : (prefix : List ℕ) (x y : ℕ) (xs ys rest others : List ℕ)
+    → (prefix ++ (x ∷ xs)) ++ rest ≡ (prefix ++ (y ∷ ys)) ++ others → x ≡ y
 same_byte [] x y xs ys rest others is = cc
 same_byte (f ∷ prefix) x y xs ys rest others is = same_byte prefix x y xs ys rest others cc
 
 -- texts whose first difference reaches the value are read as values that aren't equal
-pub different_values : (one other : List ℕ) (first second : MediaType) → Reads one first → Reads other second → DifferInValue one other
+pub different_values : (one other : List ℕ) (first second : MediaType) → Reads one first → Reads other second
+    → DifferInValue one other
     → ¬ (Same first second)
 different_values one other first second reads also d same =
     let begins = stripped-reads one first reads in

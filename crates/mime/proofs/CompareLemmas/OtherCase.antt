@@ -1,20 +1,9 @@
 -- Texts that are equal ignoring ASCII case are read as trees that are equal ignoring it: one is cut where the other is.
 use Rattle.std.proofs.Common.{◌≡◌, ℕ, true, List, [], ◌∷◌, ◌++◌, length, take, drop, map, refl, sym, ap, ◌∙◌, subst, arith}
-use Rattle.std.specs.Char.{to_ascii_lowercase}
-use Rattle.std.specs.List.{list_all}
-use Rattle.std.proofs.lemmas.Bool.Decides.{nat_tests}
-use Rattle.std.proofs.lemmas.List.{length-map, take-append-drop}
-use Rattle.mime.specs.Bytes.{slash_byte, semicolon_byte, equals_byte, quote_byte}
-use Rattle.mime.specs.Grammar.{is_space, Parameter, plain, quoted, Parameters, blank, final, more, Tail, no_list, listed, SyntaxTree, text_of, text_of_parameter, text_of_list, text_of_tail, AreSpaces, IsParameter, AreParameters, IsTail, IsWellFormed}
-use Rattle.mime.specs.Values.{MediaType, Reads, value_of, lowered, lowered_value, lowered_tail, is_charset, pair_of, pairs_of_list, pairs_of_tail}
-use Rattle.mime.specs.Comparison.{Same}
-use Rattle.mime.specs.Inner.KeptText.{AreLowPairs, lowered_pair}
-use Rattle.mime.specs.Inner.ComparedText.{IsLoneCharset}
-use Rattle.mime.proofs.BytesLemmas.{cons_parts}
-use Rattle.mime.proofs.GrammarLemmas.Content.{IsContent-case}
-use Rattle.mime.proofs.LowercaseLemmas.{lowered-lowered, lowered_value-either, low_pair-parts, list_all-case, IsToken-case, pairs_of_tail-lowered}
-use Rattle.mime.proofs.ValueLemmas.Utf8.{lowered-parts, is_no_letter, stays}
-use Rattle.mime.proofs.ValueLemmas.Parts.{read-low_pairs}
+use Rattle.std.specs.{Char.to_ascii_lowercase, List.list_all}
+use Rattle.std.proofs.{lemmas.Bool.Decides.nat_tests, lemmas.List.length-map, lemmas.List.take-append-drop}
+use Rattle.mime.specs.{Bytes.slash_byte, Bytes.semicolon_byte, Bytes.equals_byte, Bytes.quote_byte, Grammar.is_space, Grammar.Parameter, Grammar.plain, Grammar.quoted, Grammar.Parameters, Grammar.blank, Grammar.final, Grammar.more, Grammar.Tail, Grammar.no_list, Grammar.listed, Grammar.SyntaxTree, Grammar.text_of, Grammar.text_of_parameter, Grammar.text_of_list, Grammar.text_of_tail, Grammar.AreSpaces, Grammar.IsParameter, Grammar.AreParameters, Grammar.IsTail, Grammar.IsWellFormed, Values.MediaType, Values.Reads, Values.value_of, Values.lowered, Values.lowered_value, Values.lowered_tail, Values.is_charset, Values.pair_of, Values.pairs_of_list, Values.pairs_of_tail, Comparison.Same, Inner.KeptText.AreLowPairs, Inner.KeptText.lowered_pair, Inner.ComparedText.IsLoneCharset}
+use Rattle.mime.proofs.{BytesLemmas.cons_parts, GrammarLemmas.Content.IsContent-case, LowercaseLemmas.lowered-lowered, LowercaseLemmas.lowered_value-either, LowercaseLemmas.low_pair-parts, LowercaseLemmas.list_all-case, LowercaseLemmas.IsToken-case, LowercaseLemmas.pairs_of_tail-lowered, ValueLemmas.Utf8.lowered-parts, ValueLemmas.Utf8.is_no_letter, ValueLemmas.Utf8.stays, ValueLemmas.Parts.read-low_pairs}
 
 -- lowercasing leaves spaces as they are
 AreSpaces-case : (bytes other : List ℕ) → lowered other ≡ lowered bytes → AreSpaces bytes → AreSpaces other
@@ -28,6 +17,7 @@ pub record CaseCut (text prefix middle back : List ℕ) : Type 0 where
   pub first_is : lowered first ≡ lowered prefix
   pub second_is : lowered second ≡ lowered back
 
+-- A text that is three joined texts ignoring ASCII case is cut around the middle one, which has no letter.
 pub case_cut : (text prefix middle back : List ℕ) → list_all is_no_letter middle ≡ true
     → lowered text ≡ lowered (prefix ++ (middle ++ back)) → CaseCut text prefix middle back
 case_cut text prefix middle back none is =
@@ -117,6 +107,7 @@ case_tail (c ∷ text) (listed list) well is =
 abbrev lowercase_parts : SyntaxTree → List ℕ × List ℕ × List (List ℕ × List ℕ)
 lowercase_parts tree = (lowered tree.top, lowered tree.sub, map lowercase_pair (pairs_of_tail tree.tail))
 
+-- A text that is a tree's text ignoring ASCII case has a tree of its own, with the same parts in lowercase.
 case_tree : (text : List ℕ) (tree : SyntaxTree) → IsWellFormed tree → lowered text ≡ lowered (text_of tree)
     → Case IsWellFormed text_of lowercase_parts text tree
 case_tree text tree well is =
@@ -141,6 +132,7 @@ pairs-lowercase : (pairs : List (List ℕ × List ℕ)) → map lowercase_pair (
 pairs-lowercase [] = refl
 pairs-lowercase ((name, value) ∷ pairs) = cc (lowered-lowered name, lowered-lowered_value name value, pairs-lowercase pairs)
 
+-- The pairs of a lowercased tail are, in lowercase, those of the tail.
 pairs-lowercase_tail : (tail : Tail) → map lowercase_pair (pairs_of_tail (lowered_tail tail)) ≡ map lowercase_pair (pairs_of_tail tail)
 pairs-lowercase_tail tail = ap (map lowercase_pair) (pairs_of_tail-lowered tail) ∙ pairs-lowercase (pairs_of_tail tail)
 
@@ -151,6 +143,7 @@ pub record CaseRead (text : List ℕ) (value : MediaType) : Type 0 where
   pub essence : value.essence ≡ read.essence
   pub pairs : map lowercase_pair value.pairs ≡ map lowercase_pair read.pairs
 
+-- A text that is a value's kept text ignoring ASCII case is read as a value.
 pub case_read : (text kept : List ℕ) (value : MediaType) → Reads kept value → lowered text ≡ lowered kept → CaseRead text value
 case_read text kept value reads is =
     let found = case_tree text reads.tree reads.well_formed (is ∙ ap lowered (sym reads.spelled)) in
@@ -166,7 +159,8 @@ case_read text kept value reads is =
 
 -- a value has as many pairs as what a text that is its own ignoring ASCII case is read as
 pub case_read-count : (text : List ℕ) (value : MediaType) (is : CaseRead text value) → length value.pairs ≡ length is.read.pairs
-case_read-count text value is = sym (length-map value.pairs lowercase_pair) ∙ ap length is.pairs ∙ length-map is.read.pairs lowercase_pair
+case_read-count text value is = sym (length-map value.pairs lowercase_pair) ∙ ap length is.pairs
+    ∙ length-map is.read.pairs lowercase_pair
 
 -- two charsets as they are kept are the same if they are the same ignoring ASCII case
 lone_charset-same : (pairs others : List (List ℕ × List ℕ)) → IsLoneCharset pairs → AreLowPairs pairs → AreLowPairs others

@@ -1,31 +1,11 @@
 -- A text against a value: what a text has that is equal to the value, and what suffices.
-use Rattle.std.proofs.lemmas.Grind.{common_steps}
+use Rattle.std.proofs.{lemmas.Grind.common_steps, lemmas.Bool.Decides.nat_tests, lemmas.List.nil_from_length, lemmas.List.take-append-drop, lemmas.Option.same_Some, lemmas.List.Folds.list_all-append}
 use Rattle.std.proofs.Common.{◌≡◌, ℕ, ◌+◌, true, arith, List, [], ◌∷◌, ◌++◌, length, take, drop, Some, map, refl, sym, ap, ◌∙◌, subst, ◌↔◌}
 use Rattle.std.specs.Prelude.{◌≢◌, ◌==◌, not, codes}
-use Rattle.std.proofs.lemmas.Bool.Decides.{nat_tests}
-use Rattle.std.proofs.lemmas.List.{nil_from_length, take-append-drop}
-use Rattle.std.proofs.lemmas.Option.{same_Some}
 use Rattle.std.specs.List.{list_all}
-use Rattle.std.proofs.lemmas.List.Folds.{list_all-append}
-use Rattle.mime.specs.Bytes.{slash_byte, semicolon_byte}
-use Rattle.mime.specs.Grammar.{Tail, no_list, listed, SyntaxTree, text_of, IsToken, IsWellFormed}
-use Rattle.mime.specs.Values.{MediaType, Reads, value_of, essence_of, lowered, lowered_tail, pairs_of_list, pairs_of_tail, is_charset}
-use Rattle.mime.specs.Comparison.{TextIs, HasNoSemicolon}
-use Rattle.mime.specs.Inner.Pairs.{cut_of, pairs_within}
-use Rattle.mime.specs.Inner.Scanning.{positions_of, semicolon_of}
-use Rattle.mime.specs.Inner.KeptText.{lowered_pair}
-use Rattle.mime.specs.Inner.ComparedText.{StartsWithEssence, IsAcceptedAt, IsLoneCharset}
-use Rattle.mime.specs.declared.scan.Positions.{Positions}
-use Rattle.mime.proofs.BytesLemmas.{AreTokenBytes-from_token, are_other-token, semicolon_is_no_token}
-use Rattle.mime.proofs.ValueLemmas.Pairs.{cut_of-name}
-use Rattle.mime.proofs.ValueLemmas.Parts.{kept-essence, read-low_essence}
-use Rattle.mime.proofs.ValueLemmas.KeptText.{take-essence, length-essence_of, slice_get-semicolon, kept_is_read, pairs_within-text_of}
-use Rattle.mime.proofs.LowercaseLemmas.{lowered-append, length-tail_lowered, pairs_of_tail-lowered, list_all-lowered}
+use Rattle.mime.specs.{Bytes.slash_byte, Bytes.semicolon_byte, Grammar.Tail, Grammar.no_list, Grammar.listed, Grammar.SyntaxTree, Grammar.text_of, Grammar.IsToken, Grammar.IsWellFormed, Values.MediaType, Values.Reads, Values.value_of, Values.essence_of, Values.lowered, Values.lowered_tail, Values.pairs_of_list, Values.pairs_of_tail, Values.is_charset, Comparison.TextIs, Comparison.HasNoSemicolon, Inner.Pairs.cut_of, Inner.Pairs.pairs_within, Inner.Scanning.positions_of, Inner.Scanning.semicolon_of, Inner.KeptText.lowered_pair, Inner.ComparedText.StartsWithEssence, Inner.ComparedText.IsAcceptedAt, Inner.ComparedText.IsLoneCharset, declared.scan.Positions.Positions, Comparison.Same, Laws.KeptTextIs}
+use Rattle.mime.proofs.{BytesLemmas.AreTokenBytes-from_token, BytesLemmas.are_other-token, BytesLemmas.semicolon_is_no_token, ValueLemmas.Pairs.cut_of-name, ValueLemmas.Parts.kept-essence, ValueLemmas.Parts.read-low_essence, ValueLemmas.KeptText.take-essence, ValueLemmas.KeptText.length-essence_of, ValueLemmas.KeptText.slice_get-semicolon, ValueLemmas.KeptText.kept_is_read, ValueLemmas.KeptText.pairs_within-text_of, LowercaseLemmas.lowered-append, LowercaseLemmas.length-tail_lowered, LowercaseLemmas.pairs_of_tail-lowered, LowercaseLemmas.list_all-lowered, GrammarLemmas.Readings.one_reading, CompareLemmas.OtherCase.case_read, CompareLemmas.OtherCase.case_read-count, CompareLemmas.OtherCase.case_read-lone_charset}
 use Rattle.mime_search.proofs.IgnoringCase.{length-lowered}
-use Rattle.mime.proofs.GrammarLemmas.Readings.{one_reading}
-use Rattle.mime.proofs.CompareLemmas.OtherCase.{case_read, case_read-count, case_read-lone_charset}
-use Rattle.mime.specs.Comparison.{Same}
-use Rattle.mime.specs.Laws.{KeptTextIs}
 
 -- ---- what an accepted text with parameters is read as
 
@@ -44,9 +24,11 @@ record ReadAt (text : List ℕ) (end count : ℕ) : Type 0 where
   essence : value.essence ≡ lowered (take end text)
   pairs : value.pairs ≡ map lowered_pair (pairs_within count (drop (end + 1) text))
 
--- of the text of a tree
-read_at-tree : (top sub : List ℕ) (tail : Tail) → let tree : SyntaxTree = record { top = top; sub = sub; tail = tail } in IsWellFormed tree
-    → (end : ℕ) → semicolon_of (length top + 1 + length sub) tail ≡ Some end → ReadAt (text_of tree) end (length (pairs_of_tail tail))
+-- The text of a tree is read at its end and its number of pairs.
+read_at-tree : (top sub : List ℕ) (tail : Tail) → let tree : SyntaxTree = record { top = top; sub = sub; tail = tail } in
+    IsWellFormed tree
+    → (end : ℕ) → semicolon_of (length top + 1 + length sub) tail ≡ Some end
+    → ReadAt (text_of tree) end (length (pairs_of_tail tail))
 read_at-tree top sub no_list well end at = absurd cc
 read_at-tree top sub (listed list) well end at =
     let tree : SyntaxTree = record { top = top; sub = sub; tail = listed list } in
@@ -57,13 +39,14 @@ read_at-tree top sub (listed list) well end at =
       pairs = pairs_of_tail-lowered (listed list) ∙ ap (map lowered_pair) (sym (pairs_within-text_of top sub list well.2));
     })
 
--- of every such text
+-- Every accepted text is read at its end and its number of pairs.
 read_at : (text : List ℕ) (end count : ℕ) → IsAcceptedAt text end count → ReadAt text end count
 read_at text end count is =
     let tree = is.has.tree in
     let counted = ap (λ (p : Positions). p.pair_count) is.has.same_positions ∙ is.counted in
     subst (λ t. ReadAt t end count) is.has.spelled (subst (ReadAt (text_of tree) end) counted
-    (read_at-tree tree.top tree.sub tree.tail is.has.well_formed end (ap (λ (p : Positions). p.semicolon) is.has.same_positions ∙ is.at)))
+    (read_at-tree tree.top tree.sub tree.tail is.has.well_formed end
+    (ap (λ (p : Positions). p.semicolon) is.has.same_positions ∙ is.at)))
 
 -- a text that is read as a value with pairs is accepted so
 accepted_at : (text : List ℕ) (value : MediaType) → Reads text value → value.pairs ≢ []
@@ -126,7 +109,8 @@ text_is-by_parts kept text value reads some =
     )
 
 -- a text that differs from the kept text only in case is accepted
-pub accepted_at-case : (kept text : List ℕ) (value : MediaType) → Reads kept value → value.pairs ≢ [] → lowered kept ≡ lowered text
+pub accepted_at-case : (kept text : List ℕ) (value : MediaType) → Reads kept value → value.pairs ≢ []
+    → lowered kept ≡ lowered text
     → IsAcceptedAt text (length value.essence) (length value.pairs)
 accepted_at-case kept text value reads some is =
     let found = case_read text kept value reads (sym is) in
@@ -135,7 +119,8 @@ accepted_at-case kept text value reads some is =
     (accepted_at text found.read found.reads (λ none. some (nil_from_length value.pairs (counted ∙ ap length none))))
 
 -- a text that differs from the kept text only in case is equal to the value, if the only parameter is a charset
-pub text_is-lone_charset : (kept text : List ℕ) (value : MediaType) → Reads kept value → value.pairs ≢ [] → lowered kept ≡ lowered text
+pub text_is-lone_charset : (kept text : List ℕ) (value : MediaType) → Reads kept value → value.pairs ≢ []
+    → lowered kept ≡ lowered text
     → IsLoneCharset value.pairs → TextIs value text
 text_is-lone_charset kept text value reads some is lone =
     let found = case_read text kept value reads (sym is) in
@@ -176,20 +161,23 @@ text_of-bare : (tree : SyntaxTree) → HasNoSemicolon (text_of tree) → text_of
 text_of-bare tree bare = grind (arith, common_steps)
 
 -- a text that, lowercased, is the essence of a value without pairs is equal to the value
-pub text_is-from_lowered : (text kept : List ℕ) (value : MediaType) → Reads kept value → value.pairs ≡ [] → lowered text ≡ value.essence
+pub text_is-from_lowered : (text kept : List ℕ) (value : MediaType) → Reads kept value → value.pairs ≡ []
+    → lowered text ≡ value.essence
     → TextIs value text
 text_is-from_lowered text kept value reads none is =
     let low = read-low_essence kept value reads in
     let same = sym (kept-essence value kept reads (ap length none)) in
     let found = case_read text value.kept value (kept_is_read kept value reads) (is ∙ sym low ∙ ap lowered same) in
     let tree = reads.tree in
-    let essence : lowered (essence_of tree) ≡ value.essence = sym (essence-lowered tree) ∙ ap (λ (v : MediaType). v.essence) reads.valued in
+    let essence : lowered (essence_of tree) ≡ value.essence =
+    sym (essence-lowered tree) ∙ ap (λ (v : MediaType). v.essence) reads.valued in
     let bare = bare_essence tree.top tree.sub reads.well_formed.0 reads.well_formed.1 in
     record {
       read = found.read;
       reads = found.reads;
       same = (found.essence, none ∙ sym (nil_from_length found.read.pairs (sym (case_read-count text value found) ∙ ap length none)));
-      bare = λ _. sym (HasNoSemicolon-lowered text) ∙ ap (list_all _) (is ∙ sym essence) ∙ HasNoSemicolon-lowered (essence_of tree) ∙ bare;
+      bare = λ _. sym (HasNoSemicolon-lowered text) ∙ ap (list_all _) (is ∙ sym essence)
+          ∙ HasNoSemicolon-lowered (essence_of tree) ∙ bare;
     }
 
 -- a text is equal to a value without pairs exactly if, lowercased, it is the kept text

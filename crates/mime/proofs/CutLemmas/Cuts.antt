@@ -1,17 +1,10 @@
 -- A text has one cut, and what a cut makes of its text.
-use Rattle.std.proofs.lemmas.Grind.{common_steps}
+use Rattle.std.proofs.{lemmas.Grind.common_steps, Math.Seq.take-append_seam, Math.Seq.drop-append_seam, Math.Seq.take-length, lemmas.Bool.and_parts}
 use Rattle.std.proofs.Common.{◌≡◌, ℕ, zero, suc, ◌+◌, ◌<◌, Bool, true, false, List, [], ◌∷◌, ◌++◌, length, take, drop, Some, None, refl, sym, ap, ◌∙◌, subst, arith, ◌⊎◌, inl, inr, ⊎_elim}
-use Rattle.std.proofs.Math.Seq.{take-append_seam, drop-append_seam, take-length}
-use Rattle.std.proofs.lemmas.Bool.{and_parts}
 use Rattle.std.specs.Prelude.{IsTrue, ◌&&◌}
 use Rattle.std.specs.List.{list_all, prefix_len}
-use Rattle.mime.specs.Values.{IsAccepted, IsRejected}
-use Rattle.mime.specs.Faults.{IsViable}
-use Rattle.mime.proofs.GrammarLemmas.Begun.{Begun, in_type, grow, walk, tree_of}
-use Rattle.mime.proofs.GrammarLemmas.Readings.{one_reading, rejected-from_walk, stopped-from_walk}
-use Rattle.mime.proofs.GrammarLemmas.Viability.{by_option, accepted-from_complete, viable-from_walk, prefix-from_walk, prefix_unique, accepted_is_viable, empty_is_viable, stop-from_walk}
-use Rattle.mime.specs.CutLaws.{items_of_rest}
-use Rattle.mime.specs.Cut.{is_following_byte, BeginsCharacter, IsCharacter, IsSplit, CutItem, good, ItemsOf, is_read, is_rejected, is_empty, Cut, whole, unfinished, goes_on, Pieces, last, next, steps_of, TakesSteps}
+use Rattle.mime.specs.{Values.IsAccepted, Values.IsRejected, Faults.IsViable, CutLaws.items_of_rest, Cut.is_following_byte, Cut.BeginsCharacter, Cut.IsCharacter, Cut.IsSplit, Cut.CutItem, Cut.good, Cut.ItemsOf, Cut.is_read, Cut.is_rejected, Cut.is_empty, Cut.Cut, Cut.whole, Cut.unfinished, Cut.goes_on, Cut.Pieces, Cut.last, Cut.next, Cut.steps_of, Cut.TakesSteps}
+use Rattle.mime.proofs.{GrammarLemmas.Begun.Begun, GrammarLemmas.Begun.in_type, GrammarLemmas.Begun.grow, GrammarLemmas.Begun.walk, GrammarLemmas.Begun.tree_of, GrammarLemmas.Readings.one_reading, GrammarLemmas.Readings.rejected-from_walk, GrammarLemmas.Readings.stopped-from_walk, GrammarLemmas.Viability.by_option, GrammarLemmas.Viability.accepted-from_complete, GrammarLemmas.Viability.viable-from_walk, GrammarLemmas.Viability.prefix-from_walk, GrammarLemmas.Viability.prefix_unique, GrammarLemmas.Viability.accepted_is_viable, GrammarLemmas.Viability.empty_is_viable, GrammarLemmas.Viability.stop-from_walk}
 
 -- ---- a character
 
@@ -23,6 +16,7 @@ pub record Following (bytes : List ℕ) : Type 0 where
   pub of_class : IsTrue (list_all is_following_byte following)
   pub begins : BeginsCharacter left
 
+-- Bytes have following bytes at their start, and what is left.
 pub following_of : (bytes : List ℕ) → Following bytes
 following_of [] = record { following = []; left = []; spelled = refl; of_class = refl; begins = tt }
 following_of (b ∷ bytes) = onward (is_following_byte b) refl (following_of bytes)
@@ -66,6 +60,7 @@ pub record SameSplit (p c l q d m : List ℕ) : Type 0 where
   pub character : c ≡ d
   pub left : l ≡ m
 
+-- A text is split in one way.
 pub split_unique : (text p c l q d m : List ℕ) → IsSplit text p c l → IsSplit text q d m → SameSplit p c l q d m
 split_unique text p c l q d m one two =
     let size : length p ≡ length q = prefix_unique text (length p) (length q) one.prefix two.prefix in
@@ -124,7 +119,7 @@ split-from_walk text stopped =
 
 -- ---- a text has a cut
 
--- the empty text is no media type,
+-- The empty text is no media type.
 pub empty-rejected : IsRejected []
 empty-rejected = rejected-from_walk [] (in_type []) refl refl
 
@@ -148,6 +143,7 @@ has_items : (piece : List ℕ) → (first : List CutItem) × ItemsOf piece first
 has_items piece =
     ⊎_elim (λ accepted. (_, is_read accepted.0 accepted.1)) (λ is. (_, items-from_rejected piece is)) (accepted_or_rejected piece)
 
+-- A text of fewer bytes than a number has a cut.
 cut_within : (n : ℕ) (text : List ℕ) → length text < n → HasCut text
 cut_within zero text below = absurd (omega arith)
 cut_within (suc n) text below =
@@ -162,6 +158,7 @@ cut_within (suc n) text below =
     ⊎_elim (λ accepted. record { items = _; rest = _; cut = whole text accepted.0 accepted.1 })
     (λ is. record { items = _; rest = _; cut = unfinished text (viable-from_walk text begun walked) is }) (accepted_or_rejected text))
 
+-- Each text has a cut.
 pub has_cut : (text : List ℕ) → HasCut text
 has_cut text = cut_within (suc (length text)) text (omega arith)
 
@@ -185,6 +182,7 @@ pub record Leaves (first : List CutItem) (left : List ℕ) (items : List CutItem
   pub appended : items ≡ first ++ others
   pub cut : Cut left others rest
 
+-- A split text's cut has the items of its piece, and then those of what is left.
 pub split_inv : (text p c l : List ℕ) (first items : List CutItem) (rest : List ℕ) → IsSplit text p c l → ItemsOf p first
     → Cut text items rest → Leaves first l items rest
 split_inv text p c l first items rest split has (whole t v reads) =
@@ -244,6 +242,7 @@ pieces_unique text pieces end (next t p c l own e split found) others stop (next
     let rest = pieces_unique l own e found more f (subst (λ x. Pieces x more f) same.left other) in
     (ap (λ x. (x, d) ∷ more) same.piece ∙ ap (λ x. (p, x) ∷ more) same.character ∙ ap (λ x. (p, c) ∷ x) rest.0, rest.1)
 
+-- A text takes one number of steps.
 pub takes_unique : (text : List ℕ) (n m : ℕ) → TakesSteps text n → TakesSteps text m → n ≡ m
 takes_unique text n m one two =
     let same = pieces_unique text two.pieces two.end two.cut one.pieces one.end one.cut in

@@ -1,32 +1,10 @@
 -- How a text begins: its first character, and its first piece.
-use Rattle.std.proofs.lemmas.Grind.{common_steps}
+use Rattle.std.proofs.{lemmas.Grind.common_steps, lemmas.Bool.cases_Bool, lemmas.Bool.cases_lt, lemmas.Bool.and_parts, lemmas.Bool.not-true, lemmas.Bool.cond-false, lemmas.Bool.Decides.nat_tests, lemmas.List.take-append-drop, lemmas.List.length-take-le, lemmas.List.drop-drop, lemmas.List.take_at, lemmas.List.drop_at, lemmas.Option.slice_get_within, lemmas.Str.IsCharBoundary-from_rest, lemmas.Str.IsCharBoundary-from_take, lemmas.Str.IsUtf8-from_ascii, lemmas.Str.Ascii.IsAscii-cons, lemmas.Str.Ascii.IsAscii-nil}
 use Rattle.std.proofs.Common.{◌≡◌, ◌≢◌, ℕ, zero, suc, ◌+◌, ◌-◌, ◌<◌, ◌≤◌, false, inl, inr, length-append, IsAscii, List, [], ◌∷◌, ◌++◌, length, take, drop, Option, Some, None, MatchOption, refl, sym, ap, ◌∙◌, subst, arith, ⊎_elim, length-drop, rules}
-use Rattle.std.proofs.lemmas.Bool.{cases_Bool, cases_lt, and_parts, not-true, cond-false}
-use Rattle.std.proofs.lemmas.Bool.Decides.{nat_tests}
-use Rattle.std.proofs.lemmas.List.{take-append-drop, length-take-le, drop-drop, take_at, drop_at}
-use Rattle.std.proofs.lemmas.Option.{slice_get_within}
-use Rattle.std.proofs.lemmas.Str.{IsCharBoundary-from_rest, IsCharBoundary-from_take, IsUtf8-from_ascii}
-use Rattle.std.proofs.lemmas.Str.Ascii.{IsAscii-cons, IsAscii-nil}
 use Rattle.std.specs.Prelude.{IsTrue, IsFalse, ◌&&◌, nat_lt}
-use Rattle.std.specs.List.{list_all}
-use Rattle.std.specs.Str.{IsUtf8, IsCharBoundary}
-use Rattle.mime.specs.Bytes.{is_token_byte}
-use Rattle.mime.specs.Inner.ByteClasses.{is_ascii_not_token}
-use Rattle.mime.specs.Values.{IsAccepted, IsRejected}
-use Rattle.mime.specs.Faults.{IsViable, IsLongestPrefix, IsDeadAt}
-use Rattle.mime.specs.Cut.{is_following_byte, BeginsCharacter, IsCharacter, IsSplit, CutItem, good, bad, ItemsOf, is_read, is_rejected, is_empty, Cut, whole, unfinished, goes_on, TakesSteps}
-use Rattle.mime.specs.Inner.Remaining.{Remaining}
-use Rattle.mime.specs.Inner.Scanning.{HasPositions, StopsAt, Judges, Scans}
-use Rattle.mime.specs.Inner.BetweenCalls.{IsUnderWay, IsFirstPiece, ReadsPiece}
-use Rattle.mime.specs.declared.scan.fault.ParseError.{ParseError}
-use Rattle.mime.specs.declared.scan.Positions.{Positions}
-use Rattle.mime.specs.declared.scan.Scanned.{Scanned}
-use Rattle.mime.specs.declared.scan.Scanned.TheVariants.{Accepted, Unfinished}
-use Rattle.mime.proofs.GrammarLemmas.Characters.{prefix_ends_between_characters}
-use Rattle.mime.proofs.CutLemmas.Cuts.{empty-rejected, empty-cut, split-size, split-from_dead, cut_unique, takes-split, takes-viable, takes_unique}
-use Rattle.mime.proofs.GrammarLemmas.Begun.{in_type}
-use Rattle.mime.proofs.ValueLemmas.Reading.{accepted-from_positions, rejected-from_fault}
-use Rattle.mime.proofs.GrammarLemmas.Viability.{accepted_is_viable, empty_is_viable}
+use Rattle.std.specs.{List.list_all, Str.IsUtf8, Str.IsCharBoundary}
+use Rattle.mime.specs.{Bytes.is_token_byte, Inner.ByteClasses.is_ascii_not_token, Values.IsAccepted, Values.IsRejected, Faults.IsViable, Faults.IsLongestPrefix, Faults.IsDeadAt, Cut.is_following_byte, Cut.BeginsCharacter, Cut.IsCharacter, Cut.IsSplit, Cut.CutItem, Cut.good, Cut.bad, Cut.ItemsOf, Cut.is_read, Cut.is_rejected, Cut.is_empty, Cut.Cut, Cut.whole, Cut.unfinished, Cut.goes_on, Cut.TakesSteps, Inner.Remaining.Remaining, Inner.Scanning.HasPositions, Inner.Scanning.StopsAt, Inner.Scanning.Judges, Inner.Scanning.Scans, Inner.BetweenCalls.IsUnderWay, Inner.BetweenCalls.IsFirstPiece, Inner.BetweenCalls.ReadsPiece, declared.scan.fault.ParseError.ParseError, declared.scan.Positions.Positions, declared.scan.Scanned.Scanned, declared.scan.Scanned.TheVariants.Accepted, declared.scan.Scanned.TheVariants.Unfinished}
+use Rattle.mime.proofs.{GrammarLemmas.Characters.prefix_ends_between_characters, CutLemmas.Cuts.empty-rejected, CutLemmas.Cuts.empty-cut, CutLemmas.Cuts.split-size, CutLemmas.Cuts.split-from_dead, CutLemmas.Cuts.cut_unique, CutLemmas.Cuts.takes-split, CutLemmas.Cuts.takes-viable, CutLemmas.Cuts.takes_unique, GrammarLemmas.Begun.in_type, ValueLemmas.Reading.accepted-from_positions, ValueLemmas.Reading.rejected-from_fault, GrammarLemmas.Viability.accepted_is_viable, GrammarLemmas.Viability.empty_is_viable}
 
 -- ---- the first character of a text
 
@@ -63,7 +41,10 @@ after_character (b ∷ bytes) (suc n) some past border none = (
   b ∷ take n bytes,
   ap (λ t. b ∷ t) (sym (take-append-drop n bytes)),
   follow_to bytes n (omega (arith, border.0), λ within high. border.1 (omega (arith, within)) high)
-      (λ j before cut. none (suc j) (omega arith) (omega (arith, before)) (omega (arith, cut.0), λ within high. cut.1 (omega (arith, within)) high)),
+      (λ j before cut. none (suc j) (omega arith) (omega (arith, before)) (
+        omega (arith, cut.0),
+        λ within high. cut.1 (omega (arith, within)) high,
+      )),
 )
 
 -- ---- the first piece of a text
@@ -73,7 +54,7 @@ pub judged-from_scan : (old new : Remaining) (text : List ℕ) (from steps : ℕ
     → old.left ≡ text → old.count ≡ from → steps ≡ new.count → Judges text (steps - from) verdict
 judged-from_scan old new text from steps verdict scans left begin end = rw (left, begin, sym end) at scans.judged
 
--- where it stopped the text may be cut, and isn't at its end
+-- A text may be cut where a scan of it stopped, which isn't its end.
 pub stopped-boundary : (text : List ℕ) (steps at byte : ℕ) (positions : Option Positions) → IsUtf8 text
     → StopsAt text steps byte positions → at ≡ steps - 1 → IsCharBoundary text at × (0 < length (drop at text))
 stopped-boundary text steps at byte positions utf8 (some, dead, before) is_at = (
@@ -166,7 +147,8 @@ after_position text at end there past border near =
 -- a text is split where the scanner stops
 pub passes-stopped : (text piece left : List ℕ) (steps at end byte : ℕ) (positions : Option Positions)
     → StopsAt text steps byte positions → at ≡ steps - 1 → piece ≡ take at text → left ≡ drop end text
-    → (at + 1 ≤ length text → at + 1 ≤ end) → IsCharBoundary text end → ((i : ℕ) → at + 1 ≤ i → i < end → ¬ (IsCharBoundary text i))
+    → (at + 1 ≤ length text → at + 1 ≤ end) → IsCharBoundary text end
+    → ((i : ℕ) → at + 1 ≤ i → i < end → ¬ (IsCharBoundary text i))
     → ReadsPiece text piece positions left steps
 passes-stopped text piece left steps at end byte positions (given, dead_at, rejected) is_at is_piece is_left past border near =
     let dead = subst (λ n. IsDeadAt text n byte) (sym is_at) dead_at in
@@ -193,7 +175,8 @@ module _ (rest : List ℕ) (begins : BeginsCharacter rest) where
       let separator = (and_parts (is_ascii_not_token b) _ all).0 in grind (arith, nat_tests, separator)
 
   -- a separator is passed
-  separator_splits : (b : ℕ) (run : List ℕ) → IsTrue (list_all is_ascii_not_token (b ∷ run)) → IsSplit (b ∷ (run ++ rest)) [] (b ∷ []) (run ++ rest)
+  separator_splits : (b : ℕ) (run : List ℕ) → IsTrue (list_all is_ascii_not_token (b ∷ run))
+      → IsSplit (b ∷ (run ++ rest)) [] (b ∷ []) (run ++ rest)
   separator_splits b run all =
       let parts = and_parts (is_ascii_not_token b) (list_all is_ascii_not_token run) all in
       let other : is_token_byte b ≡ false = not-true _ (and_parts (nat_lt b 128) _ parts.0).1 in
@@ -202,7 +185,8 @@ module _ (rest : List ℕ) (begins : BeginsCharacter rest) where
       (cond-false (is_token_byte b) _ _ other)
 
   -- the cut of what follows separators is that of the whole
-  separated-cut : (run : List ℕ) → IsTrue (list_all is_ascii_not_token run) → (items : List CutItem) (end : List ℕ) → Cut rest items end
+  separated-cut : (run : List ℕ) → IsTrue (list_all is_ascii_not_token run) → (items : List CutItem) (end : List ℕ)
+      → Cut rest items end
       → Cut (run ++ rest) items end
   separated-cut [] all items end cut = cut
   separated-cut (b ∷ run) all items end cut =
@@ -210,7 +194,8 @@ module _ (rest : List ℕ) (begins : BeginsCharacter rest) where
       (separated-cut run (and_parts (is_ascii_not_token b) _ all).1 items end cut)
 
   -- each separator takes a step
-  separated-steps : (run : List ℕ) → IsTrue (list_all is_ascii_not_token run) → (n : ℕ) → TakesSteps rest n → TakesSteps (run ++ rest) (length run + n)
+  separated-steps : (run : List ℕ) → IsTrue (list_all is_ascii_not_token run) → (n : ℕ) → TakesSteps rest n
+      → TakesSteps (run ++ rest) (length run + n)
   separated-steps [] all n takes = subst (TakesSteps rest) (omega arith) takes
   separated-steps (b ∷ run) all n takes =
       subst (TakesSteps (b ∷ (run ++ rest))) (omega arith)
@@ -218,14 +203,16 @@ module _ (rest : List ℕ) (begins : BeginsCharacter rest) where
       (separated-steps run (and_parts (is_ascii_not_token b) _ all).1 n takes))
 
   -- the first piece of what follows separators is that of the whole
-  separated-first : (run : List ℕ) → IsTrue (list_all is_ascii_not_token run) → (piece : List ℕ) (positions : Option Positions) (left : List ℕ)
+  separated-first : (run : List ℕ) → IsTrue (list_all is_ascii_not_token run)
+      → (piece : List ℕ) (positions : Option Positions) (left : List ℕ)
       → IsFirstPiece rest piece positions left → IsFirstPiece (run ++ rest) piece positions left
   separated-first run all piece None left first = λ items end cut. separated-cut run all _ end (first items end cut)
   separated-first run all piece (Some positions) left (has, first) =
       (has, λ value reads items end cut. separated-cut run all _ end (first value reads items end cut))
 
   -- a piece is read after separators
-  pub separated-piece : (run : List ℕ) → IsTrue (list_all is_ascii_not_token run) → (piece : List ℕ) (positions : Option Positions) (left : List ℕ)
+  pub separated-piece : (run : List ℕ) → IsTrue (list_all is_ascii_not_token run)
+      → (piece : List ℕ) (positions : Option Positions) (left : List ℕ)
       (steps : ℕ) → ReadsPiece rest piece positions left steps → ReadsPiece (run ++ rest) piece positions left (length run + steps)
   separated-piece run all piece positions left steps reads =
       let size = length-append run rest in
@@ -270,7 +257,8 @@ pub separators-boundary : (text run rest : List ℕ) → IsUtf8 text → text �
     → IsCharBoundary text (length run)
 separators-boundary text run rest utf8 is all =
     IsCharBoundary-from_take text (length run) utf8 (omega (arith, ap length is, length-append run rest))
-    (subst IsUtf8 (sym (ap (take (length run)) is ∙ take_at run rest (length run) refl)) (IsUtf8-from_ascii run (separators_are_ascii run all)))
+    (subst IsUtf8 (sym (ap (take (length run)) is ∙ take_at run rest (length run) refl))
+    (IsUtf8-from_ascii run (separators_are_ascii run all)))
 
 -- what follows separators begins with a character
 pub separators-begins : (text run rest : List ℕ) → IsUtf8 text → text ≡ run ++ rest → IsTrue (list_all is_ascii_not_token run)

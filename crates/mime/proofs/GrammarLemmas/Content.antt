@@ -1,14 +1,9 @@
 -- Quoted content: it is taken byte by byte, and what was taken and awaits no more is content.
 use Rattle.std.proofs.Common.{◌≡◌, ℕ, ◌≤◌, Bool, true, false, List, [], ◌∷◌, ◌++◌, refl, sym, ap, ◌∙◌, subst, arith, rules}
 use Rattle.std.specs.Prelude.{IsTrue, IsFalse, ◌==◌, ◌&&◌, not}
-use Rattle.std.specs.Char.{to_ascii_lowercase}
-use Rattle.std.specs.List.{list_all}
-use Rattle.std.proofs.lemmas.Bool.{and_parts, and_from, eqb-true, true≢false}
-use Rattle.std.proofs.lemmas.Bool.Decides.{nat_tests}
-use Rattle.mime.specs.Bytes.{is_quoted_byte, is_quoted_text_byte, quote_byte, backslash_byte}
-use Rattle.mime.specs.Grammar.{IsContent, no_byte, text_byte, quoted_pair}
-use Rattle.mime.specs.Values.{lowered}
-use Rattle.mime.specs.Inner.Quoted.{awaits_next, takes, takes_all, awaits_after, IsOpenContent, continues}
+use Rattle.std.specs.{Char.to_ascii_lowercase, List.list_all}
+use Rattle.std.proofs.{lemmas.Bool.and_parts, lemmas.Bool.and_from, lemmas.Bool.eqb-true, lemmas.Bool.true≢false, lemmas.Bool.Decides.nat_tests}
+use Rattle.mime.specs.{Bytes.is_quoted_byte, Bytes.is_quoted_text_byte, Bytes.quote_byte, Bytes.backslash_byte, Grammar.IsContent, Grammar.no_byte, Grammar.text_byte, Grammar.quoted_pair, Values.lowered, Inner.Quoted.awaits_next, Inner.Quoted.takes, Inner.Quoted.takes_all, Inner.Quoted.awaits_after, Inner.Quoted.IsOpenContent, Inner.Quoted.continues}
 
 -- ---- one byte
 
@@ -94,10 +89,12 @@ content_from false (b ∷ bytes) all done =
     let parts = and_parts (takes false b) (takes_all (b == backslash_byte) bytes) all in
     go (b == backslash_byte) refl parts.0 (content_from (b == backslash_byte) bytes parts.1 done)
   where
-    go : (backslash : Bool) → b == backslash_byte ≡ backslash → IsTrue (takes false b) → ContentFrom backslash bytes → IsContent (b ∷ bytes)
+    go : (backslash : Bool) → b == backslash_byte ≡ backslash → IsTrue (takes false b) → ContentFrom backslash bytes
+        → IsContent (b ∷ bytes)
     go true same taken more = subst (λ first. IsContent (first ∷ bytes)) (sym (eqb-true b backslash_byte same)) more
     go false other taken more = text_byte b bytes (text-taken b taken other) more
 
+-- Open content that awaits no byte is content.
 pub IsContent-taken : (content : List ℕ) → IsOpenContent content → awaits_after false content ≡ false → IsContent content
 IsContent-taken content all done = content_from false content all done
 
@@ -109,6 +106,7 @@ pub awaits_after-append : (awaiting : Bool) (run more : List ℕ)
 awaits_after-append awaiting [] more = refl
 awaits_after-append awaiting (b ∷ run) more = awaits_after-append (awaits_next awaiting b) run more
 
+-- Joined bytes are taken if each is taken from where the one before ends.
 pub takes_all-append : (awaiting : Bool) (run more : List ℕ) → IsTrue (takes_all awaiting run)
     → IsTrue (takes_all (awaits_after awaiting run) more) → IsTrue (takes_all awaiting (run ++ more))
 takes_all-append awaiting [] more all taken = taken
@@ -130,6 +128,7 @@ takes_all-text (b ∷ run) all =
     and_from (takes false b) _ (takes-text b parts.0)
     (subst (λ awaiting. IsTrue (takes_all awaiting run)) (sym (awaits_next-text b parts.0)) (takes_all-text run parts.1))
 
+-- After quoted text no byte is awaited.
 pub awaits_after-text : (run : List ℕ) → IsTrue (list_all is_quoted_text_byte run) → awaits_after false run ≡ false
 awaits_after-text [] all = refl
 awaits_after-text (b ∷ run) all =
@@ -137,7 +136,8 @@ awaits_after-text (b ∷ run) all =
     ap (λ (awaiting : Bool). awaits_after awaiting run) (awaits_next-text b parts.0) ∙ awaits_after-text run parts.1
 
 -- open content that a quote doesn't continue is content
-pub IsContent-closed : (content : List ℕ) (b : ℕ) → IsOpenContent content → IsFalse (continues content b) → IsTrue (b == quote_byte)
+pub IsContent-closed : (content : List ℕ) (b : ℕ) → IsOpenContent content → IsFalse (continues content b)
+    → IsTrue (b == quote_byte)
     → IsContent content
 IsContent-closed content b all stopped same =
     IsContent-taken content all
@@ -172,6 +172,7 @@ takes_all-lowered awaiting (b ∷ bytes) =
     (ap (λ rest. takes awaiting b && rest)
     (ap (λ a. takes_all a (lowered bytes)) (awaits_next-lowercase awaiting b) ∙ takes_all-lowered (awaits_next awaiting b) bytes))
 
+-- Lowercasing doesn't change whether a byte is awaited.
 awaits_after-lowered : (awaiting : Bool) (bytes : List ℕ) → awaits_after awaiting (lowered bytes) ≡ awaits_after awaiting bytes
 awaits_after-lowered awaiting [] = refl
 awaits_after-lowered awaiting (b ∷ bytes) =

@@ -1,16 +1,10 @@
 -- A walk spells what it walked: the text of a begun tree, and of the tree of a text that ends there.
 use Rattle.std.proofs.Common.{◌≡◌, ℕ, Bool, true, List, [], ◌∷◌, ◌++◌, Some, None, refl, sym, ap, ◌∙◌, subst, append_assoc, append-nil, rules}
-use Rattle.std.proofs.lemmas.Bool.{and_from, cond_both}
-use Rattle.std.proofs.lemmas.List.Folds.{list_all-append}
-use Rattle.std.proofs.lemmas.Option.{same_Some, option_and_then_some, MatchOption-at_some}
+use Rattle.std.proofs.{lemmas.Bool.and_from, lemmas.Bool.cond_both, lemmas.List.Folds.list_all-append, lemmas.Option.same_Some, lemmas.Option.option_and_then_some, lemmas.Option.MatchOption-at_some}
 use Rattle.std.specs.Prelude.{IsTrue, IsFalse, MatchOption, if◌then◌else◌, ◌==◌}
-use Rattle.std.specs.List.{list_all}
-use Rattle.std.specs.Option.{option_map}
-use Rattle.mime.specs.Bytes.{is_token_byte, slash_byte, semicolon_byte, equals_byte, quote_byte}
-use Rattle.mime.specs.Grammar.{quoted, Parameters, more, listed, is_space, AreSpaces, text_of_parameter, text_of_list, text_of, AreTokenBytes, IsToken, IsContent, IsParameter, AreParameters, IsWellFormed}
-use Rattle.mime.specs.Inner.Quoted.{IsOpenContent, continues}
-use Rattle.mime.proofs.GrammarLemmas.Content.{IsOpenContent-push, IsContent-closed}
-use Rattle.mime.proofs.GrammarLemmas.Begun.{Closed, Begun, in_type, in_subtype, in_list, BegunList, ListState, in_spaces, in_name, in_value, in_quotes, after_quotes, list_at, grow, grow_state, grow_list, walk, walk_from, with_closed, list_at_end, tree_of}
+use Rattle.std.specs.{List.list_all, Option.option_map}
+use Rattle.mime.specs.{Bytes.is_token_byte, Bytes.slash_byte, Bytes.semicolon_byte, Bytes.equals_byte, Bytes.quote_byte, Grammar.quoted, Grammar.Parameters, Grammar.more, Grammar.listed, Grammar.is_space, Grammar.AreSpaces, Grammar.text_of_parameter, Grammar.text_of_list, Grammar.text_of, Grammar.AreTokenBytes, Grammar.IsToken, Grammar.IsContent, Grammar.IsParameter, Grammar.AreParameters, Grammar.IsWellFormed, Inner.Quoted.IsOpenContent, Inner.Quoted.continues}
+use Rattle.mime.proofs.{GrammarLemmas.Content.IsOpenContent-push, GrammarLemmas.Content.IsContent-closed, GrammarLemmas.Begun.Closed, GrammarLemmas.Begun.Begun, GrammarLemmas.Begun.in_type, GrammarLemmas.Begun.in_subtype, GrammarLemmas.Begun.in_list, GrammarLemmas.Begun.BegunList, GrammarLemmas.Begun.ListState, GrammarLemmas.Begun.in_spaces, GrammarLemmas.Begun.in_name, GrammarLemmas.Begun.in_value, GrammarLemmas.Begun.in_quotes, GrammarLemmas.Begun.after_quotes, GrammarLemmas.Begun.list_at, GrammarLemmas.Begun.grow, GrammarLemmas.Begun.grow_state, GrammarLemmas.Begun.grow_list, GrammarLemmas.Begun.walk, GrammarLemmas.Begun.walk_from, GrammarLemmas.Begun.with_closed, GrammarLemmas.Begun.list_at_end, GrammarLemmas.Begun.tree_of}
 
 -- ---- begun trees: their texts, and that each part is in its class
 
@@ -97,7 +91,8 @@ abbrev Lengthens : List ℕ → ℕ → BegunList → Type 0
 Lengthens text b next = IsBegunList next × (text_of_begun_list next ≡ text ++ (b ∷ []))
 
 -- a begun list of well-formed parts
-same_positions : {closed : Closed} {position : ListState} → AreClosed closed → IsState position → IsBegunList (list_at closed position)
+same_positions : {closed : Closed} {position : ListState} → AreClosed closed → IsState position
+    → IsBegunList (list_at closed position)
 same_positions before here = record { closed = before; position = here }
 
 -- each byte that may come at a state lengthens the text by itself
@@ -176,6 +171,7 @@ walk_from-lengthens begun (b ∷ bytes) last here walked =
 pub begun-from_walk : (text : List ℕ) (begun : Begun) → walk text ≡ Some begun → IsBegun begun
 begun-from_walk text begun walked = (walk_from-lengthens (in_type []) text begun refl walked).0
 
+-- A walk from the start of a text spells the text.
 pub spelled-from_walk : (text : List ℕ) (begun : Begun) → walk text ≡ Some begun → text_of_begun begun ≡ text
 spelled-from_walk text begun walked = (walk_from-lengthens (in_type []) text begun refl walked).1
 
@@ -187,6 +183,7 @@ text-in_subtype top sub = simp regroup
 abbrev pub before_equals : List ℕ → List ℕ → Closed → List ℕ → List ℕ → List ℕ
 before_equals top sub closed n name = top ++ (slash_byte ∷ (sub ++ (semicolon_byte ∷ (text_of_closed closed ++ (n ++ name)))))
 
+-- A text that ends in a value is the text before its equals sign, the sign, and the value.
 pub text-in_value : (top sub : List ℕ) (closed : Closed) (n name value : List ℕ)
     → (before_equals top sub closed n name ++ (equals_byte ∷ [])) ++ value
     ≡ text_of_begun (in_list top sub (list_at closed (in_value n name value)))

@@ -1,16 +1,9 @@
 -- What a key finds: at most one answer, and one if it decides each name.
 use Rattle.std.proofs.Common.{◌≡◌, ◌≢◌, true, false, ℕ, ◌⊎◌, Bool, List, [], ◌∷◌, Option, Some, None, refl, sym, ap, ◌∙◌, ⊎_elim, rules}
-use Rattle.std.proofs.lemmas.Bool.Decides.{Decides-and}
-use Rattle.std.proofs.lemmas.Option.{none-some, same_Some}
-use Rattle.std.proofs.lemmas.Slice.Eq.{bytes_eq-Decides}
+use Rattle.std.proofs.{lemmas.Bool.Decides.Decides-and, lemmas.Option.none-some, lemmas.Option.same_Some, lemmas.Slice.Eq.bytes_eq-Decides}
 use Rattle.std.specs.Prelude.{◌&&◌}
-use Rattle.std.specs.Str.{bytes_eq}
-use Rattle.std.specs.Bool.{Decides, beq}
-use Rattle.std.specs.Cmp.{booleans_Decides}
-use Rattle.mime.specs.Values.{lowered}
-use Rattle.mime.specs.Items.{Item, IsFirstAccepted}
-use Rattle.mime.specs.Names.{NameIs}
-use Rattle.mime.specs.Laws.{IsDecided, OneAnswer, HasAnswer}
+use Rattle.std.specs.{Str.bytes_eq, Bool.Decides, Bool.beq, Cmp.booleans_Decides}
+use Rattle.mime.specs.{Values.lowered, Items.Item, Items.IsFirstAccepted, Names.NameIs, Laws.IsDecided, Laws.OneAnswer, Laws.HasAnswer}
 
 -- what a test decides is so or isn't
 decided_by : {P : Type 0} (test : Bool) → Decides test P → P ⊎ ¬ P

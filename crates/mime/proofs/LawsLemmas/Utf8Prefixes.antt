@@ -3,14 +3,8 @@ use Rattle.std.proofs.Common.{◌≡◌, ℕ, List, [], ◌++◌, take, Some, No
 use Rattle.std.proofs.lemmas.Str.{IsUtf8-append, IsUtf8-take}
 use Rattle.std.specs.Prelude.{MatchOption}
 use Rattle.std.specs.Str.{IsUtf8}
-use Rattle.mime.specs.Values.{IsAccepted}
-use Rattle.mime.specs.Faults.{IsViable, IsLongestPrefix, completion_of, Lacks}
-use Rattle.mime.specs.Laws.{IsViableInUtf8, IsLongestPrefixInUtf8, PrefixIsInUtf8}
-use Rattle.mime.specs.declared.scan.fault.ParseError.{ParseError}
-use Rattle.mime.specs.declared.scan.fault.ParseError.TheVariants.{MissingSlash, MissingSubtype, MissingEqual, MissingValue, MissingQuote}
-use Rattle.mime.proofs.GrammarLemmas.Characters.{prefix_ends_between_characters}
-use Rattle.mime.proofs.CutLemmas.Cuts.{accepted_or_rejected}
-use Rattle.mime.proofs.GrammarLemmas.Faults.{one_completion, one_longest_prefix}
+use Rattle.mime.specs.{Values.IsAccepted, Faults.IsViable, Faults.IsLongestPrefix, Faults.completion_of, Faults.Lacks, Laws.IsViableInUtf8, Laws.IsLongestPrefixInUtf8, Laws.PrefixIsInUtf8, declared.scan.fault.ParseError.ParseError, declared.scan.fault.ParseError.TheVariants.MissingSlash, declared.scan.fault.ParseError.TheVariants.MissingSubtype, declared.scan.fault.ParseError.TheVariants.MissingEqual, declared.scan.fault.ParseError.TheVariants.MissingValue, declared.scan.fault.ParseError.TheVariants.MissingQuote}
+use Rattle.mime.proofs.{GrammarLemmas.Characters.prefix_ends_between_characters, CutLemmas.Cuts.accepted_or_rejected, GrammarLemmas.Faults.one_completion, GrammarLemmas.Faults.one_longest_prefix}
 use lib.Utf8.{encode}
 
 -- what completes a text is ASCII
@@ -23,7 +17,7 @@ completion-utf8 MissingValue = (codes "x", (refl, refl))
 completion-utf8 MissingQuote = (codes "x\"", (refl, refl))
 completion-utf8 other = tt
 
--- with it a text of valid UTF-8 stays one
+-- A text of valid UTF-8 stays one with its completion.
 completed_in_utf8 : (prefix : List ℕ) (fault : ParseError) → IsUtf8 prefix → Lacks prefix fault → IsViableInUtf8 prefix
 completed_in_utf8 prefix fault utf8 lacks =
     (elim (completion_of fault) as (λ o. MatchOption o (Unit {0}) IsUtf8 → MatchOption o ⊥ (λ more. IsAccepted (prefix ++ more))

@@ -3,22 +3,12 @@ use Rattle.std.proofs.Common.{◌≡◌, ℕ, ◌+◌, true, List, [], ◌∷◌
 use Rattle.std.specs.Prelude.{IsFalse, Bool, if◌then◌else◌, ◌==◌}
 use Rattle.std.specs.Option.{option_to_list}
 use Rattle.std.proofs.lemmas.Bool.{and_from, cond-true, cond-false}
-use Rattle.mime.specs.Bytes.{is_token_byte, equals_byte, quote_byte, semicolon_byte}
-use Rattle.mime.specs.Values.{last_plus}
-use Rattle.mime.specs.Inner.Remaining.{Remaining}
-use Rattle.mime.specs.declared.scan.Positions.{Positions}
-use Rattle.mime.specs.declared.scan.Scanned.{Scanned}
-use Rattle.mime.specs.Inner.Scanning.{Given, GivesFirst, Passes, positions_of, before_list, ScansList, Scans, PassesContent}
-use Rattle.mime.proofs.GrammarLemmas.Begun.{in_type, in_subtype, in_list, begun_list, walk-type, walk_from-subtype, ListState, in_spaces, in_name, in_value, in_quotes, after_quotes, BegunList, grow_state, grow_list, close, walk_by-step, walk_list-spaces, walk_list-name, walk_list-value, walk_list-open, walk_list-after_quotes}
-use Rattle.mime.proofs.ScanLemmas.Passing.{given_then, given_whole, given_sum}
-use Rattle.mime.proofs.GrammarLemmas.Spelling.{walk_from-lengthens}
-use Rattle.mime.proofs.ScanLemmas.Verdicts.{Reaches, reaches_run, positions_of_list, ListReaches, list_run, list_byte}
-use Rattle.mime.specs.Grammar.{is_space, Parameter, plain, quoted}
-use Rattle.mime.specs.Inner.Quoted.{continues}
-use Rattle.mime.proofs.BytesLemmas.{quote_is_no_token, semicolon_is_no_token}
+use Rattle.mime.specs.{Bytes.is_token_byte, Bytes.equals_byte, Bytes.quote_byte, Bytes.semicolon_byte, Values.last_plus, Inner.Remaining.Remaining, declared.scan.Positions.Positions, declared.scan.Scanned.Scanned, Inner.Scanning.Given, Inner.Scanning.GivesFirst, Inner.Scanning.Passes, Inner.Scanning.positions_of, Inner.Scanning.before_list, Inner.Scanning.ScansList, Inner.Scanning.Scans, Inner.Scanning.PassesContent, Grammar.is_space, Grammar.Parameter, Grammar.plain, Grammar.quoted, Inner.Quoted.continues}
+use Rattle.mime.proofs.{GrammarLemmas.Begun.in_type, GrammarLemmas.Begun.in_subtype, GrammarLemmas.Begun.in_list, GrammarLemmas.Begun.begun_list, GrammarLemmas.Begun.walk-type, GrammarLemmas.Begun.walk_from-subtype, GrammarLemmas.Begun.ListState, GrammarLemmas.Begun.in_spaces, GrammarLemmas.Begun.in_name, GrammarLemmas.Begun.in_value, GrammarLemmas.Begun.in_quotes, GrammarLemmas.Begun.after_quotes, GrammarLemmas.Begun.BegunList, GrammarLemmas.Begun.grow_state, GrammarLemmas.Begun.grow_list, GrammarLemmas.Begun.close, GrammarLemmas.Begun.walk_by-step, GrammarLemmas.Begun.walk_list-spaces, GrammarLemmas.Begun.walk_list-name, GrammarLemmas.Begun.walk_list-value, GrammarLemmas.Begun.walk_list-open, GrammarLemmas.Begun.walk_list-after_quotes, ScanLemmas.Passing.given_then, ScanLemmas.Passing.given_whole, ScanLemmas.Passing.given_sum, GrammarLemmas.Spelling.walk_from-lengthens, ScanLemmas.Verdicts.Reaches, ScanLemmas.Verdicts.reaches_run, ScanLemmas.Verdicts.positions_of_list, ScanLemmas.Verdicts.ListReaches, ScanLemmas.Verdicts.list_run, ScanLemmas.Verdicts.list_byte, BytesLemmas.quote_is_no_token, BytesLemmas.semicolon_is_no_token}
 
 -- nothing was walked yet
-pub none_walked : {old new : Remaining} {first : Option ℕ} → GivesFirst old new first → Reaches (in_type []) old new first (in_type [])
+pub none_walked : {old new : Remaining} {first : Option ℕ} → GivesFirst old new first
+    → Reaches (in_type []) old new first (in_type [])
 none_walked g = record { run = []; given = g.0; walked = refl }
 
 -- a type was walked
@@ -50,7 +40,8 @@ abbrev essence_positions : ℕ → Option ℕ → Positions
 essence_positions slash plus = record { slash = slash; plus = plus; semicolon = None; pair_count = 0 }
 
 -- the positions of a text that ends in its subtype are those of its parts
-pub essence_is : (slash : ℕ) (plus : Option ℕ) (top others : List ℕ) → slash ≡ length top → plus ≡ last_plus (length top + 2) others
+pub essence_is : (slash : ℕ) (plus : Option ℕ) (top others : List ℕ) → slash ≡ length top
+    → plus ≡ last_plus (length top + 2) others
     → essence_positions slash plus ≡ essence_positions (length top) (last_plus (length top + 2) others)
 essence_is slash plus top others e f = rw (e, f)
 
@@ -93,13 +84,16 @@ name_walked {b = b} t p f q =
 
 -- a parameter's equals sign was walked
 pub equals_walked : {closed : List (List ℕ × Parameter)} {spaces name : List ℕ} {old now : Remaining} {b : ℕ}
-    → ListReaches old now (Some b) (record { closed = closed; position = in_name spaces name }) → IsFalse (is_token_byte b) → b ≡ equals_byte
+    → ListReaches old now (Some b) (record { closed = closed; position = in_name spaces name }) → IsFalse (is_token_byte b)
+    → b ≡ equals_byte
     → ListReaches old now None (record { closed = closed; position = in_value spaces name [] })
 equals_walked {b = b} r f e = list_byte r (cond-false (is_token_byte b) _ _ f ∙ cond-true _ _ _ (eq-eqb b equals_byte e))
 
 -- a parameter's quoted content was walked
-pub quotes_walked : {closed : List (List ℕ × Parameter)} {spaces name : List ℕ} {old mid from new : Remaining} {b : ℕ} {stop : Option ℕ}
-    → ListReaches old mid None (record { closed = closed; position = in_value spaces name [] }) → GivesFirst mid from (Some b) → b ≡ quote_byte
+pub quotes_walked : {closed : List (List ℕ × Parameter)} {spaces name : List ℕ} {old mid from new : Remaining} {b : ℕ}
+    {stop : Option ℕ}
+    → ListReaches old mid None (record { closed = closed; position = in_value spaces name [] }) → GivesFirst mid from (Some b)
+    → b ≡ quote_byte
     → (q : PassesContent from new stop) → ListReaches old new stop (record { closed = closed; position = in_quotes spaces name q.run })
 quotes_walked {closed} {spaces} {name} {b = b} r g e q =
     list_run
@@ -126,7 +120,8 @@ only_semicolon : (class : ℕ → Bool) (left : List ℕ) (stop : Option ℕ) (g
 only_semicolon class left stop go closed s = search rules
 
 -- a plain value was walked
-pub valued_token : {closed : List (List ℕ × Parameter)} {spaces name : List ℕ} {old mid from new : Remaining} {b : ℕ} {stop : Option ℕ}
+pub valued_token : {closed : List (List ℕ × Parameter)} {spaces name : List ℕ} {old mid from new : Remaining} {b : ℕ}
+    {stop : Option ℕ}
     → ListReaches old mid None (record { closed = closed; position = in_value spaces name [] }) → GivesFirst mid from (Some b)
     → is_token_byte b ≡ true → Passes is_token_byte from new stop → Valued closed spaces old mid new stop
 valued_token {closed} {spaces} {name} {new = new} {b = b} {stop = stop} r g f q = record {
@@ -143,7 +138,8 @@ valued_token {closed} {spaces} {name} {new = new} {b = b} {stop = stop} r g f q 
 pub valued_quotes : {closed : List (List ℕ × Parameter)} {spaces name : List ℕ} {old mid from to new : Remaining} {b c : ℕ}
     {stop : Option ℕ}
     → ListReaches old mid None (record { closed = closed; position = in_value spaces name [] }) → GivesFirst mid from (Some b)
-    → b ≡ quote_byte → PassesContent from to (Some c) → c ≡ quote_byte → Passes is_space to new stop → Valued closed spaces old mid new stop
+    → b ≡ quote_byte → PassesContent from to (Some c) → c ≡ quote_byte → Passes is_space to new stop
+    → Valued closed spaces old mid new stop
 valued_quotes {closed} {spaces} {name} {new = new} {c = c} {stop = stop} r g e q h p = record {
   parameter = quoted name q.run p.run;
   position = after_quotes spaces name q.run p.run;

@@ -1,20 +1,10 @@
 -- What a pass over a reader's bytes has given so far, one byte or one run more, and at its end.
-use Rattle.std.proofs.lemmas.Grind.{common_steps}
+use Rattle.std.proofs.{lemmas.Grind.common_steps, lemmas.Bool.and_from, lemmas.List.Folds.list_all-append, lemmas.List.Sums.prefix_len-le-length, Math.Seq.drop-cons, lemmas.List.take-append-drop, lemmas.List.drop-drop, lemmas.List.length-take-le}
 use Rattle.std.proofs.Common.{◌≡◌, ℕ, zero, suc, get_or, ◌+◌, ◌-◌, ◌<◌, Bool, true, false, cond, eqb, List, [], ◌∷◌, ◌++◌, length, Option, Some, None, refl, sym, ap, ◌∙◌, subst, arith, append-nil, length-append, take, drop, ◌≤◌, rules}
 use Rattle.std.specs.Prelude.{IsTrue, IsFalse, ◌&&◌, MatchOption}
-use Rattle.std.specs.List.{list_all, prefix_len}
-use Rattle.std.specs.Option.{option_eq}
-use Rattle.std.proofs.lemmas.Bool.{and_from}
-use Rattle.std.proofs.lemmas.List.Folds.{list_all-append}
-use Rattle.std.proofs.lemmas.List.Sums.{prefix_len-le-length}
-use Rattle.std.proofs.Math.Seq.{drop-cons}
-use Rattle.std.proofs.lemmas.List.{take-append-drop, drop-drop, length-take-le}
-use Rattle.mime.specs.Bytes.{is_quoted_byte, is_quoted_text_byte, backslash_byte}
-use Rattle.mime.specs.Inner.Quoted.{awaits_next, takes, takes_all, awaits_after, IsOpenContent, continues}
-use Rattle.mime.specs.Inner.Remaining.{Remaining, reader_at}
-use Rattle.mime.specs.Inner.Scanning.{Given, GivesFirst, Reaches, Passing, Passes, PassesContent}
-use Rattle.mime.proofs.BytesLemmas.{list_all-wider}
-use Rattle.mime.proofs.GrammarLemmas.Content.{takes-backslash, takes_all-text, awaits_after-text, awaits_after-append, takes_all-append, not_taken}
+use Rattle.std.specs.{List.list_all, List.prefix_len, Option.option_eq}
+use Rattle.mime.specs.{Bytes.is_quoted_byte, Bytes.is_quoted_text_byte, Bytes.backslash_byte, Inner.Quoted.awaits_next, Inner.Quoted.takes, Inner.Quoted.takes_all, Inner.Quoted.awaits_after, Inner.Quoted.IsOpenContent, Inner.Quoted.continues, Inner.Remaining.Remaining, Inner.Remaining.reader_at, Inner.Scanning.Given, Inner.Scanning.GivesFirst, Inner.Scanning.Reaches, Inner.Scanning.Passing, Inner.Scanning.Passes, Inner.Scanning.PassesContent}
+use Rattle.mime.proofs.{BytesLemmas.list_all-wider, GrammarLemmas.Content.takes-backslash, GrammarLemmas.Content.takes_all-text, GrammarLemmas.Content.awaits_after-text, GrammarLemmas.Content.awaits_after-append, GrammarLemmas.Content.takes_all-append, GrammarLemmas.Content.not_taken}
 
 -- a run, and what was given from where it ended
 pub given_then : {old mid new : Remaining} {xs ys : List ℕ} {stop : Option ℕ}
@@ -31,7 +21,8 @@ given_stop : {old mid new : Remaining} {xs : List ℕ} {stop : Option ℕ} → G
 given_stop {xs = xs} g first = rw (sym (append-nil xs)) (given_then g first.0)
 
 -- a run of a class, and the next byte or the end
-pub reaches_next : {class : ℕ → Bool} {old mid new : Remaining} {stop : Option ℕ} → Passing class old mid → GivesFirst mid new stop
+pub reaches_next : {class : ℕ → Bool} {old mid new : Remaining} {stop : Option ℕ} → Passing class old mid
+    → GivesFirst mid new stop
     → Reaches class old new stop
 reaches_next p first = record { run = p.run; of_class = p.of_class; given = given_stop p.given first }
 
@@ -44,7 +35,7 @@ given_sum g = omega (arith, g.counted, simp length-append at (ap length g.bytes)
 pub given_less : {old new : Remaining} {xs : List ℕ} {b : ℕ} → Given old new xs (Some b) → length new.left < length old.left
 given_less g = omega (arith, g.counted, given_sum g)
 
--- where the test holds, this byte stopped the pass
+-- If the test holds, this byte stopped the pass.
 pub stopped_by : (byte : ℕ) (stop : Option ℕ) → option_eq eqb stop (Some byte) ≡ true → stop ≡ Some byte
 stopped_by byte stop test = search rules
 
@@ -54,12 +45,13 @@ passes_before p xs zero within = refl
 passes_before p [] (suc n) within = refl
 passes_before p (x ∷ xs) (suc n) within = go (p x) refl within (passes_before p xs n)
   where
-    go : (b : Bool) → p x ≡ b → suc n ≤ cond b (1 + prefix_len p xs) 0 → (n ≤ prefix_len p xs → list_all p (take n xs) ≡ true)
+    go : (b : Bool) → p x ≡ b → suc n ≤ cond b (1 + prefix_len p xs) 0
+        → (n ≤ prefix_len p xs → list_all p (take n xs) ≡ true)
         → (p x && list_all p (take n xs)) ≡ true
     go true is within rest = and_from (p x) _ is (rest (omega (arith, within)))
     go false is within rest = absurd (omega (arith, within))
 
--- bytes of a class are skipped, up to where its run ends at most,
+-- Bytes of a class are skipped, at most up to the end of their run.
 pub passing_skip : (class : ℕ → Bool) (text : List ℕ) (at to before : ℕ) → at ≤ length text → at ≤ to
     → to ≤ at + prefix_len class (drop at text) → Passing class (reader_at text at before) (reader_at text to before)
 passing_skip class text at to before within least most =
@@ -100,7 +92,8 @@ pub passing_none : (class : ℕ → Bool) (now : Remaining) → Passing class no
 passing_none class now = record { run = []; of_class = refl; given = record { bytes = refl; counted = omega arith } }
 
 -- a run of a class is one of a wider class
-abbrev pub reaches_wider : {class wider : ℕ → Bool} {old new : Remaining} {stop : Option ℕ} → ((b : ℕ) → class b ≡ true → wider b ≡ true)
+abbrev pub reaches_wider : {class wider : ℕ → Bool} {old new : Remaining} {stop : Option ℕ}
+    → ((b : ℕ) → class b ≡ true → wider b ≡ true)
     → Reaches class old new stop → Reaches wider old new stop
 reaches_wider {class} {wider} within p = record {
   run = p.run;
@@ -127,7 +120,8 @@ reaches_whole {class} {b = b} q fits = record {
 }
 
 -- the longest run is a run,
-abbrev pub reached : {class : ℕ → Bool} {old new : Remaining} {stop : Option ℕ} → Passes class old new stop → Reaches class old new stop
+abbrev pub reached : {class : ℕ → Bool} {old new : Remaining} {stop : Option ℕ} → Passes class old new stop
+    → Reaches class old new stop
 reached q = record { run = q.run; of_class = q.of_class; given = q.given }
 
 -- a run whose end is known is the longest run
@@ -136,18 +130,22 @@ abbrev passes_from : {class : ℕ → Bool} {old new : Remaining} {stop : Option
 passes_from q stopped = record { run = q.run; of_class = q.of_class; given = q.given; stopped = stopped }
 
 -- a run, and then the longest one
-pub passes_then : {class : ℕ → Bool} {old mid new : Remaining} {stop : Option ℕ} → Passing class old mid → Passes class mid new stop
+pub passes_then : {class : ℕ → Bool} {old mid new : Remaining} {stop : Option ℕ} → Passing class old mid
+    → Passes class mid new stop
     → Passes class old new stop
 passes_then p q = passes_from (reaches_then p (reached q)) q.stopped
 
 -- a run, and then one that a byte of the class ends
-abbrev pub passing_with : {class within : ℕ → Bool} {old mid new : Remaining} {b : ℕ} → ((x : ℕ) → within x ≡ true → class x ≡ true)
+abbrev pub passing_with : {class within : ℕ → Bool} {old mid new : Remaining} {b : ℕ}
+    → ((x : ℕ) → within x ≡ true → class x ≡ true)
     → Passing class old mid → Reaches within mid new (Some b) → class b ≡ true → Passing class old new
 passing_with wider p q fits = reaches_then p (reaches_whole (reaches_wider wider q) fits)
 
 -- a run, and then the longest one, whose end is known
-abbrev pub passes_to : {class within : ℕ → Bool} {old mid new : Remaining} (stop : Option ℕ) → ((x : ℕ) → within x ≡ true → class x ≡ true)
-    → Passing class old mid → Reaches within mid new stop → MatchOption stop (new.left ≡ []) (λ b. IsFalse (class b)) → Passes class old new stop
+abbrev pub passes_to : {class within : ℕ → Bool} {old mid new : Remaining} (stop : Option ℕ)
+    → ((x : ℕ) → within x ≡ true → class x ≡ true)
+    → Passing class old mid → Reaches within mid new stop → MatchOption stop (new.left ≡ []) (λ b. IsFalse (class b))
+    → Passes class old new stop
 passes_to stop wider p q stopped = passes_from (reaches_then p (reaches_wider wider q)) stopped
 
 -- one byte more of the class

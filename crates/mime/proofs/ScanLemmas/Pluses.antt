@@ -1,20 +1,16 @@
 -- A subtype is passed plus by plus, or its last pluses at once.
 use Rattle.std.proofs.Common.{◌≡◌, ◌≢◌, ℕ, ◌+◌, ◌-◌, Bool, true, false, eqb, List, [], ◌∷◌, ◌++◌, length, Option, Some, None, refl, sym, ap, ◌∙◌, subst, arith, append_assoc, length-append, ne_eqb, rules}
 use Rattle.std.specs.Prelude.{IsTrue, IsFalse, not, MatchOption}
-use Rattle.std.specs.List.{list_all}
-use Rattle.std.specs.Option.{option_eq}
+use Rattle.std.specs.{List.list_all, Option.option_eq}
 use Rattle.std.proofs.lemmas.Bool.{and_from, and_parts, true≢false, not-true, false_from_ne_true}
-use Rattle.mime.specs.Bytes.{is_token_byte, plus_byte}
-use Rattle.mime.specs.Values.{last_plus}
-use Rattle.mime.specs.Inner.Remaining.{Remaining}
-use Rattle.mime.specs.Inner.ByteClasses.{is_token_except_plus, token_bytes}
-use Rattle.mime.specs.Inner.Scanning.{Given, GivesFirst, Passing, Passes, PassesSubtype, PassesPluses}
+use Rattle.mime.specs.{Bytes.is_token_byte, Bytes.plus_byte, Values.last_plus, Inner.Remaining.Remaining, Inner.ByteClasses.is_token_except_plus, Inner.ByteClasses.token_bytes, Inner.Scanning.Given, Inner.Scanning.GivesFirst, Inner.Scanning.Passing, Inner.Scanning.Passes, Inner.Scanning.PassesSubtype, Inner.Scanning.PassesPluses}
 use Rattle.mime.proofs.ScanLemmas.Passing.{stopped_by, passing_with, passing_more, passes_to, reached}
 
 -- ---- the last plus
 
 -- The last plus of bytes is that of the later ones, if they have one.
-last_plus-later : (at : ℕ) (xs ys : List ℕ) (found : ℕ) → last_plus (at + length xs) ys ≡ Some found → last_plus at (xs ++ ys) ≡ Some found
+last_plus-later : (at : ℕ) (xs ys : List ℕ) (found : ℕ) → last_plus (at + length xs) ys ≡ Some found
+    → last_plus at (xs ++ ys) ≡ Some found
 last_plus-later at [] ys found is = subst (λ n. last_plus n ys ≡ Some found) (omega arith) is
 last_plus-later at (x ∷ xs) ys found is =
     rw (last_plus-later (at + 1) xs ys found (subst (λ n. last_plus n ys ≡ Some found) (omega arith) is)) refl
@@ -73,7 +69,8 @@ pluses_none now = record {
 }
 
 -- A plus more is passed.
-pub pluses_plus : {old mid new : Remaining} {b count : ℕ} → PassesPluses old mid count → GivesFirst mid new (Some b) → b ≡ plus_byte
+pub pluses_plus : {old mid new : Remaining} {b count : ℕ} → PassesPluses old mid count → GivesFirst mid new (Some b)
+    → b ≡ plus_byte
     → PassesPluses old new (new.count - old.count)
 pluses_plus {old} {mid} {new} {b} {count} p gives is =
     let passing = passing_more p.passing gives (ap is_token_byte is ∙ is_token_plus) in
@@ -101,7 +98,8 @@ pluses_other {old} {mid} {new} {b} {count} p gives token other =
 -- ---- a subtype
 
 -- Token bytes were given so far, and then others up to the end, or to a byte that is no plus.
-pub subtype_at : {old mid new : Remaining} (stop plus : Option ℕ) (at : ℕ) → (p : Passing is_token_byte old mid) → last_plus at p.run ≡ plus
+pub subtype_at : {old mid new : Remaining} (stop plus : Option ℕ) (at : ℕ) → (p : Passing is_token_byte old mid)
+    → last_plus at p.run ≡ plus
     → Passes is_token_except_plus mid new stop → option_eq eqb stop (Some plus_byte) ≡ false → PassesSubtype at old new (plus, stop)
 subtype_at {new = new} stop plus at p is passes other = record {
   passes = passes_to stop token_byte p (reached passes) (ends stop passes.stopped other);

@@ -2,19 +2,8 @@
 use Rattle.std.proofs.Common.{◌≡◌, ℕ, ◌+◌, ◌-◌, List, [], ◌∷◌, ◌++◌, length, Option, Some, None, MatchOption, refl, ap, ◌∙◌, arith, append-nil, rules}
 use Rattle.std.specs.Option.{option_map}
 use Rattle.std.proofs.lemmas.List.{take_at}
-use Rattle.mime.specs.Grammar.{Parameter, Parameters, more, listed, SyntaxTree, text_of}
-use Rattle.mime.specs.Values.{pairs_of_list, IsRejected}
-use Rattle.mime.specs.Inner.Remaining.{Remaining}
-use Rattle.mime.specs.Inner.Scanning.{Given, positions_of, HasPositions, StopsAt, Judges, before_list, ScansList, Scans}
-use Rattle.mime.specs.declared.scan.Positions.{Positions}
-use Rattle.mime.specs.declared.scan.fault.ParseError.{ParseError}
-use Rattle.mime.specs.declared.scan.Scanned.{Scanned}
-use Rattle.mime.specs.declared.scan.Scanned.TheVariants.{Accepted, Unfinished, Stopped, Followed}
-use Rattle.mime.proofs.GrammarLemmas.Begun.{Begun, in_type, in_list, BegunList, begun_list, grow, grow_list, walk, walk_from, walk_list, with_closed, list_at_end, tree_of, lacking, lacking_list, walk_by-append_some, walk_from-in_list}
-use Rattle.mime.proofs.ScanLemmas.Passing.{given_then, given_whole}
-use Rattle.mime.proofs.GrammarLemmas.Readings.{accepted-from_walk, rejected-from_walk, walk-head}
-use Rattle.mime.proofs.GrammarLemmas.Viability.{lacks-from_walk, viable-from_walk, dead-from_walk}
-use Rattle.mime.proofs.GrammarLemmas.Faults.{fault-from_lacks}
+use Rattle.mime.specs.{Grammar.Parameter, Grammar.Parameters, Grammar.more, Grammar.listed, Grammar.SyntaxTree, Grammar.text_of, Values.pairs_of_list, Values.IsRejected, Inner.Remaining.Remaining, Inner.Scanning.Given, Inner.Scanning.positions_of, Inner.Scanning.HasPositions, Inner.Scanning.StopsAt, Inner.Scanning.Judges, Inner.Scanning.before_list, Inner.Scanning.ScansList, Inner.Scanning.Scans, declared.scan.Positions.Positions, declared.scan.fault.ParseError.ParseError, declared.scan.Scanned.Scanned, declared.scan.Scanned.TheVariants.Accepted, declared.scan.Scanned.TheVariants.Unfinished, declared.scan.Scanned.TheVariants.Stopped, declared.scan.Scanned.TheVariants.Followed}
+use Rattle.mime.proofs.{GrammarLemmas.Begun.Begun, GrammarLemmas.Begun.in_type, GrammarLemmas.Begun.in_list, GrammarLemmas.Begun.BegunList, GrammarLemmas.Begun.begun_list, GrammarLemmas.Begun.grow, GrammarLemmas.Begun.grow_list, GrammarLemmas.Begun.walk, GrammarLemmas.Begun.walk_from, GrammarLemmas.Begun.walk_list, GrammarLemmas.Begun.with_closed, GrammarLemmas.Begun.list_at_end, GrammarLemmas.Begun.tree_of, GrammarLemmas.Begun.lacking, GrammarLemmas.Begun.lacking_list, GrammarLemmas.Begun.walk_by-append_some, GrammarLemmas.Begun.walk_from-in_list, ScanLemmas.Passing.given_then, ScanLemmas.Passing.given_whole, GrammarLemmas.Readings.accepted-from_walk, GrammarLemmas.Readings.rejected-from_walk, GrammarLemmas.Readings.walk-head, GrammarLemmas.Viability.lacks-from_walk, GrammarLemmas.Viability.viable-from_walk, GrammarLemmas.Viability.dead-from_walk, GrammarLemmas.Faults.fault-from_lacks}
 
 -- ---- what was walked
 
@@ -26,7 +15,8 @@ pub record Reaches (start : Begun) (old now : Remaining) (stop : Option ℕ) (be
 
 -- one more run was given
 pub reaches_run : {start begun next : Begun} {old mid new : Remaining} {stop : Option ℕ} {run : List ℕ}
-    → Reaches start old mid None begun → Given mid new run stop → walk_from begun run ≡ Some next → Reaches start old new stop next
+    → Reaches start old mid None begun → Given mid new run stop → walk_from begun run ≡ Some next
+    → Reaches start old new stop next
 reaches_run {start} {begun} {run = run} r g e = record {
   run = r.run ++ run;
   given = given_then r.given g;
@@ -91,7 +81,8 @@ judged_before text begun None w e = rejected-from_walk text begun w e
 judged_before text begun (Some tree) w e = has_positions text begun tree w e
 
 -- the scanner's answer where it stops, at the end or at a byte that leads nowhere
-pub scans_at : {old now : Remaining} {stop : Option ℕ} {begun : Begun} (positions : Option Positions) → Reaches (in_type []) old now stop begun
+pub scans_at : {old now : Remaining} {stop : Option ℕ} {begun : Begun} (positions : Option Positions)
+    → Reaches (in_type []) old now stop begun
     → MatchOption stop (now.left ≡ []) (λ b. grow begun b ≡ None) → positions ≡ option_map positions_of (tree_of begun)
     → Scans old now (verdict_at stop positions (lacking begun))
 scans_at {old} {now} {stop = None} {begun} positions r end e =
@@ -139,7 +130,8 @@ positions_of_list-tree top sub list = at_end (list_at_end list.position)
         (option_map (λ rest. record { top = top; sub = sub; tail = listed rest }) (option_map (with_closed list.closed) end))
     at_end None = refl
     at_end (Some rest) =
-        ap (λ n. Some (record (positions_of (before_list top sub)) { pair_count = n })) (omega (arith, length-with_closed list.closed rest))
+        ap (λ n. Some (record (positions_of (before_list top sub)) { pair_count = n }))
+        (omega (arith, length-with_closed list.closed rest))
 
 -- a byte that leads nowhere in a list leads nowhere
 stopped_in_list : (top sub left : List ℕ) (list : BegunList) (stop : Option ℕ)

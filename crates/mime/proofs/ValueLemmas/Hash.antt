@@ -1,24 +1,11 @@
 -- What values feed a hasher is prefix-free: the byte 255 ends each part, and no part has it.
-use Rattle.std.proofs.lemmas.Grind.{common_steps}
+use Rattle.std.proofs.{lemmas.Grind.common_steps, lemmas.Bool.and_parts, lemmas.Bool.and_from, lemmas.Bool.Decides.nat_tests, lemmas.List.Concat.flat_map-cons, lemmas.List.Folds.concat-append, lemmas.List.Folds.list_all-append, lemmas.Bool.cases_lt, lemmas.Str.encode_ascii}
 use Rattle.std.proofs.Common.{◌≡◌, ℕ, List, [], ◌∷◌, ◌++◌, refl, sym, ap, ◌∙◌, arith, true, subst, append-nil, append_assoc, ⊎_elim}
-use Rattle.mime.specs.Inner.HashInput.{pair_input, media_input}
+use Rattle.mime.specs.{Inner.HashInput.pair_input, Inner.HashInput.media_input, Bytes.is_token_byte, Bytes.slash_byte, Grammar.Parameter, Grammar.plain, Grammar.quoted, Grammar.Parameters, Grammar.blank, Grammar.final, Grammar.more, Grammar.no_list, Grammar.listed, Grammar.AreTokenBytes, Grammar.IsParameter, Grammar.AreParameters, Grammar.IsTail, Grammar.text_of_parameter, Grammar.text_of_list, Grammar.text_of_tail, Values.MediaType, Values.lowered, Values.lowered_parameter, Values.lowered_list, Values.lowered_tail, Values.pair_of, Values.pairs_of_list, Values.pairs_of_tail, HashLaws.IsReadInUtf8, HashLaws.IsPrefixFree}
 use Rattle.std.specs.Prelude.{IsUtf8}
 use Rattle.std.specs.List.{list_all, flat_map, concat, AllByRecursion}
-use Rattle.std.proofs.lemmas.Bool.{and_parts, and_from}
-use Rattle.std.proofs.lemmas.Bool.Decides.{nat_tests}
-use Rattle.std.proofs.lemmas.List.Concat.{flat_map-cons}
-use Rattle.std.proofs.lemmas.List.Folds.{concat-append, list_all-append}
-use Rattle.mime.specs.Bytes.{is_token_byte, slash_byte}
-use Rattle.mime.specs.Grammar.{Parameter, plain, quoted, Parameters, blank, final, more, no_list, listed, AreTokenBytes, IsParameter, AreParameters, IsTail, text_of_parameter, text_of_list, text_of_tail}
-use Rattle.mime.specs.Values.{MediaType, lowered, lowered_parameter, lowered_list, lowered_tail, pair_of, pairs_of_list, pairs_of_tail}
-use Rattle.mime.specs.HashLaws.{IsReadInUtf8, IsPrefixFree}
-use Rattle.mime.proofs.BytesLemmas.{list_all-parts, list_all-wider, is_other, AreTokenBytes-from_token, are_other-token}
-use Rattle.mime.proofs.LowercaseLemmas.{IsToken-lowered, list_all-lowered, lowered_value-either}
+use Rattle.mime.proofs.{BytesLemmas.list_all-parts, BytesLemmas.list_all-wider, BytesLemmas.is_other, BytesLemmas.AreTokenBytes-from_token, BytesLemmas.are_other-token, LowercaseLemmas.IsToken-lowered, LowercaseLemmas.list_all-lowered, LowercaseLemmas.lowered_value-either, ValueLemmas.ListText.ended, ValueLemmas.ListText.before_byte-run, ValueLemmas.ListText.after_byte-run, ValueLemmas.Utf8.high_bytes}
 use Rattle.mime_search.specs.Rests.{before_byte, after_byte}
-use Rattle.mime.proofs.ValueLemmas.ListText.{ended, before_byte-run, after_byte-run}
-use Rattle.std.proofs.lemmas.Bool.{cases_lt}
-use Rattle.std.proofs.lemmas.Str.{encode_ascii}
-use Rattle.mime.proofs.ValueLemmas.Utf8.{high_bytes}
 use lib.Utf8.{scalars, scalar, encodes, encode}
 
 -- ---- the byte 255
@@ -31,6 +18,7 @@ AreTextBytes bytes = list_all (is_other 255) bytes ≡ true
 text_parts : (prefix back : List ℕ) → AreTextBytes (prefix ++ back) → AreTextBytes prefix × AreTextBytes back
 text_parts = list_all-parts (is_other 255)
 
+-- Joined bytes, none of which is 255, have none that is 255.
 text_join : (prefix back : List ℕ) → AreTextBytes prefix → AreTextBytes back → AreTextBytes (prefix ++ back)
 text_join prefix back first second = list_all-append (is_other 255) prefix back ∙ and_from _ _ first second
 
@@ -48,6 +36,7 @@ characters_bytes (c ∷ characters) are =
     let parts = and_parts (scalar c) (scalars characters) are in
     text_join (encode c) (encodes characters) (character_bytes c parts.0) (characters_bytes characters parts.1)
 
+-- Valid UTF-8 has no byte 255.
 pub utf8_bytes : (text : List ℕ) → IsUtf8 text → AreTextBytes text
 utf8_bytes text utf8 = subst AreTextBytes utf8.1.1 (characters_bytes utf8.0 utf8.1.0)
 
@@ -56,10 +45,13 @@ lowered_bytes : (text : List ℕ) → AreTextBytes text → AreTextBytes (lowere
 lowered_bytes text all = list_all-lowered (is_other 255) (λ b. grind (arith, nat_tests)) text ∙ all
 
 -- two runs up to the first byte 255 are the same, and so is what follows
-first_end : (xs ys m n : List ℕ) → AreTextBytes xs → AreTextBytes ys → xs ++ (255 ∷ m) ≡ ys ++ (255 ∷ n) → (xs ≡ ys) × (m ≡ n)
+first_end : (xs ys m n : List ℕ) → AreTextBytes xs → AreTextBytes ys → xs ++ (255 ∷ m) ≡ ys ++ (255 ∷ n)
+    → (xs ≡ ys) × (m ≡ n)
 first_end xs ys m n one other same = (
-  sym (before_byte-run 255 xs (255 ∷ m) m one (ended m)) ∙ ap (before_byte 255) same ∙ before_byte-run 255 ys (255 ∷ n) n other (ended n),
-  sym (after_byte-run 255 xs (255 ∷ m) m one (ended m)) ∙ ap (after_byte 255) same ∙ after_byte-run 255 ys (255 ∷ n) n other (ended n),
+  sym (before_byte-run 255 xs (255 ∷ m) m one (ended m)) ∙ ap (before_byte 255) same
+      ∙ before_byte-run 255 ys (255 ∷ n) n other (ended n),
+  sym (after_byte-run 255 xs (255 ∷ m) m one (ended m)) ∙ ap (after_byte 255) same
+      ∙ after_byte-run 255 ys (255 ∷ n) n other (ended n),
 )
 
 -- ---- the values that are read
@@ -77,6 +69,7 @@ fed_pair (quoted name value n) well all =
     let bytes = (text_parts value (34 ∷ n) (text_parts name (61 ∷ 34 ∷ (value ++ (34 ∷ n))) all).1).0 in
     (AreTokenBytes-from_token _ (IsToken-lowered _ well.0), lowered_value-either AreTextBytes name value bytes (lowered_bytes value bytes))
 
+-- The pairs of a list without the byte 255 may be fed.
 fed_list : (list : Parameters) → AreParameters list → AreTextBytes (text_of_list list)
     → AllByRecursion IsFedPair (pairs_of_list (lowered_list list))
 fed_list (blank n) well all = tt
@@ -96,6 +89,7 @@ pub record IsFed (value : MediaType) : Type 0 where
   pub essence : AreTextBytes value.essence
   pub slash : ¬ (AreTokenBytes value.essence)
 
+-- A value that was read may be fed.
 pub fed-read : (value : MediaType) → IsReadInUtf8 value → IsFed value
 fed-read value (text, utf8, reads) =
     let tree = reads.tree in
@@ -103,7 +97,8 @@ fed-read value (text, utf8, reads) =
     let parts = text_parts tree.top _ (subst AreTextBytes (sym reads.spelled) (utf8_bytes text utf8)) in
     let after = text_parts tree.sub (text_of_tail tree.tail) parts.1 in
     subst IsFed reads.valued (record {
-      pairs = (elim tree.tail as (λ tail. IsTail tail → AreTextBytes (text_of_tail tail) → AllByRecursion IsFedPair (pairs_of_tail (lowered_tail tail)))
+      pairs = (elim tree.tail as (λ tail. IsTail tail → AreTextBytes (text_of_tail tail)
+          → AllByRecursion IsFedPair (pairs_of_tail (lowered_tail tail)))
           [ no_list ↦ λ well all. tt | listed list ↦ fed_list list ]) well.2 after.1;
       essence = text_join (lowered tree.top) (47 ∷ lowered tree.sub) (lowered_bytes tree.top parts.0) (lowered_bytes tree.sub after.0);
       slash = slash_is_no_token (lowered tree.top) (lowered tree.sub);
@@ -126,7 +121,10 @@ fed_pairs_bytes (pair ∷ pairs) =
 media_bytes : (media : MediaType) (after : List ℕ)
     → concat (media_input media) ++ after ≡ flat_map pair_bytes media.pairs ++ (media.essence ++ (255 ∷ after))
 media_bytes media after =
-    rw (concat-append (flat_map pair_input media.pairs) (media.essence ∷ (255 ∷ []) ∷ []), fed_pairs_bytes media.pairs) (simp append_assoc)
+    rw (
+      concat-append (flat_map pair_input media.pairs) (media.essence ∷ (255 ∷ []) ∷ []),
+      fed_pairs_bytes media.pairs,
+    ) (simp append_assoc)
 
 -- the bytes of pairs, and what follows them
 more_bytes : (pair : List ℕ × List ℕ) (pairs : List (List ℕ × List ℕ)) (after : List ℕ)
@@ -135,7 +133,8 @@ more_bytes : (pair : List ℕ × List ℕ) (pairs : List (List ℕ × List ℕ))
 more_bytes pair pairs after = grind (arith, common_steps)
 
 -- pairs and essences whose bytes begin with the same are the same
-pairs_same : (xs ys : List (List ℕ × List ℕ)) (one other m n : List ℕ) → AllByRecursion IsFedPair xs → AllByRecursion IsFedPair ys
+pairs_same : (xs ys : List (List ℕ × List ℕ)) (one other m n : List ℕ) → AllByRecursion IsFedPair xs
+    → AllByRecursion IsFedPair ys
     → AreTextBytes one → AreTextBytes other → ¬ (AreTokenBytes one) → ¬ (AreTokenBytes other)
     → flat_map pair_bytes xs ++ (one ++ (255 ∷ m)) ≡ flat_map pair_bytes ys ++ (other ++ (255 ∷ n))
     → (one ≡ other) × (xs ≡ ys)

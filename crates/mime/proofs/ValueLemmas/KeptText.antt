@@ -2,19 +2,9 @@
 use Rattle.std.proofs.Common.{◌≡◌, ◌≢◌, ℕ, zero, suc, ◌+◌, List, [], ◌∷◌, ◌++◌, length, take, drop, Option, None, Some, refl, sym, ap, ◌∙◌, subst, arith, append-nil, append_assoc, length-append}
 use Rattle.std.specs.Prelude.{slice_get}
 use Rattle.std.proofs.lemmas.List.{take_at, drop_at, take_all, take-append-drop}
-use Rattle.mime.specs.Bytes.{slash_byte, semicolon_byte}
-use Rattle.mime.specs.Grammar.{Parameters, blank, final, more, Tail, no_list, listed, SyntaxTree, text_of, text_of_tail, text_of_list, AreParameters, IsTail, IsWellFormed}
-use Rattle.mime.specs.Values.{MediaType, Reads, value_of, essence_of, kept_text, lowered, lowered_tree, last_plus, pairs_of_list, pairs_of_tail}
-use Rattle.mime.specs.Inner.Pairs.{HasPairs, pairs_within, lowered_within}
-use Rattle.mime.specs.Inner.Scanning.{HasPositions, positions_of, semicolon_of, before_list}
-use Rattle.mime.specs.Inner.KeptText.{media_of, IsKept, with_pairs_lowered, kept_text_of, kept_positions}
-use Rattle.mime.specs.declared.scan.Positions.{Positions}
-use Rattle.mime.proofs.BytesLemmas.{slice_get-prefix}
-use Rattle.mime.proofs.LowercaseLemmas.{lowered-append, lowered_tree-lowered_tree, IsWellFormed-lowered_tree, positions_of-lowered_tree}
+use Rattle.mime.specs.{Bytes.slash_byte, Bytes.semicolon_byte, Grammar.Parameters, Grammar.blank, Grammar.final, Grammar.more, Grammar.Tail, Grammar.no_list, Grammar.listed, Grammar.SyntaxTree, Grammar.text_of, Grammar.text_of_tail, Grammar.text_of_list, Grammar.AreParameters, Grammar.IsTail, Grammar.IsWellFormed, Values.MediaType, Values.Reads, Values.value_of, Values.essence_of, Values.kept_text, Values.lowered, Values.lowered_tree, Values.last_plus, Values.pairs_of_list, Values.pairs_of_tail, Inner.Pairs.HasPairs, Inner.Pairs.pairs_within, Inner.Pairs.lowered_within, Inner.Scanning.HasPositions, Inner.Scanning.positions_of, Inner.Scanning.semicolon_of, Inner.Scanning.before_list, Inner.KeptText.media_of, Inner.KeptText.IsKept, Inner.KeptText.with_pairs_lowered, Inner.KeptText.kept_text_of, Inner.KeptText.kept_positions, declared.scan.Positions.Positions}
+use Rattle.mime.proofs.{BytesLemmas.slice_get-prefix, LowercaseLemmas.lowered-append, LowercaseLemmas.lowered_tree-lowered_tree, LowercaseLemmas.IsWellFormed-lowered_tree, LowercaseLemmas.positions_of-lowered_tree, ValueLemmas.Utf8.IsLoweredInPart, ValueLemmas.Utf8.length-in_part, ValueLemmas.Utf8.lowercase, ValueLemmas.Utf8.in_parts, ValueLemmas.Pairs.lowered_within-in_part, ValueLemmas.ListText.pairs_within-text_of_list, ValueLemmas.ListText.lowered_within-text_of_list}
 use Rattle.mime_search.proofs.IgnoringCase.{length-lowered}
-use Rattle.mime.proofs.ValueLemmas.Utf8.{IsLoweredInPart, length-in_part, lowercase, in_parts}
-use Rattle.mime.proofs.ValueLemmas.Pairs.{lowered_within-in_part}
-use Rattle.mime.proofs.ValueLemmas.ListText.{pairs_within-text_of_list, lowered_within-text_of_list}
 
 -- a tree by its parts
 abbrev tree_with : List ℕ → List ℕ → Tail → SyntaxTree
@@ -46,7 +36,8 @@ length-before_list top sub =
 
 -- the head of a text
 take-to_semicolon : (top sub after : List ℕ)
-    → take (length top + 1 + length sub + 1) (top ++ (slash_byte ∷ (sub ++ (semicolon_byte ∷ after)))) ≡ text_of (before_list top sub)
+    → take (length top + 1 + length sub + 1) (top ++ (slash_byte ∷ (sub ++ (semicolon_byte ∷ after))))
+    ≡ text_of (before_list top sub)
 take-to_semicolon top sub after = ap (take _) (semicolon_split top sub after) ∙ take_at _ after _ (length-before_list top sub)
 
 -- the rest of a text after its head
@@ -87,7 +78,8 @@ keeps_as tree kept text well holds spelled valued = record {
     low = lowered_tree-lowered_tree kept;
     kept = holds;
   };
-  valued = valued ∙ value_of-lowering kept ∙ sym (value_of-lowering (lowered_tree kept) ∙ ap value_of_low (lowered_tree-lowered_tree kept));
+  valued = valued ∙ value_of-lowering kept
+      ∙ sym (value_of-lowering (lowered_tree kept) ∙ ap value_of_low (lowered_tree-lowered_tree kept));
 }
 
 -- the lowercased text of a tree with a list: lowercased up to the semicolon, and then pair by pair
@@ -127,7 +119,8 @@ keeps_parts top sub (listed (more n p rest)) well =
 
 -- the same, by the positions of the tree
 pub keeps-tree : (tree : SyntaxTree) → IsWellFormed tree
-    → Keeps tree (kept_text_of (positions_of tree).pair_count (positions_of tree).semicolon (text_of tree)) (kept_positions (positions_of tree))
+    → Keeps tree (kept_text_of (positions_of tree).pair_count (positions_of tree).semicolon (text_of tree))
+    (kept_positions (positions_of tree))
 keeps-tree tree well = keeps_parts tree.top tree.sub tree.tail well
 
 -- the pairs of a tree with a list, cut out of its text
@@ -163,7 +156,8 @@ media_of-kept text positions is_kept =
     ∙ cc (is_kept.has.spelled, is_kept.has.same_positions)
 
 -- an accepted text reads as its tree's value
-pub reads_as : {text : List ℕ} {positions : Positions} {value : MediaType} (has : HasPositions text positions) → value_of has.tree ≡ value
+pub reads_as : {text : List ℕ} {positions : Positions} {value : MediaType} (has : HasPositions text positions)
+    → value_of has.tree ≡ value
     → Reads text value
 reads_as has valued = record { tree = has.tree; well_formed = has.well_formed; spelled = has.spelled; valued = valued }
 
@@ -172,7 +166,8 @@ pub reads-from_kept : (text : List ℕ) (positions : Positions) → IsKept text 
 reads-from_kept text positions is_kept = reads_as is_kept.has (media_of-kept text positions is_kept)
 
 -- a text that keeps a tree has the tree's value
-kept_media : (tree : SyntaxTree) (text : List ℕ) (positions : Positions) → Keeps tree text positions → value_of tree ≡ media_of text positions
+kept_media : (tree : SyntaxTree) (text : List ℕ) (positions : Positions) → Keeps tree text positions
+    → value_of tree ≡ media_of text positions
 kept_media tree text positions keeps = keeps.valued ∙ media_of-kept text positions keeps.is_kept
 
 -- what holds of the text and the positions of a tree holds of an accepted text
@@ -215,7 +210,8 @@ semicolon-there top sub (listed list) s is =
     ∙ slice_get-prefix (essence_of tree) semicolon_byte (text_of_list list) s (omega (arith, position, length-essence_of tree))
 
 -- an accepted text has a semicolon where its positions say so
-pub slice_get-semicolon : (text : List ℕ) (positions : Positions) (s : ℕ) → HasPositions text positions → positions.semicolon ≡ Some s
+pub slice_get-semicolon : (text : List ℕ) (positions : Positions) (s : ℕ) → HasPositions text positions
+    → positions.semicolon ≡ Some s
     → slice_get text s ≡ Some semicolon_byte
 slice_get-semicolon text positions s has is =
     at_tree (λ t q. q.semicolon ≡ Some s → slice_get t s ≡ Some semicolon_byte) text positions has
@@ -232,7 +228,8 @@ list-there top sub (listed list) s well is =
     (list, well, sym rest, refl)
 
 -- The list of an accepted text has the pairs that are counted.
-pub pairs-from_positions : (text : List ℕ) (positions : Positions) (s : ℕ) → HasPositions text positions → positions.semicolon ≡ Some s
+pub pairs-from_positions : (text : List ℕ) (positions : Positions) (s : ℕ) → HasPositions text positions
+    → positions.semicolon ≡ Some s
     → HasPairs positions.pair_count (drop (s + 1) text)
 pairs-from_positions text positions s has is =
     at_tree (λ t q. q.semicolon ≡ Some s → HasPairs q.pair_count (drop (s + 1) t)) text positions has
@@ -247,7 +244,8 @@ kept-in_part count s text =
     (in_parts _ _ _ _ (lowercase (take (s + 1) text)) (lowered_within-in_part count (drop (s + 1) text)))
 
 -- The kept text of a text with a pair is as long as that text.
-pub length-kept : (count : ℕ) (semicolon : Option ℕ) (text : List ℕ) → count ≢ 0 → length text ≡ length (kept_text_of count semicolon text)
+pub length-kept : (count : ℕ) (semicolon : Option ℕ) (text : List ℕ) → count ≢ 0
+    → length text ≡ length (kept_text_of count semicolon text)
 length-kept count None text some = sym (length-lowered text)
 length-kept zero (Some s) text some = absurd (some refl)
 length-kept (suc count) (Some s) text some = sym (length-in_part text _ (kept-in_part (suc count) s text))

@@ -2,17 +2,10 @@
 use Rattle.std.proofs.Common.{⊎_elim, ◌≡◌, ◌≢◌, ℕ, suc, ◌<◌, ◌≤◌, true, false, List, [], ◌∷◌, length, get_or, refl, sym, ap, ◌∙◌, arith, take, subst}
 use Rattle.std.specs.Prelude.{◌==◌, not}
 use Rattle.std.specs.Char.{to_ascii_lowercase}
-use Rattle.std.proofs.lemmas.Bool.Decides.{nat_tests}
-use Rattle.std.proofs.lemmas.List.Sums.{prefix_len_passes, prefix_len_stops}
-use Rattle.std.proofs.lemmas.List.Folds.{length-prefix_len, list_any_at}
-use Rattle.std.proofs.lemmas.List.{get_or-take, length-take}
-use Rattle.std.proofs.lemmas.Bool.{cases_Bool, cases_lt, eqb-true, true≢false}
-use Rattle.mime.specs.Bytes.{equals_byte}
+use Rattle.std.proofs.{lemmas.Bool.Decides.nat_tests, lemmas.List.Sums.prefix_len_passes, lemmas.List.Sums.prefix_len_stops, lemmas.List.Folds.length-prefix_len, lemmas.List.Folds.list_any_at, lemmas.List.get_or-take, lemmas.List.length-take, lemmas.Bool.cases_Bool, lemmas.Bool.cases_lt, lemmas.Bool.eqb-true, lemmas.Bool.true≢false}
+use Rattle.mime.specs.{Bytes.equals_byte, Values.lowered, Inner.Pairs.without_spaces, Inner.Pairs.cut_of, Inner.Pairs.has_equals}
 use Rattle.mime_search.specs.Rests.{first_position, before_byte}
-use Rattle.mime.specs.Values.{lowered}
-use Rattle.mime.specs.Inner.Pairs.{without_spaces, cut_of, has_equals}
-use Rattle.mime.proofs.LowercaseLemmas.{length-lowered}
-use Rattle.mime.proofs.ValueLemmas.Pairs.{cut_of-name}
+use Rattle.mime.proofs.{LowercaseLemmas.length-lowered, ValueLemmas.Pairs.cut_of-name}
 
 -- An equals sign isn't before the first one.
 pub first_equals-le : (text : List ℕ) (n : ℕ) → get_or text n 0 ≡ equals_byte → first_position equals_byte text ≤ n
@@ -30,7 +23,8 @@ get_or-first_equals text within =
     grind (arith, nat_tests, prefix_len_stops (λ b. not (b == equals_byte)) text 0 within)
 
 -- The first position of an equals sign isn't that of any other byte.
-pub first_equals-other : (text : List ℕ) (n : ℕ) → n < length text → get_or text n 0 ≢ equals_byte → first_position equals_byte text ≢ n
+pub first_equals-other : (text : List ℕ) (n : ℕ) → n < length text → get_or text n 0 ≢ equals_byte
+    → first_position equals_byte text ≢ n
 first_equals-other text n within other is =
     other (subst (λ k. get_or text k 0 ≡ equals_byte) is (eqb-true _ equals_byte (get_or-first_equals text (omega (arith, within, is)))))
 
@@ -69,7 +63,8 @@ first_equals-named list text is =
 -- A text that is a list's first name but for case has no equals sign.
 pub has_equals-named : (list text : List ℕ) → lowered (cut_of list).name ≡ lowered text → has_equals text ≡ false
 has_equals-named list text is =
-    sym (has_equals-case (cut_of list).name text is) ∙ ap has_equals (sym (cut_of-name list _ refl)) ∙ has_equals-before (without_spaces list)
+    sym (has_equals-case (cut_of list).name text is) ∙ ap has_equals (sym (cut_of-name list _ refl))
+    ∙ has_equals-before (without_spaces list)
 
 -- Bytes that are a text without an equals sign, but for case, end at the first one, if that isn't after them.
 pub first_equals-taken : (body text : List ℕ) → lowered (take (length text) body) ≡ lowered text → has_equals text ≡ false
@@ -81,7 +76,8 @@ first_equals-taken body text is none least = ⊎_elim
     let within : at < length body = omega (arith, before, size, length-take (length text) body) in
     let there = get_or-take (length text) body at 0 before in
     absurd (true≢false (
-    sym (list_any_at (λ b. b == equals_byte) (take (length text) body) at 0 (omega (arith, before, size)) (rw there (get_or-first_equals body within)))
+    sym (list_any_at (λ b. b == equals_byte) (take (length text) body) at 0 (omega (arith, before, size))
+    (rw there (get_or-first_equals body within)))
     ∙ has_equals-case _ text is ∙ none)))
     (λ (after : length text ≤ first_position equals_byte body). omega (arith, after, least))
     (cases_lt (first_position equals_byte body) (length text))

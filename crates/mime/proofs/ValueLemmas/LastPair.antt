@@ -1,19 +1,13 @@
 -- The last pair of a well-formed list is lowercased without its value's end: no capital follows the value.
 use Rattle.std.proofs.Common.{◌≡◌, ℕ, zero, suc, ◌+◌, ◌-◌, ◌≤◌, Bool, true, false, cond, List, [], ◌∷◌, ◌++◌, length, take, drop, refl, sym, ap, ◌∙◌, subst, arith, append-nil, append_assoc, length-append, length-drop}
 use Rattle.std.proofs.lemmas.List.{take_at, drop_at, take_all, drop_all, take-append-drop}
-use Rattle.mime.specs.Bytes.{semicolon_byte, equals_byte, quote_byte}
-use Rattle.mime.specs.Grammar.{Parameter, plain, quoted, blank, final, more, text_of_list, text_of_parameter, AreSpaces, IsToken, IsParameter}
-use Rattle.mime.specs.Values.{lowered, lowered_parameter, is_charset, pair_of}
+use Rattle.mime.specs.{Bytes.semicolon_byte, Bytes.equals_byte, Bytes.quote_byte, Grammar.Parameter, Grammar.plain, Grammar.quoted, Grammar.blank, Grammar.final, Grammar.more, Grammar.text_of_list, Grammar.text_of_parameter, Grammar.AreSpaces, Grammar.IsToken, Grammar.IsParameter, Values.lowered, Values.lowered_parameter, Values.is_charset, Values.pair_of, Inner.Pairs.PairCut, Inner.Pairs.pairs_within, Inner.Pairs.HasPairs, Inner.Pairs.leading_spaces, Inner.Pairs.without_spaces, Inner.Pairs.cut_of, Inner.Pairs.lowered_within, Inner.ComparedText.IsLoneCharset, Inner.KeptText.with_pairs_lowered}
 use Rattle.mime_search.specs.Rests.{before_byte, after_byte, first_position}
-use Rattle.mime.specs.Inner.Pairs.{PairCut, pairs_within, HasPairs, leading_spaces, without_spaces, cut_of, lowered_within}
-use Rattle.mime.specs.Inner.ComparedText.{IsLoneCharset}
-use Rattle.mime.specs.Inner.KeptText.{with_pairs_lowered}
-use Rattle.mime.proofs.LowercaseLemmas.{lowered-append}
-use Rattle.mime.proofs.ValueLemmas.Pairs.{cut_of-name}
-use Rattle.mime.proofs.ValueLemmas.ListText.{IsFollow, nothing, ended, name-cut, cut_of-parameter, lowered-spaces, lowered_within-parameter}
+use Rattle.mime.proofs.{LowercaseLemmas.lowered-append, ValueLemmas.Pairs.cut_of-name, ValueLemmas.ListText.IsFollow, ValueLemmas.ListText.nothing, ValueLemmas.ListText.ended, ValueLemmas.ListText.name-cut, ValueLemmas.ListText.cut_of-parameter, ValueLemmas.ListText.lowered-spaces, ValueLemmas.ListText.lowered_within-parameter}
 
 -- The rest after the first of several pairs has the other pairs.
-pub pairs-after : (count : ℕ) (text rest : List ℕ) → HasPairs (count + 2) text → rest ≡ (cut_of text).rest → HasPairs (count + 1) rest
+pub pairs-after : (count : ℕ) (text rest : List ℕ) → HasPairs (count + 2) text → rest ≡ (cut_of text).rest
+    → HasPairs (count + 1) rest
 pairs-after count text rest (blank n, well, is, counted) cut = absurd (omega (arith, counted))
 pairs-after count text rest (final n p, well, is, counted) cut = absurd (omega (arith, counted))
 pairs-after count text rest (more n p list, (white, well, others), is, counted) cut =
@@ -86,7 +80,8 @@ only_pair n p between rest white well follows low = go (is_charset (pair_of p).0
     after = after_name p ++ tail
 
     spelled : list ≡ n ++ ((pair_of p).0 ++ (equals_byte ∷ after))
-    spelled = ap (λ x. n ++ x) (ap (λ x. x ++ tail) (parameter-named p) ∙ append_assoc (pair_of p).0 (equals_byte ∷ after_name p) tail)
+    spelled = ap (λ x. n ++ x) (ap (λ x. x ++ tail) (parameter-named p)
+        ∙ append_assoc (pair_of p).0 (equals_byte ∷ after_name p) tail)
 
     cuts : (before_byte equals_byte (without_spaces list) ≡ (pair_of p).0) × (after_byte equals_byte (without_spaces list) ≡ after)
     cuts = rw spelled (name-cut n (pair_of p).0 after white (named-token p well))

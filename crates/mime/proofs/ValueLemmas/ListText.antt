@@ -1,21 +1,11 @@
 -- The pairs cut from the text of a well-formed parameter list are its pairs, and lowercasing them lowercases the list.
-use Rattle.std.proofs.lemmas.Grind.{common_steps}
+use Rattle.std.proofs.{lemmas.Grind.common_steps, lemmas.Bool.and_parts, lemmas.Bool.cond-true, lemmas.Bool.cond-false, lemmas.Bool.Decides.nat_tests, lemmas.List.take_at, lemmas.List.drop_at, lemmas.List.drop-drop}
 use Rattle.std.proofs.Common.{◌≡◌, ℕ, suc, ◌+◌, ◌-◌, Bool, true, false, List, [], ◌∷◌, ◌++◌, length, drop, refl, sym, ap, ◌∙◌, subst, arith, append-nil, append_assoc}
 use Rattle.std.specs.Prelude.{◌==◌}
-use Rattle.std.specs.List.{list_all, prefix_len}
-use Rattle.std.specs.Char.{to_ascii_lowercase}
-use Rattle.std.proofs.lemmas.Bool.{and_parts, cond-true, cond-false}
-use Rattle.std.proofs.lemmas.Bool.Decides.{nat_tests}
-use Rattle.std.proofs.lemmas.List.{take_at, drop_at, drop-drop}
-use Rattle.mime.specs.Bytes.{is_token_byte, semicolon_byte, equals_byte, quote_byte}
-use Rattle.mime.specs.Grammar.{Parameter, plain, quoted, Parameters, blank, final, more, text_of_list, text_of_parameter, is_space, AreSpaces, AreTokenBytes, IsToken, IsContent, AreParameters, IsParameter}
-use Rattle.mime.specs.Values.{lowered, lowered_value, lowered_parameter, lowered_list, pair_of, pairs_of_list}
-use Rattle.mime.specs.Inner.Quoted.{content_len, content_of, after_content}
+use Rattle.std.specs.{List.list_all, List.prefix_len, Char.to_ascii_lowercase}
+use Rattle.mime.specs.{Bytes.is_token_byte, Bytes.semicolon_byte, Bytes.equals_byte, Bytes.quote_byte, Grammar.Parameter, Grammar.plain, Grammar.quoted, Grammar.Parameters, Grammar.blank, Grammar.final, Grammar.more, Grammar.text_of_list, Grammar.text_of_parameter, Grammar.is_space, Grammar.AreSpaces, Grammar.AreTokenBytes, Grammar.IsToken, Grammar.IsContent, Grammar.AreParameters, Grammar.IsParameter, Values.lowered, Values.lowered_value, Values.lowered_parameter, Values.lowered_list, Values.pair_of, Values.pairs_of_list, Inner.Quoted.content_len, Inner.Quoted.content_of, Inner.Quoted.after_content, Inner.Pairs.PairCut, Inner.Pairs.cut_after_equals, Inner.Pairs.leading_spaces, Inner.Pairs.without_spaces, Inner.Pairs.cut_of, Inner.Pairs.pairs_within, Inner.Pairs.lowered_within}
 use Rattle.mime_search.specs.Rests.{before_byte, after_byte}
-use Rattle.mime.specs.Inner.Pairs.{PairCut, cut_after_equals, leading_spaces, without_spaces, cut_of, pairs_within, lowered_within}
-use Rattle.mime.proofs.ValueLemmas.Pairs.{content_len-content, lowered_within-first}
-use Rattle.mime.proofs.BytesLemmas.{semicolon_is_no_token, quote_is_no_token, token_byte-not_space, is_other, are_other-token, are_other, AreTokenBytes-from_token}
-use Rattle.mime.proofs.LowercaseLemmas.{lowered-append}
+use Rattle.mime.proofs.{ValueLemmas.Pairs.content_len-content, ValueLemmas.Pairs.lowered_within-first, BytesLemmas.semicolon_is_no_token, BytesLemmas.quote_is_no_token, BytesLemmas.token_byte-not_space, BytesLemmas.is_other, BytesLemmas.are_other-token, BytesLemmas.are_other, BytesLemmas.AreTokenBytes-from_token, LowercaseLemmas.lowered-append}
 
 -- what may follow a run: nothing, or the byte and the rest
 pub data IsFollow (byte : ℕ) : List ℕ → List ℕ → Type 0 where
@@ -45,7 +35,8 @@ pub before_byte-run : (byte : ℕ) (run follow rest : List ℕ) → list_all (is
 before_byte-run byte run follow rest all follows = take_at run follow _ (omega (arith, position_to byte run follow rest all follows))
 
 -- what is left after a run and a byte
-pub drop_past : (byte : ℕ) (run follow rest : List ℕ) (n : ℕ) → IsFollow byte follow rest → length run ≡ n → drop (n + 1) (run ++ follow) ≡ rest
+pub drop_past : (byte : ℕ) (run follow rest : List ℕ) (n : ℕ) → IsFollow byte follow rest → length run ≡ n
+    → drop (n + 1) (run ++ follow) ≡ rest
 drop_past byte run follow rest n follows long =
     sym (drop-drop 1 n (run ++ follow)) ∙ ap (drop 1) (drop_at run follow n long) ∙ past follow rest follows
   where
@@ -63,16 +54,21 @@ after_byte-run byte run follow rest all follows =
 cut_value-plain : (whole : ℕ) (name value follow rest : List ℕ) → AreTokenBytes value → IsFollow semicolon_byte follow rest
     → cut_after_equals whole name (value ++ follow)
     ≡ record { name = name; value_start = whole - length (value ++ follow); value = value; rest = rest }
-cut_value-plain whole name [] follow rest all nothing = ap (λ n. record { name = name; value_start = n; value = []; rest = [] }) (omega arith)
+cut_value-plain whole name [] follow rest all nothing =
+    ap (λ n. record { name = name; value_start = n; value = []; rest = [] }) (omega arith)
 cut_value-plain whole name [] follow rest all (ended _) = refl
 cut_value-plain whole name (v ∷ value) follow rest all follows =
     let first = and_parts (is_token_byte v) (list_all is_token_byte value) all in
     let others = are_other-token semicolon_byte semicolon_is_no_token (v ∷ value) all in
     cond-false (v == quote_byte) _ _ (grind (arith, nat_tests, first.0, quote_is_no_token, ap is_token_byte {x = v} {y = quote_byte}))
-    ∙ cc (before_byte-run semicolon_byte (v ∷ value) follow rest others follows, after_byte-run semicolon_byte (v ∷ value) follow rest others follows)
+    ∙ cc (
+      before_byte-run semicolon_byte (v ∷ value) follow rest others follows,
+      after_byte-run semicolon_byte (v ∷ value) follow rest others follows,
+    )
 
 -- a quoted value is cut up to its closing quote
-cut_value-quoted : (whole : ℕ) (name content n follow rest : List ℕ) → IsContent content → AreSpaces n → IsFollow semicolon_byte follow rest
+cut_value-quoted : (whole : ℕ) (name content n follow rest : List ℕ) → IsContent content → AreSpaces n
+    → IsFollow semicolon_byte follow rest
     → cut_after_equals whole name (quote_byte ∷ (content ++ (quote_byte ∷ (n ++ follow))))
     ≡ record { name = name; value_start = whole - length (content ++ (quote_byte ∷ (n ++ follow))); value = content; rest = rest }
 cut_value-quoted whole name content n follow rest is white follows =
@@ -86,7 +82,8 @@ cut_value-quoted whole name content n follow rest is white follows =
     cc
 
 -- the spaces before a name are cut off
-without_spaces-token : (n name after : List ℕ) → AreSpaces n → IsToken name → without_spaces (n ++ (name ++ after)) ≡ name ++ after
+without_spaces-token : (n name after : List ℕ) → AreSpaces n → IsToken name
+    → without_spaces (n ++ (name ++ after)) ≡ name ++ after
 without_spaces-token n [] after white is = absurd is
 without_spaces-token n (b ∷ name) after white is =
     let first = and_parts (is_token_byte b) (list_all is_token_byte name) is in
@@ -94,7 +91,8 @@ without_spaces-token n (b ∷ name) after white is =
     (sym (run_to is_space n b (name ++ after) white (token_byte-not_space b first.0)))
 
 -- A name is cut from the spaces before it up to the equals sign, and what follows that is left.
-pub name-cut : (n name after : List ℕ) → AreSpaces n → IsToken name → let body = without_spaces (n ++ (name ++ (equals_byte ∷ after))) in
+pub name-cut : (n name after : List ℕ) → AreSpaces n → IsToken name → let body =
+    without_spaces (n ++ (name ++ (equals_byte ∷ after))) in
     (before_byte equals_byte body ≡ name) × (after_byte equals_byte body ≡ after)
 unfolding is_token_byte
 name-cut n name after white is =
@@ -126,7 +124,7 @@ text_of_parameter-parts : (p : Parameter) (after : List ℕ)
 text_of_parameter-parts (plain name value) after = simp append_assoc
 text_of_parameter-parts (quoted name content n) after = simp append_assoc
 
--- where a value begins, counted from the list's end
+-- A value begins at this position, counted from the list's end.
 head_counted : (n name opening after : List ℕ)
     → length (n ++ (name ++ (opening ++ after))) - length after ≡ length (n ++ (name ++ opening))
 head_counted n name opening after = grind (arith, common_steps)
@@ -140,14 +138,17 @@ cut_of-parameter n (plain name value) follow rest white (named, token) follows =
     ap (λ x. cut_of (n ++ x)) (append_assoc name (equals_byte ∷ value) follow)
     ∙ cut_of-named n name (value ++ follow) white named
     ∙ cut_value-plain _ name value follow rest (AreTokenBytes-from_token value token) follows
-    ∙ ap (λ h. record { name = name; value_start = h; value = value; rest = rest }) (head_counted n name (equals_byte ∷ []) (value ++ follow))
+    ∙ ap (λ h. record { name = name; value_start = h; value = value; rest = rest })
+    (head_counted n name (equals_byte ∷ []) (value ++ follow))
 cut_of-parameter n (quoted name content m) follow rest white (named, is, blanks) follows =
     let after = content ++ (quote_byte ∷ (m ++ follow)) in
-    let grouped : text_of_parameter (quoted name content m) ++ follow ≡ name ++ (equals_byte ∷ quote_byte ∷ after) = simp append_assoc in
+    let grouped : text_of_parameter (quoted name content m) ++ follow ≡ name ++ (equals_byte ∷ quote_byte ∷ after) =
+    simp append_assoc in
     ap (λ x. cut_of (n ++ x)) grouped
     ∙ cut_of-named n name (quote_byte ∷ after) white named
     ∙ cut_value-quoted _ name content m follow rest is blanks follows
-    ∙ ap (λ h. record { name = name; value_start = h; value = content; rest = rest }) (head_counted n name (equals_byte ∷ quote_byte ∷ []) after)
+    ∙ ap (λ h. record { name = name; value_start = h; value = content; rest = rest })
+    (head_counted n name (equals_byte ∷ quote_byte ∷ []) after)
 
 -- the pairs of a parameter list's text are the list's
 pub pairs_within-text_of_list : (list : Parameters) → AreParameters list

@@ -1,14 +1,8 @@
 -- A text lowercased from its start on, range by range and pair by pair.
-use Rattle.std.proofs.lemmas.Grind.{common_steps}
+use Rattle.std.proofs.{lemmas.Grind.common_steps, lemmas.Bool.cond_both, lemmas.List.take_at, lemmas.List.drop_at, lemmas.List.drop-drop, lemmas.List.drop_all, lemmas.List.take-append-drop, lemmas.List.take_rest, lemmas.List.length-take-le, Math.Seq.take-add}
 use Rattle.std.proofs.Common.{◌≡◌, ℕ, suc, ◌+◌, ◌-◌, ◌<◌, ◌≤◌, Bool, true, false, cond, List, [], ◌++◌, length, drop, refl, sym, ap, ◌∙◌, arith, append-nil, append_assoc, length-append, take, slice_range, length-drop}
-use Rattle.std.proofs.lemmas.Bool.{cond_both}
-use Rattle.std.proofs.lemmas.List.{take_at, drop_at, drop-drop, drop_all, take-append-drop, take_rest, length-take-le}
-use Rattle.std.proofs.Math.Seq.{take-add}
-use Rattle.mime.specs.Values.{lowered, lowered_value, is_charset}
-use Rattle.mime.specs.Inner.KeptText.{with_pairs_lowered}
-use Rattle.mime.specs.Inner.Pairs.{cut_of, lowered_within, lowered_first}
-use Rattle.mime.proofs.ValueLemmas.Pairs.{lowered_within-first, LiesIn, cut_of-lies, cut_of-within, first_lowered, lowered_first-joined}
-use Rattle.mime.proofs.LowercaseLemmas.{lowered-append, lowered-lowered}
+use Rattle.mime.specs.{Values.lowered, Values.lowered_value, Values.is_charset, Inner.KeptText.with_pairs_lowered, Inner.Pairs.cut_of, Inner.Pairs.lowered_within, Inner.Pairs.lowered_first}
+use Rattle.mime.proofs.{ValueLemmas.Pairs.lowered_within-first, ValueLemmas.Pairs.LiesIn, ValueLemmas.Pairs.cut_of-lies, ValueLemmas.Pairs.cut_of-within, ValueLemmas.Pairs.first_lowered, ValueLemmas.Pairs.lowered_first-joined, LowercaseLemmas.lowered-append, LowercaseLemmas.lowered-lowered}
 use Rattle.mime_search.proofs.IgnoringCase.{length-lowered}
 use borrow.Rule.Slice.PartMut.{put_mid}
 
@@ -72,10 +66,12 @@ lowered_part : (list prefix back : List ℕ) (k : ℕ) → list ≡ prefix ++ ba
 lowered_part list prefix back k parts size = grind (arith, common_steps)
 
 -- a first value ends within a list
-pub low_within : (list value : List ℕ) (start low : ℕ) (charset : Bool) → start ≡ (cut_of list).value_start → value ≡ (cut_of list).value
+pub low_within : (list value : List ℕ) (start low : ℕ) (charset : Bool) → start ≡ (cut_of list).value_start
+    → value ≡ (cut_of list).value
     → low ≡ cond charset (length value) 0 → start + low ≤ length list
 low_within list value start low charset starts values is =
-    let short : low ≤ length value = rw is (cond_both charset (length value) 0 (λ n. n ≤ length value) (λ _. omega arith) (λ _. omega arith)) in
+    let short : low ≤ length value =
+    rw is (cond_both charset (length value) 0 (λ n. n ≤ length value) (λ _. omega arith) (λ _. omega arith)) in
     omega (arith, starts, short, ap length values, cut_of-within list)
 
 -- a list is lowercased up to its first value, and with it under `charset`
@@ -146,13 +142,15 @@ part_written bytes left part from count n k whole so_far there lowers =
 part_put : (bytes left part : List ℕ) (from count : ℕ) (whole : List ℕ) (so_far : IsLoweredTo bytes left from count whole)
     → put_mid from (length bytes - from) bytes part ≡ so_far.done ++ part
 part_put bytes left part from count whole so_far =
-    let before : take from bytes ≡ so_far.done = ap (take from) so_far.parts ∙ take_at so_far.done (so_far.between ++ left) from so_far.at in
+    let before : take from bytes ≡ so_far.done =
+    ap (take from) so_far.parts ∙ take_at so_far.done (so_far.between ++ left) from so_far.at in
     let back : drop (length bytes - from) (drop from bytes) ≡ [] =
     drop_all (length bytes - from) (drop from bytes) (omega (arith, length-drop from bytes)) in
     rw (before, back) (ap (λ x. so_far.done ++ x) (append-nil part))
 
 -- the next pair is lowercased, and what is before it
-pub lowered_to-more : (bytes left part rest : List ℕ) (from low count next : ℕ) (whole : List ℕ) (so_far : IsLoweredTo bytes left from count whole)
+pub lowered_to-more : (bytes left part rest : List ℕ) (from low count next : ℕ) (whole : List ℕ)
+    (so_far : IsLoweredTo bytes left from count whole)
     → count ≡ suc next → low ≡ cond (is_charset (cut_of left).name) (length (cut_of left).value) 0
     → let P = take (length bytes - from) (drop from bytes) in
     let n = length bytes - length left - from + ((cut_of left).value_start + low) in
@@ -167,7 +165,8 @@ lowered_to-more bytes left part rest from low count next whole so_far counts low
     let written : part ≡ lowered between ++ (first ++ rest) =
     part_written bytes left part from count _ ((cut_of left).value_start + low) whole so_far
     (omega (arith, lowered_to-sizes bytes left from count whole so_far)) lowers
-    ∙ ap (λ x. lowered between ++ x) (lowered_first-start left low low_is ∙ lowered_first-joined left lies ∙ ap (λ x. first ++ x) (sym rests)) in
+    ∙ ap (λ x. lowered between ++ x) (lowered_first-start left low low_is ∙ lowered_first-joined left lies
+    ∙ ap (λ x. first ++ x) (sym rests)) in
     let parts : new ≡ (done ++ (lowered between ++ first)) ++ rest =
     part_put bytes left part from count whole so_far ∙ rw written (simp append_assoc) in
     record {
@@ -178,7 +177,8 @@ lowered_to-more bytes left part rest from low count next whole so_far counts low
       comes =
           append_assoc done (lowered between ++ first) (lowered_within next rest)
           ∙ ap (λ x. done ++ x) (append_assoc (lowered between) first (lowered_within next rest)
-          ∙ ap (λ x. lowered between ++ x) (rw rests (sym (lowered_within-first next left lies)) ∙ ap (λ m. lowered_within m left) (sym counts)))
+          ∙ ap (λ x. lowered between ++ x) (rw rests (sym (lowered_within-first next left lies))
+          ∙ ap (λ m. lowered_within m left) (sym counts)))
           ∙ so_far.comes;
       none = λ _. refl;
     }

@@ -1,24 +1,11 @@
 -- What a cut of a list is, and where its quoted content ends.
-use Rattle.std.proofs.lemmas.Grind.{common_steps}
+use Rattle.std.proofs.{lemmas.Grind.common_steps, lemmas.Str.IsCharBoundary-start, lemmas.Str.IsCharBoundary-after_ascii, lemmas.Bool.Decides.nat_tests, lemmas.List.Sums.prefix_len_passes, lemmas.List.Sums.prefix_len-le-length, lemmas.List.take_at, lemmas.List.drop_at, lemmas.List.drop-drop, lemmas.List.take-append-drop, lemmas.Bool.and_parts, lemmas.Bool.cases_Bool, lemmas.Bool.cond-false, lemmas.Bool.eqb-true, lemmas.Bool.true≢false, lemmas.Bool.cond_both}
 use Rattle.std.proofs.Common.{⊎_elim, ◌≡◌, ◌≢◌, ℕ, zero, suc, ◌+◌, ◌<◌, ◌≤◌, Bool, true, false, List, [], ◌∷◌, ◌++◌, length, get_or, drop, refl, sym, ap, ◌∙◌, arith, ◌-◌, take, subst, append-nil, append_assoc, length-append, rules}
 use Rattle.std.specs.Prelude.{IsTrue, ◌==◌, ◌&&◌, not, Option, Some, codes}
-use Rattle.std.specs.List.{position_or_len}
-use Rattle.std.specs.Str.{IsUtf8, IsCharBoundary, bytes_eq}
-use Rattle.std.proofs.lemmas.Str.{IsCharBoundary-start, IsCharBoundary-after_ascii}
-use Rattle.std.proofs.lemmas.Bool.Decides.{nat_tests}
-use Rattle.std.proofs.lemmas.List.Sums.{prefix_len_passes, prefix_len-le-length}
-use Rattle.std.proofs.lemmas.List.{take_at, drop_at, drop-drop, take-append-drop}
-use Rattle.std.proofs.lemmas.Bool.{and_parts, cases_Bool, cond-false, eqb-true, true≢false, cond_both}
-use Rattle.mime.specs.Bytes.{quote_byte, backslash_byte, equals_byte}
-use Rattle.mime.specs.Grammar.{IsContent, is_space}
+use Rattle.std.specs.{List.position_or_len, Str.IsUtf8, Str.IsCharBoundary, Str.bytes_eq}
+use Rattle.mime.specs.{Bytes.quote_byte, Bytes.backslash_byte, Bytes.equals_byte, Grammar.IsContent, Grammar.is_space, Inner.Quoted.awaits_next, Inner.Quoted.takes, Inner.Quoted.takes_all, Inner.Quoted.awaits_after, Inner.Quoted.len_from, Inner.Quoted.content_len, Values.lowered, Values.lowered_value, Inner.Pairs.PairCut, Inner.Pairs.cut_after_equals, Inner.Pairs.leading_spaces, Inner.Pairs.without_spaces, Inner.Pairs.cut_of, Inner.Pairs.pairs_within, Inner.Pairs.lowered_first, Inner.Pairs.lowered_within, Items.items_of, Items.IsFirstAccepted}
 use Rattle.mime_search.specs.Rests.{first_position, before_byte, after_byte}
-use Rattle.mime.specs.Inner.Quoted.{awaits_next, takes, takes_all, awaits_after, len_from, content_len}
-use Rattle.mime.proofs.GrammarLemmas.Content.{taken-closes_not, content-taken, content-awaits}
-use Rattle.mime.specs.Values.{lowered, lowered_value}
-use Rattle.mime.specs.Inner.Pairs.{PairCut, cut_after_equals, leading_spaces, without_spaces, cut_of, pairs_within, lowered_first, lowered_within}
-use Rattle.mime.specs.Items.{items_of, IsFirstAccepted}
-use Rattle.mime.proofs.LowercaseLemmas.{lowered_value-either}
-use Rattle.mime.proofs.ValueLemmas.Utf8.{IsLoweredInPart, same, lowercase, in_parts}
+use Rattle.mime.proofs.{GrammarLemmas.Content.taken-closes_not, GrammarLemmas.Content.content-taken, GrammarLemmas.Content.content-awaits, LowercaseLemmas.lowered_value-either, ValueLemmas.Utf8.IsLoweredInPart, ValueLemmas.Utf8.same, ValueLemmas.Utf8.lowercase, ValueLemmas.Utf8.in_parts}
 
 -- ---- the spaces with which a list begins
 
@@ -47,7 +34,8 @@ len_from-run awaiting (b ∷ run) after all done =
     ∙ omega (arith, len_from-run (awaits_next awaiting b) run after parts.1 done)
 
 -- content that a quote follows ends at that quote
-pub content_len-content : (content after : List ℕ) → IsContent content → content_len (content ++ quote_byte ∷ after) ≡ length content
+pub content_len-content : (content after : List ℕ) → IsContent content
+    → content_len (content ++ quote_byte ∷ after) ≡ length content
 content_len-content content after is = len_from-run false content after (content-taken content is) (content-awaits content is)
 
 -- at the length of the content that a text begins with there is a quote, or the text ends
@@ -77,7 +65,8 @@ closes-not_at_other : (awaiting : Bool) (b : ℕ) → b == quote_byte ≡ false 
 closes-not_at_other awaiting b other = search rules
 
 -- the first quote closes, if no byte is awaited at it: if no backslash precedes it
-first_quote : (awaiting : Bool) (text : List ℕ) (n : ℕ) → n ≡ position_or_len (λ b. b == quote_byte) text → (n ≡ 0 → awaiting ≡ false)
+first_quote : (awaiting : Bool) (text : List ℕ) (n : ℕ) → n ≡ position_or_len (λ b. b == quote_byte) text
+    → (n ≡ 0 → awaiting ≡ false)
     → ((m : ℕ) → suc m ≡ n → get_or text m 0 ≢ backslash_byte) → len_from awaiting text ≡ n
 first_quote awaiting [] n e free before = sym e
 first_quote awaiting (b ∷ text) n e free before = ⊎_elim
@@ -85,7 +74,8 @@ first_quote awaiting (b ∷ text) n e free before = ⊎_elim
     (λ (other : b == quote_byte ≡ false).
     let on : n ≡ 1 + position_or_len (λ b. b == quote_byte) text = e ∙ rw other refl in
     let rest = first_quote (awaits_next awaiting b) text (n - 1) (omega (arith, on))
-    (λ none. awaits_next-not_backslash awaiting b (before 0 (omega (arith, none, on)))) (λ m same. before (suc m) (omega (arith, same))) in
+    (λ none. awaits_next-not_backslash awaiting b (before 0 (omega (arith, none, on))))
+    (λ m same. before (suc m) (omega (arith, same))) in
     cond-false (not awaiting && b == quote_byte) _ _ (closes-not_at_other awaiting b other) ∙ omega (arith, rest, on))
     (cases_Bool (b == quote_byte))
 
@@ -105,9 +95,13 @@ pub record LiesIn (list : List ℕ) (cut : PairCut) : Type 0 where
 abbrev EndsWith : List ℕ → List ℕ → Type 0
 EndsWith list bytes = (prefix : List ℕ) × (prefix ++ bytes ≡ list)
 
+-- What a list ends with ends with the bytes after the first of them.
 ends-drop : (n : ℕ) (list bytes : List ℕ) → EndsWith list bytes → EndsWith list (drop n bytes)
-ends-drop n list bytes (prefix, whole) =
-    (prefix ++ take n bytes, append_assoc prefix (take n bytes) (drop n bytes) ∙ ap (λ x. prefix ++ x) (take-append-drop n bytes) ∙ whole)
+ends-drop n list bytes (prefix, whole) = (
+  prefix ++ take n bytes,
+  append_assoc prefix (take n bytes) (drop n bytes)
+      ∙ ap (λ x. prefix ++ x) (take-append-drop n bytes) ∙ whole,
+)
 
 -- a value that begins an end of the list lies in the list
 lies_from_end : (list bytes name rest : List ℕ) (k n : ℕ) → EndsWith list bytes → rest ≡ drop n (drop k bytes)
@@ -232,7 +226,8 @@ found-first Accepts count list value flag some accepted valued flagged =
     rw (pairs_within-first count list some) (λ _. cc (valued, flagged), λ other. absurd (other accepted))
 
 -- if the first name isn't accepted, what is found in a list is what is found in the rest
-pub found-next : (Accepts : List ℕ → Bool → Type 0) (count : ℕ) (list : List ℕ) (found : Option (List ℕ × Bool)) → count ≢ 0
+pub found-next : (Accepts : List ℕ → Bool → Type 0) (count : ℕ) (list : List ℕ) (found : Option (List ℕ × Bool))
+    → count ≢ 0
     → ¬ (Accepts (cut_of list).name true) → IsFirstAccepted Accepts (items_of (pairs_within (count - 1) (cut_of list).rest)) found
     → IsFirstAccepted Accepts (items_of (pairs_within count list)) found
 found-next Accepts count list found some other rest =

@@ -1,27 +1,12 @@
 -- The parts of a value that was read: its plus, where its essence may be cut, what is lowercase, and how many pairs it has.
 use Rattle.std.proofs.Common.{◌≡◌, ◌≢◌, ℕ, Bool, suc, ◌+◌, ◌-◌, ◌<◌, List, map, [], ◌∷◌, ◌++◌, length, drop, Option, Some, None, refl, sym, ap, ◌∙◌, subst, arith, ⊎_elim, zero, ◌≤◌, true, lit<, rules}
 use Rattle.std.specs.Prelude.{slice_get, MatchOption, if◌then◌else◌, ◌==◌, unwrap_or, IsUtf8, codes}
-use Rattle.std.specs.Option.{option_or}
-use Rattle.std.proofs.lemmas.Bool.{cond_both, cases_lt, eqb-true, eqb-false}
-use Rattle.std.proofs.lemmas.Option.{same_Some, none-some, slice_get_within, get_or_from_slice_get, MatchOption-at_some}
-use Rattle.mime.specs.Bytes.{slash_byte, plus_byte, equals_byte}
-use Rattle.mime.specs.Values.{lowered, last_plus, MediaType, Reads}
-use Rattle.mime.specs.Laws.{HasNoPlusFrom, PlusIsLast}
-use Rattle.mime.proofs.BytesLemmas.{slice_get-after, slice_get-prefix, boundary_after}
-use Rattle.mime.proofs.LowercaseLemmas.{lowered-lowered, lowered-append, lowered_value-lowered, low_pair-parts, length-tail_lowered, pairs_of_tail-lowered}
+use Rattle.std.specs.{Option.option_or, List.AllByRecursion, Str.IsCharBoundary, Str.bytes_eq}
+use Rattle.std.proofs.{lemmas.Bool.cond_both, lemmas.Bool.cases_lt, lemmas.Bool.eqb-true, lemmas.Bool.eqb-false, lemmas.Option.same_Some, lemmas.Option.none-some, lemmas.Option.slice_get_within, lemmas.Option.get_or_from_slice_get, lemmas.Option.MatchOption-at_some, lemmas.Str.IsCharBoundary-end, lemmas.Str.IsCharBoundary-before_ascii}
+use Rattle.mime.specs.{Bytes.slash_byte, Bytes.plus_byte, Bytes.equals_byte, Values.lowered, Values.last_plus, Values.MediaType, Values.Reads, Laws.HasNoPlusFrom, Laws.PlusIsLast, Inner.Pairs.PairCut, Inner.Pairs.cut_of, Inner.Pairs.cut_after_equals, Inner.Pairs.without_spaces, Inner.Pairs.pairs_within, Items.items_of, Items.IsLowItem, Items.IsLowIf, Items.IsFirstAccepted, Inner.KeptText.lowered_pair, Inner.KeptText.AreLowPairs, Inner.KeptText.media_of, Inner.KeptText.IsKept, Comparison.Same, declared.scan.Positions.Positions}
+use Rattle.mime.proofs.{BytesLemmas.slice_get-after, BytesLemmas.slice_get-prefix, BytesLemmas.boundary_after, LowercaseLemmas.lowered-lowered, LowercaseLemmas.lowered-append, LowercaseLemmas.lowered_value-lowered, LowercaseLemmas.low_pair-parts, LowercaseLemmas.length-tail_lowered, LowercaseLemmas.pairs_of_tail-lowered, ValueLemmas.KeptText.media_of-kept, ValueLemmas.Pairs.pairs_within-first, ValueLemmas.Pairs.cut_of-part, ValueLemmas.Pairs.cut_of-name, ValueLemmas.Pairs.found-first, GrammarLemmas.Readings.one_reading}
 use Rattle.mime_search.proofs.IgnoringCase.{length-lowered, lowered-drop}
-use Rattle.mime.proofs.ValueLemmas.KeptText.{media_of-kept}
-use Rattle.std.specs.List.{AllByRecursion}
-use Rattle.std.specs.Str.{IsCharBoundary, bytes_eq}
-use Rattle.std.proofs.lemmas.Str.{IsCharBoundary-end, IsCharBoundary-before_ascii}
 use Rattle.mime_search.specs.Rests.{before_byte, after_byte}
-use Rattle.mime.specs.Inner.Pairs.{PairCut, cut_of, cut_after_equals, without_spaces, pairs_within}
-use Rattle.mime.specs.Items.{items_of, IsLowItem, IsLowIf, IsFirstAccepted}
-use Rattle.mime.proofs.ValueLemmas.Pairs.{pairs_within-first, cut_of-part, cut_of-name, found-first}
-use Rattle.mime.specs.Inner.KeptText.{lowered_pair, AreLowPairs, media_of, IsKept}
-use Rattle.mime.specs.Comparison.{Same}
-use Rattle.mime.specs.declared.scan.Positions.{Positions}
-use Rattle.mime.proofs.GrammarLemmas.Readings.{one_reading}
 
 -- the last plus of a text from a position on, if there is one
 abbrev IsLastPlus : List ℕ → ℕ → ℕ → Option ℕ → Type 0
@@ -63,7 +48,8 @@ plus_is_last text value reads =
     let sub = lowered reads.tree.sub in
     let slash = length reads.tree.top in
     let view : (i : ℕ) → slice_get (top ++ (slash_byte ∷ sub)) (slash + 2 + i) ≡ slice_get (drop 1 sub) i =
-    λ i. slice_get-after top (slash_byte ∷ sub) (suc (suc i)) _ (omega (arith, length-lowered reads.tree.top)) ∙ slice_get-drop sub i in
+    λ i. slice_get-after top (slash_byte ∷ sub) (suc (suc i)) _ (omega (arith, length-lowered reads.tree.top))
+    ∙ slice_get-drop sub i in
     subst (λ (v : MediaType). IsLastPlus v.essence (v.slash + 1) (v.slash + 2) v.plus) reads.valued
     (last_plus-is_last (top ++ (slash_byte ∷ sub)) (slash + 1) (slash + 2) (drop 1 sub) (omega arith) view)
 
@@ -82,7 +68,8 @@ pub record PlusIn (essence : List ℕ) (slash plus : ℕ) : Type 0 where
   pub there : slice_get essence plus ≡ Some plus_byte
 
 -- the plus of a value that was read lies in its essence
-pub plus_in : (text essence : List ℕ) (value : MediaType) (plus : ℕ) → Reads text value → essence ≡ value.essence → value.plus ≡ Some plus
+pub plus_in : (text essence : List ℕ) (value : MediaType) (plus : ℕ) → Reads text value → essence ≡ value.essence
+    → value.plus ≡ Some plus
     → PlusIn essence value.slash plus
 plus_in text essence value plus reads is found =
     let last = MatchOption-at_some (HasNoPlusFrom value.essence (value.slash + 2)) _ plus found (plus_is_last text value reads) in
@@ -90,7 +77,8 @@ plus_in text essence value plus reads is found =
 
 -- the subtype ends before the plus or at the essence's end, at a character after its start
 pub subtype_end : (text essence : List ℕ) (value : MediaType) (plus : Option ℕ) → Reads text value → essence ≡ value.essence
-    → value.plus ≡ plus → (value.slash + 1 ≤ unwrap_or plus (length essence)) × IsCharBoundary essence (unwrap_or plus (length essence))
+    → value.plus ≡ plus → (value.slash + 1 ≤ unwrap_or plus (length essence))
+    × IsCharBoundary essence (unwrap_or plus (length essence))
 subtype_end text essence value None reads is found =
     (omega (arith, slice_get_within essence value.slash slash_byte (slash_in text essence value reads is)), IsCharBoundary-end essence)
 subtype_end text essence value (Some plus) reads is found =
@@ -101,7 +89,8 @@ subtype_end text essence value (Some plus) reads is found =
     )
 
 -- the suffix begins after the plus, at a character within the essence
-pub suffix_start : (text essence : List ℕ) (value : MediaType) (plus : ℕ) → Reads text value → essence ≡ value.essence → IsUtf8 essence
+pub suffix_start : (text essence : List ℕ) (value : MediaType) (plus : ℕ) → Reads text value → essence ≡ value.essence
+    → IsUtf8 essence
     → value.plus ≡ Some plus → (plus < length essence) × IsCharBoundary essence (plus + 1)
 suffix_start text essence value plus reads is utf8 found =
     let at = plus_in text essence value plus reads is found in
@@ -141,7 +130,8 @@ items_of-low ((name, value) ∷ pairs) (low, others) =
     ((λ _. parts.0, λ is. parts.1 (subst (λ n. bytes_eq n (codes "charset") ≡ true) (sym parts.0) is)), items_of-low pairs others)
 
 -- the first value of a list is what is found, if its name is accepted; and it is low
-pub first_value-found : (Accepts : List ℕ → Bool → Type 0) (count : ℕ) (list name back value : List ℕ) (flag : Bool) → count ≢ 0
+pub first_value-found : (Accepts : List ℕ → Bool → Type 0) (count : ℕ) (list name back value : List ℕ) (flag : Bool)
+    → count ≢ 0
     → AreLowPairs (pairs_within count list) → name ≡ before_byte equals_byte (without_spaces list)
     → back ≡ after_byte equals_byte (without_spaces list) → Accepts name true
     → value ≡ (cut_after_equals (length list) name back).value → flag ≡ bytes_eq name (codes "charset")
@@ -157,13 +147,14 @@ first_value-found Accepts count list name back value flag some low name_is back_
       rw (valued, flagged) items.0.1,
     )
 
--- as many pairs are cut from a list as the count says
+-- As many pairs are cut from a list as the count says.
 pub length-pairs_within : (count : ℕ) (list : List ℕ) → length (pairs_within count list) ≡ count
 length-pairs_within zero list = refl
 length-pairs_within (suc count) list = ap suc (length-pairs_within count (cut_of list).rest)
 
 -- the count is that of the pairs
-pub kept-count : (text : List ℕ) (positions : Positions) → IsKept text positions → positions.pair_count ≡ length (media_of text positions).pairs
+pub kept-count : (text : List ℕ) (positions : Positions) → IsKept text positions
+    → positions.pair_count ≡ length (media_of text positions).pairs
 kept-count text positions is_kept =
     sym (length-tail_lowered is_kept.has.tree.tail ∙ ap (λ p. p.pair_count) is_kept.has.same_positions)
     ∙ ap (λ (value : MediaType). length value.pairs) (media_of-kept text positions is_kept)

@@ -4,15 +4,8 @@ use Rattle.std.proofs.Common.{◌≡◌, ℕ, zero, suc, ◌+◌, ◌≤◌, Lis
 use Rattle.std.specs.Prelude.{◌≢◌, IfSome, if◌then◌else◌, ◌==◌}
 use Rattle.std.specs.Option.{option_or}
 use Rattle.std.proofs.lemmas.Bool.{cond_both}
-use Rattle.mime.specs.Bytes.{plus_byte}
-use Rattle.mime.specs.Grammar.{Tail, no_list, listed, text_of}
-use Rattle.mime.specs.Values.{MediaType, Reads, kept_text, lowered_tree, last_plus, pairs_of_tail}
-use Rattle.mime.specs.Inner.Scanning.{HasPositions, positions_of}
-use Rattle.mime.specs.Inner.KeptText.{IsKept, kept_positions}
-use Rattle.mime.specs.declared.scan.Positions.{Positions}
-use Rattle.mime.proofs.LowercaseLemmas.{positions_of-lowered_tree, IsWellFormed-lowered_tree}
-use Rattle.mime.proofs.GrammarLemmas.Readings.{one_tree}
-use Rattle.mime.proofs.ValueLemmas.KeptText.{value_of_low, value_of-lowering, length-essence_of}
+use Rattle.mime.specs.{Bytes.plus_byte, Grammar.Tail, Grammar.no_list, Grammar.listed, Grammar.text_of, Values.MediaType, Values.Reads, Values.kept_text, Values.lowered_tree, Values.last_plus, Values.pairs_of_tail, Inner.Scanning.HasPositions, Inner.Scanning.positions_of, Inner.KeptText.IsKept, Inner.KeptText.kept_positions, declared.scan.Positions.Positions}
+use Rattle.mime.proofs.{LowercaseLemmas.positions_of-lowered_tree, LowercaseLemmas.IsWellFormed-lowered_tree, GrammarLemmas.Readings.one_tree, ValueLemmas.KeptText.value_of_low, ValueLemmas.KeptText.value_of-lowering, ValueLemmas.KeptText.length-essence_of}
 
 -- the last plus is none of the bytes before those that are searched
 last_plus-from : (at : ℕ) (bytes : List ℕ) → IfSome (last_plus at bytes) (λ plus. at ≤ plus)
@@ -38,17 +31,24 @@ plus-not_zero text positions has =
 
 -- the positions in a text that is read as a value with a parameter
 pub read-positions : (text : List ℕ) (value : MediaType) → Reads text value → length value.pairs ≢ 0
-    → HasPositions text (record { slash = value.slash; plus = value.plus; semicolon = Some (length value.essence); pair_count = length value.pairs })
+    → HasPositions text (record {
+      slash = value.slash;
+      plus = value.plus;
+      semicolon = Some (length value.essence);
+      pair_count = length value.pairs;
+    })
 read-positions text value reads some = record {
   tree = reads.tree;
   well_formed = reads.well_formed;
   spelled = reads.spelled;
   same_positions =
       sym (positions_of-lowered_tree reads.tree)
-      ∙ go (lowered_tree reads.tree).top (lowered_tree reads.tree).sub (lowered_tree reads.tree).tail value (sym (value_of-lowering reads.tree) ∙ reads.valued) some;
+      ∙ go (lowered_tree reads.tree).top (lowered_tree reads.tree).sub (lowered_tree reads.tree).tail value
+      (sym (value_of-lowering reads.tree) ∙ reads.valued) some;
 }
   where
-    go : (top sub : List ℕ) (tail : Tail) (value : MediaType) → value_of_low (record { top = top; sub = sub; tail = tail }) ≡ value → length value.pairs ≢ 0
+    go : (top sub : List ℕ) (tail : Tail) (value : MediaType) → value_of_low (record { top = top; sub = sub; tail = tail }) ≡ value
+        → length value.pairs ≢ 0
         → positions_of (record { top = top; sub = sub; tail = tail })
         ≡ record { slash = value.slash; plus = value.plus; semicolon = Some (length value.essence); pair_count = length value.pairs }
     go top sub no_list value is some = absurd (some (sym (ap (λ (v : MediaType). length v.pairs) is)))
@@ -59,7 +59,12 @@ read-positions text value reads some = record {
 
 -- a text that is read as a value with a parameter, and is its kept text, is kept so
 pub read-kept : (text : List ℕ) (value : MediaType) → Reads text value → value.kept ≡ text → length value.pairs ≢ 0
-    → IsKept text (record { slash = value.slash; plus = value.plus; semicolon = Some (length value.essence); pair_count = length value.pairs })
+    → IsKept text (record {
+      slash = value.slash;
+      plus = value.plus;
+      semicolon = Some (length value.essence);
+      pair_count = length value.pairs;
+    })
 unfolding read-positions
 read-kept text value reads kept some =
     let has = read-positions text value reads some in
@@ -72,12 +77,14 @@ read-kept text value reads kept some =
       kept = all_kept (length value.pairs) some;
     }
   where
-    go : (pairs : List (List ℕ × List ℕ)) → length pairs ≡ length value.pairs → kept_text pairs (lowered_tree reads.tree) ≡ value.kept
+    go : (pairs : List (List ℕ × List ℕ)) → length pairs ≡ length value.pairs
+        → kept_text pairs (lowered_tree reads.tree) ≡ value.kept
         → text_of (lowered_tree reads.tree) ≡ text
     go [] none is = absurd (some (sym none))
     go (pair ∷ pairs) none is = is ∙ kept
 
-    all_kept : (count : ℕ) → count ≢ 0 → kept_positions (record { slash = value.slash; plus = value.plus; semicolon = Some (length value.essence); pair_count = count })
+    all_kept : (count : ℕ) → count ≢ 0
+        → kept_positions (record { slash = value.slash; plus = value.plus; semicolon = Some (length value.essence); pair_count = count })
         ≡ record { slash = value.slash; plus = value.plus; semicolon = Some (length value.essence); pair_count = count }
     all_kept zero above = absurd (above refl)
     all_kept (suc count) above = refl

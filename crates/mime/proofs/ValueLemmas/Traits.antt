@@ -1,22 +1,9 @@
 -- The order of values, with the laws of `Before` and `Same`, and two iterators that std's `eq` compares.
-use Rattle.std.proofs.lemmas.Grind.{common_steps}
+use Rattle.std.proofs.{lemmas.Grind.common_steps, lemmas.Map.Lookups.exact_bytes, lemmas.Map.Lookups.exact_pairs, lemmas.Bool.true≢false, lemmas.Bool.Decides.same_from_decides}
 use Rattle.std.proofs.Common.{arith, length, slice_index, take, zero, suc, ℕ, ◌≡◌, ◌<◌, ◌⊎◌, inl, inr, ⊎_elim, Bool, true, false, IsTrue, ◌↔◌, List, [], ◌∷◌, refl, sym, ap, ◌∙◌, subst, true≢false, Option, rules}
-use Rattle.std.specs.declared.cmp.Ordering.{Ordering}
-use Rattle.std.specs.declared.cmp.Ordering.TheVariants.{Less, Equal, Greater}
-use Rattle.std.specs.Cmp.{IsTotalOrder, tied_itself, nat_cmp_is, nat_cmp_total, ranked}
-use Rattle.std.specs.FinMap.{IsAntisymmetric, nat_cmp-IsAntisymmetric}
-use Rattle.std.proofs.lemmas.Map.Lookups.{exact_bytes, exact_pairs}
-use Rattle.std.specs.Cmp.Lexicographic.{slice_cmp, nat_list_cmp_total}
-use Rattle.std.specs.Ordering.{MatchOrdering, nat_cmp, ordering_then, is_eq, is_lt, eq_by_cmp, ordering_reverse}
-use Rattle.mime.specs.Values.{MediaType}
-use Rattle.mime.specs.Comparison.{Same, IsListBefore, IsTextBefore, IsPairBefore, Before, pair_cmp, media_cmp}
-use Rattle.mime.specs.Laws.{OneOf}
-use Rattle.mime.specs.Inner.OrderLaws.{same_from_cmp, pair_cmp_total, media_cmp_total}
+use Rattle.std.specs.{declared.cmp.Ordering.Ordering, declared.cmp.Ordering.TheVariants.Less, declared.cmp.Ordering.TheVariants.Equal, declared.cmp.Ordering.TheVariants.Greater, Cmp.IsTotalOrder, Cmp.tied_itself, Cmp.nat_cmp_is, Cmp.nat_cmp_total, Cmp.ranked, FinMap.IsAntisymmetric, FinMap.nat_cmp-IsAntisymmetric, Cmp.Lexicographic.slice_cmp, Cmp.Lexicographic.nat_list_cmp_total, Ordering.MatchOrdering, Ordering.nat_cmp, Ordering.ordering_then, Ordering.is_eq, Ordering.is_lt, Ordering.eq_by_cmp, Ordering.ordering_reverse, Iterator.YieldsFirstBy, Iterator.YieldsThen, Iterator.ComparesItemsByEq, List.AllZip}
+use Rattle.mime.specs.{Values.MediaType, Comparison.Same, Comparison.IsListBefore, Comparison.IsTextBefore, Comparison.IsPairBefore, Comparison.Before, Comparison.pair_cmp, Comparison.media_cmp, Laws.OneOf, Inner.OrderLaws.same_from_cmp, Inner.OrderLaws.pair_cmp_total, Inner.OrderLaws.media_cmp_total}
 use Rattle.std.specs.Prelude.{MatchOption, IfSome}
-use Rattle.std.specs.Iterator.{YieldsFirstBy, YieldsThen, ComparesItemsByEq}
-use Rattle.std.specs.List.{AllZip}
-use Rattle.std.proofs.lemmas.Bool.{true≢false}
-use Rattle.std.proofs.lemmas.Bool.Decides.{same_from_decides}
 use Rattle.mime.proofs.BytesLemmas.{cons_parts}
 use Rattle.mime_search.specs.Differences.{DifferAt}
 
@@ -27,11 +14,13 @@ Finds {X} cmp IsLess = (x y : X) → (cmp x y ≡ Less) ↔ IsLess x y
 abbrev Exact : {X : Type 0} → (X → X → Ordering) → Type 0
 Exact {X} cmp = (x y : X) → (cmp x y ≡ Equal) ↔ (x ≡ y)
 
+-- A total antisymmetric order finds things equal exactly if they are the same.
 exact : {X : Type 0} {cmp : X → X → Ordering} → IsTotalOrder cmp → IsAntisymmetric cmp → Exact cmp
 exact {cmp = cmp} total same x y = (same x y, λ is. ap (cmp x) (sym is) ∙ tied_itself total x)
 
 -- what two orders find, one after the other
-finds_then : {X : Type 0} (x y : X) (P Q : Type 0) (a b : Ordering) → (a ≡ Less) ↔ P → (a ≡ Equal) ↔ (x ≡ y) → (b ≡ Less) ↔ Q
+finds_then : {X : Type 0} (x y : X) (P Q : Type 0) (a b : Ordering) → (a ≡ Less) ↔ P → (a ≡ Equal) ↔ (x ≡ y)
+    → (b ≡ Less) ↔ Q
     → (ordering_then a b ≡ Less) ↔ (P ⊎ ((x ≡ y) × Q))
 finds_then x y P Q a b less equal rest = search rules
 
@@ -46,20 +35,26 @@ finds_lists cmp IsLess finds exact (x ∷ xs) (y ∷ ys) =
 
 -- the orders of bytes, of texts, of pairs and of values find which is before
 finds_bytes : Finds nat_cmp (λ x y. x < y)
-finds_bytes x y =
-    (λ is. subst (λ o. MatchOrdering o (x < y) (x ≡ y) (y < x)) is (ranked x y (nat_cmp x y) refl), λ less. sym (nat_cmp_is x y Less less))
+finds_bytes x y = (
+  λ is. subst (λ o. MatchOrdering o (x < y) (x ≡ y) (y < x)) is (ranked x y (nat_cmp x y) refl),
+  λ less. sym (nat_cmp_is x y Less less),
+)
 
+-- The order of texts finds which text is before.
 finds_texts : Finds (slice_cmp nat_cmp) IsTextBefore
 finds_texts = finds_lists nat_cmp (λ x y. x < y) finds_bytes (exact nat_cmp_total nat_cmp-IsAntisymmetric)
 
+-- The order of texts finds texts equal exactly if they are the same.
 exact_texts : Exact (slice_cmp nat_cmp)
 exact_texts = exact nat_list_cmp_total exact_bytes
 
+-- The order of pairs finds which pair is before.
 finds_pairs : Finds pair_cmp IsPairBefore
 finds_pairs x y =
     finds_then x.0 y.0 _ _ (slice_cmp nat_cmp x.0 y.0) (slice_cmp nat_cmp x.1 y.1) (finds_texts x.0 y.0) (exact_texts x.0 y.0)
     (finds_texts x.1 y.1)
 
+-- The order of media types finds which is before.
 finds_media : (x y : MediaType) → (media_cmp x y ≡ Less) ↔ Before x y
 finds_media x y =
     finds_then x.essence y.essence _ _ (slice_cmp nat_cmp x.essence y.essence) (slice_cmp pair_cmp x.pairs y.pairs)
@@ -91,7 +86,8 @@ Before-not_same x y before same = true≢false (ap is_lt (sym ((finds_media x y)
 -- at most one of two values is before the other
 Before-not_both : (x y : MediaType) → Before x y → ¬ (Before y x)
 Before-not_both x y before back =
-    true≢false (ap is_lt (sym ((finds_media x y).1 before) ∙ media_cmp_total.antisymm x y ∙ ap ordering_reverse ((finds_media y x).1 back)))
+    true≢false (ap is_lt (sym ((finds_media x y).1 before) ∙ media_cmp_total.antisymm x y
+    ∙ ap ordering_reverse ((finds_media y x).1 back)))
 
 -- a value before one that is before a third is before the third
 pub Before-transitive : (x y z : MediaType) → Before x y → Before y z → Before x z
@@ -121,7 +117,7 @@ one_order x y = go (media_cmp x y) (tells_media x y)
 decided : (order rest : Ordering) → ¬ (order ≡ Equal) → ordering_then order rest ≡ order
 decided order rest some = search rules
 
--- texts are ordered by the bytes at which they first differ,
+-- Texts are ordered by the bytes at which they first differ.
 pub ordered_by_difference : (xs ys : List ℕ) (k : ℕ) → k < length xs → k < length ys → DifferAt xs ys 0 k
     → slice_cmp nat_cmp xs ys ≡ nat_cmp (slice_index xs k) (slice_index ys k)
 ordered_by_difference [] ys k within also differ = absurd (omega (arith, within))
@@ -142,14 +138,16 @@ pub differ_in_beginnings : (text other : List ℕ) (n m at : ℕ) → at < n →
 differ_in_beginnings text other n m at within also differ = grind (arith, common_steps)
 
 -- values whose essences differ are ordered by the bytes at which these first differ
-pub ordered_by_essence : (x y : MediaType) (at : ℕ) → at < length x.essence → at < length y.essence → DifferAt x.essence y.essence 0 at
+pub ordered_by_essence : (x y : MediaType) (at : ℕ) → at < length x.essence → at < length y.essence
+    → DifferAt x.essence y.essence 0 at
     → media_cmp x y ≡ nat_cmp (slice_index x.essence at) (slice_index y.essence at)
 ordered_by_essence x y at within also differ =
     let essences = ordered_by_difference x.essence y.essence at within also differ in
     decided (slice_cmp nat_cmp x.essence y.essence) _
     (λ same. differ.differ ((exact nat_cmp_total nat_cmp-IsAntisymmetric _ _).0 (sym essences ∙ same))) ∙ essences
 
-module _ {A B : Type 0} (seen : A → B) (eq : A → A → Bool) (agrees : (x y : A) → IsTrue (eq x y) ↔ (seen x ≡ seen y)) (r : Bool) where
+module _ {A B : Type 0} (seen : A → B) (eq : A → A → Bool) (agrees : (x y : A)
+    → IsTrue (eq x y) ↔ (seen x ≡ seen y)) (r : Bool) where
   abbrev Steps : List B → Option A → List B → Type 0
   Steps = YieldsFirstBy seen (λ items. items)
 
@@ -157,9 +155,11 @@ module _ {A B : Type 0} (seen : A → B) (eq : A → A → Bool) (agrees : (x y 
   abbrev Last : Option A → Option A → Type 0
   Last o p = MatchOption o (MatchOption p (r ≡ true) (λ _. r ≡ false)) (λ x. (r ≡ false) × IfSome p (λ y. eq x y ≡ false))
 
+  -- The first items that aren't equal decide whether the lists are the same.
   at_last : (o p : Option A) (s t u w : List B) → Steps s o u → Steps t p w → Last o p → IsTrue r ↔ (s ≡ t)
   at_last o p s t u w one other last = search rules
 
+  -- Equal items before the first that aren't equal don't change whether the lists are the same.
   along : (xs ys : List A) (o p : Option A) (s t u w : List B) → YieldsThen Steps s xs o u → YieldsThen Steps t ys p w
       → AllZip (λ x y. eq x y ≡ true) xs ys → Last o p → IsTrue r ↔ (s ≡ t)
   along [] [] o p s t u w a b zip last =
@@ -170,6 +170,7 @@ module _ {A B : Type 0} (seen : A → B) (eq : A → A → Bool) (agrees : (x y 
       (λ yes. a.1.1 ∙ cc (first, rest.0 yes) ∙ sym b.1.1, λ same. rest.1 (cons_parts (sym a.1.1 ∙ same ∙ b.1.1)).1)
   along xs ys o p s t u w a b zip last = absurd zip
 
+  -- A comparison of items decides whether the lists are the same.
   pub same_items : (s t : List B) → ComparesItemsByEq Steps (λ x y. y ≡ x) Steps s t eq r → IsTrue r ↔ (s ≡ t)
   same_items s t d = along d.1 d.2 d.3 d.4 s t d.5 d.6 d.8 (subst (λ j. YieldsThen Steps j d.2 d.4 d.6) d.7 d.9) d.10 d.11
 

@@ -1,18 +1,12 @@
 -- A text of which parts are lowercased: what holds of it, and that it keeps UTF-8.
 use Rattle.std.proofs.Common.{◌≡◌, ℕ, ◌<◌, ◌≤◌, Bool, true, List, [], ◌∷◌, ◌++◌, length, take, drop, refl, sym, ap, ◌∙◌, subst, arith, ⊎_elim, rules}
 use Rattle.std.specs.Prelude.{IsUtf8}
-use Rattle.std.specs.Char.{to_ascii_lowercase}
-use Rattle.std.proofs.lemmas.Bool.{and_parts, cases_lt}
-use Rattle.std.proofs.lemmas.Bool.Decides.{nat_tests}
-use Rattle.std.proofs.lemmas.List.{take_at, drop_at, take-append-drop}
-use Rattle.std.proofs.lemmas.Str.{IsUtf8-nil, IsUtf8-append, IsUtf8-encode, IsUtf8-from_ascii, encode_ascii}
-use Rattle.std.proofs.lemmas.Str.Ascii.{IsAscii-cons, IsAscii-nil}
+use Rattle.std.specs.{Char.to_ascii_lowercase, List.list_all}
+use Rattle.std.proofs.{lemmas.Bool.and_parts, lemmas.Bool.cases_lt, lemmas.Bool.Decides.nat_tests, lemmas.List.take_at, lemmas.List.drop_at, lemmas.List.take-append-drop, lemmas.Str.IsUtf8-nil, lemmas.Str.IsUtf8-append, lemmas.Str.IsUtf8-encode, lemmas.Str.IsUtf8-from_ascii, lemmas.Str.encode_ascii, lemmas.Str.Ascii.IsAscii-cons, lemmas.Str.Ascii.IsAscii-nil}
 use Rattle.mime.specs.Values.{lowered}
-use Rattle.mime.proofs.LowercaseLemmas.{lowered-lowered, lowered-append}
+use Rattle.mime.proofs.{LowercaseLemmas.lowered-lowered, LowercaseLemmas.lowered-append, BytesLemmas.list_all-wider}
 use Rattle.mime_search.proofs.IgnoringCase.{length-lowered, lowered-take, lowered-drop}
 use Rattle.std.specs.Prelude.{◌&&◌, ◌||◌, nat_le, nat_lt}
-use Rattle.std.specs.List.{list_all}
-use Rattle.mime.proofs.BytesLemmas.{list_all-wider}
 use lib.Dec.{ltb}
 use lib.Utf8.{scalars, scalar, encodes, encode}
 
@@ -37,9 +31,11 @@ length-in_part text partly lowers =
     sym (length-lowered partly) ∙ ap length (lowered-in_part text partly lowers) ∙ length-lowered text
 
 -- the parts of a text without capitals have none
-low_parts : (prefix back : List ℕ) → lowered (prefix ++ back) ≡ prefix ++ back → (lowered prefix ≡ prefix) × (lowered back ≡ back)
+low_parts : (prefix back : List ℕ) → lowered (prefix ++ back) ≡ prefix ++ back
+    → (lowered prefix ≡ prefix) × (lowered back ≡ back)
 low_parts [] back low = (refl, low)
-low_parts (b ∷ prefix) back low = let parts = low_parts prefix back (cc) in let first : lowered prefix ≡ prefix = parts.0 in (cc, parts.1)
+low_parts (b ∷ prefix) back low = let parts = low_parts prefix back (cc) in let first : lowered prefix ≡ prefix =
+    parts.0 in (cc, parts.1)
 
 -- a text without capitals stays as it is, lowercased in part
 pub low-in_part : (text partly : List ℕ) → IsLoweredInPart text partly → lowered text ≡ text → partly ≡ text
@@ -64,6 +60,7 @@ lowered-parts prefix back partly is =
 abbrev pub is_no_letter : ℕ → Bool
 is_no_letter b = nat_lt b 65 || nat_le 128 b
 
+-- Bytes that are no letters are themselves in any case.
 pub stays : (text partly : List ℕ) → list_all is_no_letter text ≡ true → lowered partly ≡ lowered text → partly ≡ text
 stays [] [] none is = refl
 stays (b ∷ text) (c ∷ partly) none is =
@@ -95,7 +92,8 @@ of_character c partly is low = ⊎_elim
     (cases_lt c 128)
 
 -- a text with the lowercased form of characters is valid UTF-8
-of_characters : (characters partly : List ℕ) → scalars characters ≡ true → lowered partly ≡ lowered (encodes characters) → IsUtf8 partly
+of_characters : (characters partly : List ℕ) → scalars characters ≡ true → lowered partly ≡ lowered (encodes characters)
+    → IsUtf8 partly
 of_characters [] [] are is = IsUtf8-nil
 of_characters [] (b ∷ partly) are is = absurd cc
 of_characters (c ∷ characters) partly are is =

@@ -1,8 +1,7 @@
 -- The zeros that follow a short text.
 use Rattle.std.proofs.Common.{◌≡◌, ℕ, zero, suc, ◌+◌, ◌-◌, ◌≤◌, List, ◌∷◌, ◌++◌, length, map, take, drop, replicate, refl, ap, ap₂, sym, ◌∙◌, arith}
 use Rattle.std.specs.Char.{to_ascii_lowercase}
-use Rattle.std.proofs.Math.Nat.{add-sub_of_le}
-use Rattle.std.proofs.lemmas.List.{drop_at, drop-replicate, drop-take, length-take-le, take-append-drop, take-replicate}
+use Rattle.std.proofs.{Math.Nat.add-sub_of_le, lemmas.List.drop_at, lemmas.List.drop-replicate, lemmas.List.drop-take, lemmas.List.length-take-le, lemmas.List.take-append-drop, lemmas.List.take-replicate}
 
 -- a text copied over the first of some zeros
 pub zeros-after : (text copied : List ℕ) (size : ℕ) → copied ≡ text
@@ -29,5 +28,6 @@ zeros-same bytes others len other size within also zeros more same =
     let lengths = sym (length-take-le len bytes within) ∙ ap length same ∙ length-take-le other others also in (
       lengths,
       sym (take-append-drop len bytes)
-          ∙ ap₂ (λ x y. x ++ y) same (zeros ∙ ap (λ n. replicate (size - n) 0) lengths ∙ sym more) ∙ take-append-drop other others,
+          ∙ ap₂ (λ x y. x ++ y) same (zeros ∙ ap (λ n. replicate (size - n) 0) lengths ∙ sym more)
+          ∙ take-append-drop other others,
     )

@@ -6,7 +6,8 @@ use Rattle.mime_c.proofs.Writing.{lists-fits, lists-next, lists-last, lists-no_m
 use Rattle.mime_c.proofs.mime_list.Goals as goal
 
 -- What is given is what is matched.
-gives : {old new : Iteration} {item seen : Result OwnedMedia Bad} → item ≡ seen → IsNext old (Some item) new → GivesItem old (Some seen) new
+gives : {old new : Iteration} {item seen : Result OwnedMedia Bad} → item ≡ seen → IsNext old (Some item) new
+    → GivesItem old (Some seen) new
 gives {old} {new} is next = subst (λ item. GivesItem old (Some item) new) is next.item
 
 pub put_item-at-requires : goal.put_item-at-requires

@@ -1,7 +1,6 @@
 -- The table holds the class of each byte.
 use Rattle.std.proofs.Common.{refl, arith, nat_le}
-use Rattle.mime.specs.Bytes.{is_quoted_byte as is_quoted}
-use Rattle.mime.specs.declared.bytes.TheConstants.{KINDS}
+use Rattle.mime.specs.{Bytes.is_quoted_byte as is_quoted, declared.bytes.TheConstants.KINDS}
 use Rattle.mime.proofs.BytesLemmas.{in_table}
 use Rattle.mime.proofs.bytes.is_quoted_byte.Goals as goal
 

@@ -1,9 +1,7 @@
 -- The table holds the class of each byte.
 use Rattle.std.proofs.Common.{refl, arith}
 use Rattle.std.specs.Prelude.{nat_lt}
-use Rattle.mime.specs.Bytes.{is_token_byte}
-use Rattle.mime.specs.Inner.ByteClasses.{is_ascii_not_token as is_ascii_not}
-use Rattle.mime.specs.declared.bytes.TheConstants.{KINDS}
+use Rattle.mime.specs.{Bytes.is_token_byte, Inner.ByteClasses.is_ascii_not_token as is_ascii_not, declared.bytes.TheConstants.KINDS}
 use Rattle.mime.proofs.BytesLemmas.{in_table}
 use Rattle.mime.proofs.bytes.is_separator.Goals as goal
 

@@ -1,7 +1,6 @@
 -- The table holds the class of each byte.
 use Rattle.std.proofs.Common.{refl, arith, nat_le}
-use Rattle.mime.specs.Bytes.{is_token_byte}
-use Rattle.mime.specs.declared.bytes.TheConstants.{KINDS}
+use Rattle.mime.specs.{Bytes.is_token_byte, declared.bytes.TheConstants.KINDS}
 use Rattle.mime.proofs.BytesLemmas.{in_table}
 use Rattle.mime.proofs.bytes.is_token.Goals as goal
 

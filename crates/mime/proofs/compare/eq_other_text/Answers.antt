@@ -1,8 +1,7 @@
 -- A text that differs in the value isn't the value; one that is equal ignoring ASCII case is, where all of it ignores case.
 use Rattle.std.proofs.Common.{refl, subst}
 use Rattle.mime.specs.Inner.ComparedText.{IsLoneCharset}
-use Rattle.mime.proofs.CompareLemmas.FirstDifference.{different_values}
-use Rattle.mime.proofs.CompareLemmas.Parts.{text_is-lone_charset}
+use Rattle.mime.proofs.{CompareLemmas.FirstDifference.different_values, CompareLemmas.Parts.text_is-lone_charset}
 use Rattle.mime.proofs.compare.eq_other_text.Goals as goal
 
 pub returns-in-Different : goal.returns-in-Different

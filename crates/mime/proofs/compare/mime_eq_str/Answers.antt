@@ -16,5 +16,7 @@ returns-then-not-has_semicolon_at c =
     let value = c.args.mime.now.media in
     let some : value.pairs ≢ [] = λ none. c.if-param_count-eq0.false (c.param_count.ensures ∙ ap length none) in
     let parts = text_is-by_parts _ c.args.s.now value c.as_str-kept.ensures.reads some in
-    let told = rw c.essence_str.ensures at c.has_semicolon_at.ensures in
-    (λ bad. absurd (true≢false (sym bad)), λ is. absurd (true≢false (sym (told.1 (parts.0 is).list.0) ∙ c.if-not-has_semicolon_at.true)))
+    let told = rw c.essence_str.ensures at c.has_semicolon_at.ensures in (
+      λ bad. absurd (true≢false (sym bad)),
+      λ is. absurd (true≢false (sym (told.1 (parts.0 is).list.0) ∙ c.if-not-has_semicolon_at.true)),
+    )

@@ -3,17 +3,18 @@ use Rattle.std.proofs.Common.{◌≡◌, ℕ, ◌+◌, ◌-◌, List, [], ◌∷
 use Rattle.std.proofs.lemmas.List.{drop_at}
 use Rattle.std.specs.Str.{IsCharBoundary}
 use Rattle.mime.specs.Inner.BetweenCalls.{ReadsPiece}
-use Rattle.mime.proofs.CutLemmas.Pieces.{separated-piece, passes-nothing, separators-boundary, separators-begins}
-use Rattle.mime.proofs.iter.read_next_piece.Goals.{In-Some}
+use Rattle.mime.proofs.{CutLemmas.Pieces.separated-piece, CutLemmas.Pieces.passes-nothing, CutLemmas.Pieces.separators-boundary, CutLemmas.Pieces.separators-begins, iter.read_next_piece.Goals.In-Some}
 use Rattle.mime.proofs.iter.read_next_piece.Goals as goal
 
 -- the separators, and what follows them
 abbrev others : In-Some → List ℕ
 others c = c.in-Some.first ∷ c.separators.new.reader.left
 
+-- The text is the separators and what follows them.
 spelled : (c : In-Some) → c.args.text.now ≡ c.in-Some.ensures.run ++ others c
 spelled c = sym c.new-reader.ensures.left ∙ c.in-Some.ensures.given.bytes
 
+-- The piece starts after the separators.
 starts : (c : In-Some) → c.separators.new.reader.count - c.args.from - 1 ≡ length c.in-Some.ensures.run
 starts c = omega (arith, c.in-Some.ensures.given.counted, c.new-reader.ensures.count)
 
@@ -47,7 +48,8 @@ returns-in-Some-clause-reads c =
     let from = c.separators.new.reader.count - 1 in
     let rest = c.range_from.ensures.value ∙ rest_is here _ c.position-start.ensures in
     let begins = separators-begins c.args.text.now run (others here) c.utf8.text (spelled here) c.in-Some.ensures.of_class in
-    let reads = subst (λ t. ReadsPiece t read.piece.now read.positions read.left.now (read.steps - from)) rest c.read_piece.ensures.reads in
+    let reads = subst (λ t. ReadsPiece t read.piece.now read.positions read.left.now (read.steps - from)) rest
+    c.read_piece.ensures.reads in
     let size : length run + (read.steps - from) ≡ read.steps - c.args.from =
     omega (arith, c.read_piece.ensures.counted, c.in-Some.ensures.given.counted, c.new-reader.ensures.count) in
     subst (λ n. ReadsPiece c.args.text.now read.piece.now read.positions read.left.now n) size

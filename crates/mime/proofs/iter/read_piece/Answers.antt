@@ -1,19 +1,15 @@
 -- The scanner's verdict says how a text begins.
 use Rattle.std.proofs.Common.{◌∙◌, ◌-◌, ◌≤◌, ℕ, None, Some, length, take, ap, sym, subst, arith, refl}
-use Rattle.std.proofs.lemmas.Bool.{cond-false}
-use Rattle.std.proofs.lemmas.Option.{slice_get_within}
-use Rattle.mime.specs.Inner.Remaining.{Remaining}
-use Rattle.mime.specs.Inner.Scanning.{GivesFirst, StopsAt}
-use Rattle.mime.proofs.ScanLemmas.Lists.{none_walked}
-use Rattle.mime.proofs.ScanLemmas.Verdicts.{scans_at}
-use Rattle.mime.proofs.CutLemmas.Pieces.{judged-from_scan, stopped-boundary, passes-whole, passes-unfinished, passes-stopped}
-use Rattle.mime.proofs.iter.read_piece.Goals.{Start, Joined-verdict, in-Stopped, in-Followed}
+use Rattle.std.proofs.{lemmas.Bool.cond-false, lemmas.Option.slice_get_within}
+use Rattle.mime.specs.{Inner.Remaining.Remaining, Inner.Scanning.GivesFirst, Inner.Scanning.StopsAt}
+use Rattle.mime.proofs.{ScanLemmas.Lists.none_walked, ScanLemmas.Verdicts.scans_at, CutLemmas.Pieces.judged-from_scan, CutLemmas.Pieces.stopped-boundary, CutLemmas.Pieces.passes-whole, CutLemmas.Pieces.passes-unfinished, CutLemmas.Pieces.passes-stopped, iter.read_piece.Goals.Start, iter.read_piece.Goals.Joined-verdict, iter.read_piece.Goals.in-Stopped, iter.read_piece.Goals.in-Followed}
 use Rattle.mime.proofs.iter.read_piece.Goals as goal
 
 -- the reader before the text's first byte
 abbrev start : Start → Remaining
 start c = record { left = c.args.text.now; count = c.args.reader.now.count - 1 }
 
+-- The reader gives the text's first byte.
 first_given : (c : Start) → GivesFirst (start c) c.args.reader.now (Some c.args.first)
 first_given c = (record { bytes = c.requires.first; counted = omega (arith, c.requires.begun) }, tt)
 
@@ -21,7 +17,8 @@ pub returns-then-not-is_token-clause-reads : goal.returns-then-not-is_token-clau
 returns-then-not-is_token-clause-reads c =
     let here = (goal.at.returns-then-not-is_token-clause-reads c).Start in
     let next = c.end_of_first.ensures in
-    let scans = scans_at None (none_walked (first_given here)) (cond-false _ _ _ (sym c.is_token.ensures ∙ c.if-not-is_token.true)) refl in
+    let scans = scans_at None (none_walked (first_given here))
+    (cond-false _ _ _ (sym c.is_token.ensures ∙ c.if-not-is_token.true)) refl in
     let judged = judged-from_scan _ _ _ _ _ _ scans refl refl c.count.ensures.count in
     rw (c.none.ensures.positions, c.none.ensures.steps)
     (passes-stopped _ _ _ _ 0 _ _ _ judged (omega (arith, c.count.ensures.count))
@@ -37,7 +34,12 @@ returns-in-Accepted-clause-reads c =
 pub returns-in-Unfinished-clause-reads : goal.returns-in-Unfinished-clause-reads
 returns-in-Unfinished-clause-reads c =
     let here = (goal.at.returns-in-Unfinished-clause-reads c).Start in
-    rw (c.none-in-Unfinished.ensures.piece, c.none-in-Unfinished.ensures.positions, c.none-in-Unfinished.ensures.left, c.none-in-Unfinished.ensures.steps)
+    rw (
+      c.none-in-Unfinished.ensures.piece,
+      c.none-in-Unfinished.ensures.positions,
+      c.none-in-Unfinished.ensures.left,
+      c.none-in-Unfinished.ensures.steps,
+    )
     (passes-unfinished _ _ _
     (judged-from_scan _ _ _ _ _ _ (c.in-Unfinished.ensures (start here) (first_given here)) refl refl c.count-steps.ensures.count))
 
@@ -56,7 +58,7 @@ returns-in-Unfinished-clause-counted c =
       c.none-in-Unfinished.ensures.steps,
     )
 
--- where the scanner stopped
+-- The scanner stopped at this position.
 stopped : (c : Joined-verdict) → (b : ℕ) × (c.args.reader.now.count - 1 ≤ c.scan_after-verdict.new.reader.count)
     × StopsAt c.args.text.now (c.scan_after-verdict.new.reader.count - (c.args.reader.now.count - 1)) b c.match-verdict.positions
 stopped c =
@@ -103,7 +105,8 @@ returns-clause-reads c =
     passes-stopped _ _ _ _ _ _ _ _
     (subst (λ n. StopsAt c.args.text.now (n - (c.args.reader.now.count - 1)) stops.0 c.match-verdict.positions) (sym count) stops.2)
     (omega (arith, c.position-end.ensures, c.count-from.ensures.count, count))
-    (c.range.ensures.value ∙ ap (λ n. take n c.args.text.now) (omega arith)) c.range_from-2.ensures.value next.bound next.boundary next.nearest
+    (c.range.ensures.value ∙ ap (λ n. take n c.args.text.now) (omega arith)) c.range_from-2.ensures.value next.bound
+    next.boundary next.nearest
 
 pub returns-clause-counted : goal.returns-clause-counted
 returns-clause-counted c =

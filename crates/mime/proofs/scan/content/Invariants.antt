@@ -1,8 +1,6 @@
 -- The quoted text and the pairs so far, and then quoted text up to the byte that stops it.
 use Rattle.std.proofs.Common.{false, length}
-use Rattle.mime.specs.Bytes.{is_quoted_text_byte}
-use Rattle.mime.specs.Inner.Remaining.{Remaining}
-use Rattle.mime.specs.Inner.Scanning.{Passes}
+use Rattle.mime.specs.{Bytes.is_quoted_text_byte, Inner.Remaining.Remaining, Inner.Scanning.Passes}
 use Rattle.mime.proofs.ScanLemmas.Passing.{Taking}
 use Rattle.mime.proofs.scan.content.Given as goal
 

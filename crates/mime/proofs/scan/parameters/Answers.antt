@@ -1,13 +1,8 @@
 -- Each way out of the loop, and one turn of it.
 use Rattle.std.proofs.Common.{ℕ, List, ◌∷◌, [], None, Some, refl, sym, ap, ◌∙◌, arith, ne_eqb}
 use Rattle.std.proofs.lemmas.Bool.{cond-false}
-use Rattle.mime.specs.Bytes.{quote_byte, equals_byte}
-use Rattle.mime.specs.Grammar.{Parameter}
-use Rattle.mime.proofs.GrammarLemmas.Begun.{in_value}
-use Rattle.mime.proofs.ScanLemmas.Passing.{given_less}
-use Rattle.mime.proofs.ScanLemmas.Verdicts.{ListReaches, list_run, list_byte, list_scans_at}
-use Rattle.mime.proofs.ScanLemmas.Lists.{one_pair_more, spaces_walked, name_walked, equals_walked, quotes_walked, Valued, valued_token, valued_quotes}
-use Rattle.mime.proofs.scan.parameters.Goals.{In-Some-eq61, Joined-first-eq34, then-first-eq34+in-Some-eq34, else-first-eq34+then-is_token}
+use Rattle.mime.specs.{Bytes.quote_byte, Bytes.equals_byte, Grammar.Parameter}
+use Rattle.mime.proofs.{GrammarLemmas.Begun.in_value, ScanLemmas.Passing.given_less, ScanLemmas.Verdicts.ListReaches, ScanLemmas.Verdicts.list_run, ScanLemmas.Verdicts.list_byte, ScanLemmas.Verdicts.list_scans_at, ScanLemmas.Lists.one_pair_more, ScanLemmas.Lists.spaces_walked, ScanLemmas.Lists.name_walked, ScanLemmas.Lists.equals_walked, ScanLemmas.Lists.quotes_walked, ScanLemmas.Lists.Valued, ScanLemmas.Lists.valued_token, ScanLemmas.Lists.valued_quotes, scan.parameters.Goals.In-Some-eq61, scan.parameters.Goals.Joined-first-eq34, scan.parameters.Goals.then-first-eq34+in-Some-eq34, scan.parameters.Goals.else-first-eq34+then-is_token}
 use Rattle.mime.proofs.scan.parameters.Goals as goal
 
 pub returns-in_default : goal.returns-in_default
@@ -86,7 +81,8 @@ pub returns-in-None-stop : goal.returns-in-None-stop
 returns-in-None-stop c =
     let here = goal.at.returns-in-None-stop c in
     let v = rw c.in-None-stop.is at (valued here.Joined-first-eq34 (named here.In-Some-eq61)) in
-    list_scans_at (Some _) v.walked v.stopped (ap Some (one_pair_more _ _ _ c.loop-first.invariant.same_positions) ∙ sym (v.counted c.args.before))
+    list_scans_at (Some _) v.walked v.stopped (ap Some (one_pair_more _ _ _ c.loop-first.invariant.same_positions)
+    ∙ sym (v.counted c.args.before))
 
 pub returns-in-Some-stop : goal.returns-in-Some-stop
 returns-in-Some-stop c =
@@ -102,6 +98,7 @@ loop-first-preserved c =
     record {
       closed = (c.in-Some.ensures.run, v.parameter) ∷ c.loop-first.invariant.closed;
       walked = list_byte v.walked (rw (rw c.in-Some-eq59.field-0-is at c.in-Some-eq59.field-0-test) v.closing);
-      same_positions = one_pair_more _ _ _ c.loop-first.invariant.same_positions ∙ ap (λ n. record c.args.before { pair_count = n }) (omega arith);
+      same_positions = one_pair_more _ _ _ c.loop-first.invariant.same_positions
+          ∙ ap (λ n. record c.args.before { pair_count = n }) (omega arith);
       room = omega (arith, v.less, given_less c.in-Some.ensures.given, given_less c.in-Some-eq61.ensures.given);
     }

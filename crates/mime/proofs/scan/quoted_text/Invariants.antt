@@ -1,7 +1,6 @@
 -- The quoted text so far.
 use Rattle.std.proofs.Common.{length}
-use Rattle.mime.specs.Bytes.{is_quoted_text_byte}
-use Rattle.mime.specs.Inner.Scanning.{Passing}
+use Rattle.mime.specs.{Bytes.is_quoted_text_byte, Inner.Scanning.Passing}
 use Rattle.mime.proofs.scan.quoted_text.Given as goal
 
 abbrev pub invariant-loop-byte : goal.invariant-loop-byte

@@ -1,7 +1,6 @@
 -- The first byte is read, and then what follows it.
 use Rattle.std.proofs.Common.{refl, None}
-use Rattle.mime.proofs.ScanLemmas.Verdicts.{scans_at}
-use Rattle.mime.proofs.ScanLemmas.Lists.{none_walked}
+use Rattle.mime.proofs.{ScanLemmas.Verdicts.scans_at, ScanLemmas.Lists.none_walked}
 use Rattle.mime.proofs.scan.scan.Goals as goal
 
 pub returns-in-None : goal.returns-in-None

@@ -1,15 +1,8 @@
 -- Each way out of the scanner, after the first byte.
 use Rattle.std.proofs.Common.{◌≡◌, ℕ, sym, ap, refl, ◌∙◌, ◌∷◌, [], length, Some, None, arith, ne_eqb, eq-eqb}
 use Rattle.std.proofs.lemmas.Bool.{cond-true, cond-false}
-use Rattle.mime.specs.Bytes.{slash_byte, semicolon_byte}
-use Rattle.mime.specs.Values.{last_plus}
-use Rattle.mime.specs.declared.scan.Positions.{Positions}
-use Rattle.mime.specs.Inner.Remaining.{Remaining}
-use Rattle.mime.specs.Inner.Scanning.{positions_of, before_list, GivesFirst}
-use Rattle.mime.proofs.GrammarLemmas.Begun.{in_type, in_subtype}
-use Rattle.mime.proofs.ScanLemmas.Verdicts.{Reaches, reaches_run, reaches_byte, scans_at}
-use Rattle.mime.proofs.ScanLemmas.Lists.{none_walked, type_walked, subtype_walked, Subtyped, essence_is, scans_list}
-use Rattle.mime.proofs.scan.scan_after.Goals.{After-position-slash, After-subtype-plus}
+use Rattle.mime.specs.{Bytes.slash_byte, Bytes.semicolon_byte, Values.last_plus, declared.scan.Positions.Positions, Inner.Remaining.Remaining, Inner.Scanning.positions_of, Inner.Scanning.before_list, Inner.Scanning.GivesFirst}
+use Rattle.mime.proofs.{GrammarLemmas.Begun.in_type, GrammarLemmas.Begun.in_subtype, ScanLemmas.Verdicts.Reaches, ScanLemmas.Verdicts.reaches_run, ScanLemmas.Verdicts.reaches_byte, ScanLemmas.Verdicts.scans_at, ScanLemmas.Lists.none_walked, ScanLemmas.Lists.type_walked, ScanLemmas.Lists.subtype_walked, ScanLemmas.Lists.Subtyped, ScanLemmas.Lists.essence_is, ScanLemmas.Lists.scans_list, scan.scan_after.Goals.After-position-slash, scan.scan_after.Goals.After-subtype-plus}
 use Rattle.mime.proofs.scan.scan_after.Goals as goal
 
 pub returns-then-not-is_token : goal.returns-then-not-is_token
@@ -38,6 +31,7 @@ slashed c start gives =
     reaches_byte (type_walked gives (sym c.is_token.ensures ∙ c.if-not-is_token.false) c.in-Some-eq47.ensures)
     (cond-false _ _ _ c.in-Some-eq47.ensures.stopped ∙ cond-true _ _ _ (eq-eqb _ slash_byte c.in-Some-eq47.field-0-test))
 
+-- The position of the slash is the length of the type.
 slash_is : (c : After-position-slash) → c.position-slash.result ≡ length (c.args.first ∷ c.in-Some-eq47.ensures.run)
 slash_is c =
     omega (
@@ -72,7 +66,8 @@ subtyped c start gives slash =
     record {
       others = c.subtype-plus.ensures.passes.run;
       walked =
-          subtype_walked slash c.in-Some-next.ensures (sym c.is_token-2.ensures ∙ c.if-not-is_token-2.false) c.subtype-plus.ensures.passes;
+          subtype_walked slash c.in-Some-next.ensures (sym c.is_token-2.ensures
+          ∙ c.if-not-is_token-2.false) c.subtype-plus.ensures.passes;
       stopped = c.subtype-plus.ensures.passes.stopped;
       plussed =
           c.subtype-plus.ensures.plus
@@ -103,7 +98,8 @@ returns c = λ start gives.
     let sub = c.in-Some-next.first ∷ s.others in
     scans_list
     (reaches_byte s.walked
-    (cond-false _ _ _ s.stopped ∙ cond-true _ _ _ (eq-eqb _ semicolon_byte (rw c.in-Some-eq59.field-0-is at c.in-Some-eq59.field-0-test))))
+    (cond-false _ _ _ s.stopped ∙ cond-true _ _ _
+    (eq-eqb _ semicolon_byte (rw c.in-Some-eq59.field-0-is at c.in-Some-eq59.field-0-test))))
     (ap (λ (positions : Positions). record positions { semicolon = Some c.position.result })
     (essence_is _ _ (c.args.first ∷ c.in-Some-eq47.ensures.run) s.others (slash_is here.After-position-slash) s.plussed)
     ∙ ap (λ (at : ℕ). record (positions_of (before_list (c.args.first ∷ c.in-Some-eq47.ensures.run) sub)) { semicolon = Some at })

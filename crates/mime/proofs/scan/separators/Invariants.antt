@@ -1,7 +1,6 @@
 -- The separators so far.
 use Rattle.std.proofs.Common.{length}
-use Rattle.mime.specs.Inner.ByteClasses.{is_ascii_not_token}
-use Rattle.mime.specs.Inner.Scanning.{Passing}
+use Rattle.mime.specs.{Inner.ByteClasses.is_ascii_not_token, Inner.Scanning.Passing}
 use Rattle.mime.proofs.scan.separators.Given as goal
 
 abbrev pub invariant-loop-byte : goal.invariant-loop-byte

@@ -1,7 +1,6 @@
 -- The spaces so far.
 use Rattle.std.proofs.Common.{length}
-use Rattle.mime.specs.Grammar.{is_space}
-use Rattle.mime.specs.Inner.Scanning.{Passing}
+use Rattle.mime.specs.{Grammar.is_space, Inner.Scanning.Passing}
 use Rattle.mime.proofs.scan.spaces.Given as goal
 
 abbrev pub invariant-loop-byte : goal.invariant-loop-byte

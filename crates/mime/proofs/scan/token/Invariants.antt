@@ -1,7 +1,6 @@
 -- The bytes so far, which are read one by one, and then by runs.
 use Rattle.std.proofs.Common.{length}
-use Rattle.mime.specs.Inner.ByteClasses.{token_bytes}
-use Rattle.mime.specs.Inner.Scanning.{Passing}
+use Rattle.mime.specs.{Inner.ByteClasses.token_bytes, Inner.Scanning.Passing}
 use Rattle.mime.proofs.scan.token.Given as goal
 
 abbrev pub invariant-loop-reader : goal.invariant-loop-reader

@@ -8,10 +8,12 @@ use Rattle.mime_c.proofs.Writing.{leaves-next}
 use Rattle.mime_c.proofs.parameter.put_unescaped.Goals as goal
 
 -- The bytes from the next on mean the next, or begin a pair with it.
-means : (paired : Bool) (bytes more : List ℕ) (b : ℕ) (begins : Bool) → bytes ≡ b ∷ more → (not paired && b == backslash_byte) ≡ begins
+means : (paired : Bool) (bytes more : List ℕ) (b : ℕ) (begins : Bool) → bytes ≡ b ∷ more
+    → (not paired && b == backslash_byte) ≡ begins
     → unescaped_from paired bytes ≡ (if begins then unescaped_from true more else b ∷ unescaped_from false more)
 means paired bytes more b begins is tells =
-    ap (unescaped_from paired) is ∙ ap (λ (pair : Bool). if pair then unescaped_from true more else b ∷ unescaped_from false more) tells
+    ap (unescaped_from paired) is ∙ ap (λ (pair : Bool). if pair then unescaped_from true more else b
+        ∷ unescaped_from false more) tells
 
 pub returns-then-not-has_backslash : goal.returns-then-not-has_backslash
 returns-then-not-has_backslash c = record {

@@ -1,7 +1,6 @@
 -- What the essence is read as, and that it is read.
 use Rattle.std.proofs.Common.{rules, ◌≡◌, sym, subst, ℕ, List}
-use Rattle.mime.specs.Values.{MediaType, Reads, IsAccepted}
-use Rattle.mime.specs.Laws.{EssenceIsRead, without_parameters}
+use Rattle.mime.specs.{Values.MediaType, Values.Reads, Values.IsAccepted, Laws.EssenceIsRead, Laws.without_parameters}
 use Rattle.mime_examples.proofs.bare.bare_of.Goals as goal
 
 -- The essence is read as the value without its parameters.

@@ -1,14 +1,14 @@
 -- Another disposition, or one without a name, names no field, however it is read.
 use Rattle.std.proofs.Common.{rules, ◌≡◌, ◌≢◌, ◌∙◌, ◌++◌, ◌∷◌, [], ℕ, List, Bool, Option, Some, None, sym, subst, codes}
 use Rattle.std.proofs.lemmas.Option.{none-some}
-use Rattle.mime.specs.Items.{Item, items_of, IsFirstAccepted}
-use Rattle.mime.specs.Names.{NameIs}
+use Rattle.mime.specs.{Items.Item, Items.items_of, Items.IsFirstAccepted, Names.NameIs}
 use Rattle.mime_http.specs.HttpMediaType.{HttpReads}
 use Rattle.mime_examples.specs.Disposition.{FirstMeans}
 use Rattle.mime_examples.proofs.disposition.read_disposition.Goals as goal
 
 -- If a key finds no item, it finds none again.
-none_stays : (Accepts : List ℕ → Bool → Type 0) (items : List Item) (found : Option (List ℕ × Bool)) → IsFirstAccepted Accepts items None
+none_stays : (Accepts : List ℕ → Bool → Type 0) (items : List Item) (found : Option (List ℕ × Bool))
+    → IsFirstAccepted Accepts items None
     → IsFirstAccepted Accepts items found → found ≡ None
 none_stays Accepts [] found none first = first
 none_stays Accepts (item ∷ items) found none first =

@@ -1,7 +1,6 @@
 -- The parameter's name is a token.
 use Rattle.std.proofs.Common.{rules, refl, codes}
-use Rattle.mime.specs.Bytes.{is_token_byte}
-use Rattle.mime.specs.Grammar.{IsToken}
+use Rattle.mime.specs.{Bytes.is_token_byte, Grammar.IsToken}
 use Rattle.mime_examples.proofs.file_name.with_file_name.Goals as goal
 
 pub returns-clause-exact : goal.returns-clause-exact

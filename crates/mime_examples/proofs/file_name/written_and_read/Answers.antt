@@ -1,13 +1,9 @@
 -- What is found is what was written, which means the name.
 use Rattle.std.proofs.Common.{rules, ◌≡◌, ◌∙◌, ◌++◌, ◌∷◌, [], List, ℕ, Bool, Some, unwrap_or, ap, subst, codes}
-use Rattle.std.specs.Vec.{vec_items}
-use Rattle.std.specs.Option.{option_map}
-use Rattle.std.proofs.lemmas.Result.{IfOk-weaker}
-use Rattle.std.proofs.lemmas.Option.{IfSome_then}
-use Rattle.mime.specs.Names.{NameIs}
-use Rattle.mime.specs.Items.{items_of, IsFirstAccepted}
-use Rattle.mime_http.specs.Unescaped.{unescaped}
-use Rattle.mime_http.specs.Written.{escaped, with_pair, others}
+use Rattle.std.specs.{Vec.vec_items, Option.option_map}
+use Rattle.std.proofs.{lemmas.Result.IfOk-weaker, lemmas.Option.IfSome_then}
+use Rattle.mime.specs.{Names.NameIs, Items.items_of, Items.IsFirstAccepted}
+use Rattle.mime_http.specs.{Unescaped.unescaped, Written.escaped, Written.with_pair, Written.others}
 use Rattle.mime_examples.proofs.Found.{found_last}
 use Rattle.mime_examples.proofs.file_name.written_and_read.Goals as goal
 

@@ -1,7 +1,6 @@
 -- The next row hasn't the ending.
 use Rattle.std.proofs.Common.{◌≡◌, ◌∙◌, ◌<◌, [], get_or, length, sym, ap, arith, ⊎_elim}
-use Rattle.std.proofs.lemmas.Bool.{cases_lt, true≢false}
-use Rattle.std.proofs.lemmas.List.{get_or-map}
+use Rattle.std.proofs.{lemmas.Bool.cases_lt, lemmas.Bool.true≢false, lemmas.List.get_or-map}
 use Rattle.mime.specs.Values.{lowered}
 use Rattle.mime_examples.proofs.files.type_of_ending.Goals as goal
 

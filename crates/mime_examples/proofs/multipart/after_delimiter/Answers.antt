@@ -1,11 +1,7 @@
 -- What was stripped stands at the position, if a line begins there.
 use Rattle.std.proofs.Common.{◌≡◌, ◌≢◌, ◌∙◌, ◌-◌, ◌<◌, ◌≤◌, ◌++◌, [], ℕ, List, Bor, Option, Some, None, take, drop, length, get_or, ap, sym, refl, arith}
 use Rattle.std.specs.Prelude.{MatchOption, slice_get}
-use Rattle.std.proofs.lemmas.Bool.Decides.{Decides-eqb}
-use Rattle.std.proofs.lemmas.Grind.{common_steps}
-use Rattle.std.proofs.lemmas.List.{length-take-le, take_rest}
-use Rattle.std.proofs.lemmas.Option.{slice_get-get_or}
-use Rattle.std.proofs.lemmas.Slice.Eq.{strip_prefix_is}
+use Rattle.std.proofs.{lemmas.Bool.Decides.Decides-eqb, lemmas.Grind.common_steps, lemmas.List.length-take-le, lemmas.List.take_rest, lemmas.Option.slice_get-get_or, lemmas.Slice.Eq.strip_prefix_is}
 use Rattle.mime_examples.specs.Multipart.{EndsLine}
 use Rattle.mime_examples.proofs.multipart.after_delimiter.Goals as goal
 use Rattle.mime_examples.proofs.multipart.after_delimiter.Goals.{else-at-gt0-via-then-at-gt0+else-body-at-ne10, else-at-gt0-via-else-at-gt0}
@@ -13,7 +9,8 @@ use Rattle.mime_examples.proofs.multipart.after_delimiter.Goals.{else-at-gt0-via
 -- What is stripped at the start of a line is what follows the delimiter there.
 at_line : (text rest delimiter : List ℕ) (Line : Type 0) (found : Option (Bor (List ℕ))) → rest ≡ text → Line
     → MatchOption found ((after : List ℕ) → rest ≢ delimiter ++ after) (λ after. rest ≡ delimiter ++ after.now)
-    → MatchOption found ((after : List ℕ) → Line → text ≢ delimiter ++ after) (λ after. Line × (text ≡ delimiter ++ after.now))
+    → MatchOption found ((after : List ℕ) → Line
+    → text ≢ delimiter ++ after) (λ after. Line × (text ≡ delimiter ++ after.now))
 at_line text rest delimiter Line None same line none = λ after _ is. none after (same ∙ is)
 at_line text rest delimiter Line (Some after) same line is = (line, sym same ∙ is)
 

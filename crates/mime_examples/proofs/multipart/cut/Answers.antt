@@ -1,7 +1,6 @@
 -- The delimiter that was found is the first, and if none was, there is none.
 use Rattle.std.proofs.Common.{◌≤◌, ◌++◌, take, length, sym, subst, arith, ⊎_elim}
-use Rattle.std.proofs.lemmas.Bool.{cases_lt}
-use Rattle.std.proofs.lemmas.List.{length-take-le}
+use Rattle.std.proofs.{lemmas.Bool.cases_lt, lemmas.List.length-take-le}
 use Rattle.mime_examples.specs.Multipart.{EndsLine}
 use Rattle.mime_examples.proofs.Places.{taken, dropped, begins_inside, divided}
 use Rattle.mime_examples.proofs.multipart.cut.Goals as goal

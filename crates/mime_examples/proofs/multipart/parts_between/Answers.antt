@@ -1,10 +1,7 @@
 -- The parts so far and those after them are the body's.
 use Rattle.std.proofs.Common.{rules, ◌≡◌, ◌++◌, ◌∷◌, [], ◌⊎◌, inl, inr, ℕ, List, Bool, Bor, true, false, map, drop, nat_eq, append-nil, sym, ap, subst, refl, codes}
-use Rattle.std.specs.List.{starts_with}
-use Rattle.std.specs.Vec.{vec_items}
-use Rattle.std.proofs.lemmas.Bool.{true≢false}
-use Rattle.std.proofs.lemmas.Bool.Decides.{Decides-eqb}
-use Rattle.std.proofs.lemmas.Slice.Eq.{starts_is}
+use Rattle.std.specs.{List.starts_with, Vec.vec_items}
+use Rattle.std.proofs.{lemmas.Bool.true≢false, lemmas.Bool.Decides.Decides-eqb, lemmas.Slice.Eq.starts_is}
 use Rattle.mime_examples.specs.Multipart.{Closes, IsCutOff, AreParts, closed, cut_off, a_part, IsBody, no_delimiter, after_preamble}
 use Rattle.mime_examples.proofs.multipart.parts_between.Goals as goal
 
@@ -15,7 +12,8 @@ added [] part more = refl
 added (first ∷ parts) part more = ap (λ it. first.now ∷ it) (added parts part more)
 
 -- After the last part a delimiter closes the body, or the body is cut off.
-ended : (delimiter left : List ℕ) (closes : Bool) → closes ≡ starts_with nat_eq left (codes "--") → Closes left ⊎ IsCutOff delimiter left
+ended : (delimiter left : List ℕ) (closes : Bool) → closes ≡ starts_with nat_eq left (codes "--")
+    → Closes left ⊎ IsCutOff delimiter left
     → AreParts delimiter left [] closes
 ended delimiter left true is end = closed left (drop 2 left, (starts_is Decides-eqb left (codes "--") true is).0 refl)
 ended delimiter left false is (inl closes) =

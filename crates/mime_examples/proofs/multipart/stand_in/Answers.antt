@@ -12,7 +12,8 @@ returns-then-starts_with-clause-stand c = λ _.
 pub loop-at-preserved : goal.loop-at-preserved
 loop-at-preserved c = λ at less after.
     below_more (λ at. (after : List ℕ) → drop at c.args.part.now ≢ c.args.bytes.now ++ after) c.loop-at.at c.loop-at.invariant
-    (λ after is. true≢false (sym ((from_place c.args.part.now c.args.bytes.now c.loop-at.at _ c.if-starts_with.ensures.value).1 after is)))
+    (λ after is. true≢false (sym ((from_place c.args.part.now c.args.bytes.now c.loop-at.at _ c.if-starts_with.ensures.value).1 after
+    is)))
     at less after
 
 pub returns-clause-none : goal.returns-clause-none

@@ -1,8 +1,6 @@
 -- The name, the colon and what follows it.
 use Rattle.std.proofs.Common.{rules, ◌≡◌, ◌∙◌, ◌-◌, ◌++◌, Some, take, drop, length, sym, codes}
-use Rattle.std.proofs.lemmas.Bool.Decides.{Decides-eqb}
-use Rattle.std.proofs.lemmas.List.{take_rest}
-use Rattle.std.proofs.lemmas.Slice.Eq.{strip_prefix_is}
+use Rattle.std.proofs.{lemmas.Bool.Decides.Decides-eqb, lemmas.List.take_rest, lemmas.Slice.Eq.strip_prefix_is}
 use Rattle.mime.specs.Values.{lowered}
 use Rattle.mime_examples.proofs.Places.{divided}
 use Rattle.mime_examples.proofs.multipart.value_in.Goals as goal

@@ -1,11 +1,7 @@
 -- The end of the last line, if there is one.
 use Rattle.std.proofs.Common.{◌≡◌, ◌≢◌, ◌∙◌, ◌<◌, ◌-◌, ◌++◌, ◌∷◌, [], ℕ, suc, List, Bor, Option, Some, None, unwrap_or, append_assoc, take, length, sym, ap, subst, codes, arith}
 use Rattle.std.specs.Prelude.{MatchOption, slice_get}
-use Rattle.std.proofs.Math.ListN.{drop_of_length-le}
-use Rattle.std.proofs.Math.Seq.{drop-cons}
-use Rattle.std.proofs.lemmas.Bool.Decides.{Decides-eqb}
-use Rattle.std.proofs.lemmas.Option.{get_or_from_slice_get}
-use Rattle.std.proofs.lemmas.Slice.Eq.{strip_suffix_is}
+use Rattle.std.proofs.{Math.ListN.drop_of_length-le, Math.Seq.drop-cons, lemmas.Bool.Decides.Decides-eqb, lemmas.Option.get_or_from_slice_get, lemmas.Slice.Eq.strip_suffix_is}
 use Rattle.mime_examples.specs.Multipart.{EndsLine, IsPart, no_line, with_return, without_return}
 use Rattle.mime_examples.proofs.Places.{divided}
 use Rattle.mime_examples.proofs.multipart.without_end.Goals as goal
@@ -21,7 +17,8 @@ before_feed before part (Some line) is found =
     subst (λ text. IsPart text line.now) (sym both) (with_return line.now)
 
 -- Bytes that end with a line feed are others and it.
-last_feed : (text : List ℕ) → 0 < length text → slice_get text (length text - 1) ≡ Some 10 → text ≡ take (length text - 1) text ++ (10 ∷ [])
+last_feed : (text : List ℕ) → 0 < length text → slice_get text (length text - 1) ≡ Some 10
+    → text ≡ take (length text - 1) text ++ (10 ∷ [])
 last_feed text some is =
     let at = length text - 1 in
     let end = drop_of_length-le text {i = suc at} (omega arith) in

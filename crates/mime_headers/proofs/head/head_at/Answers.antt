@@ -9,7 +9,8 @@ both_before head own [] = refl
 both_before head own (rest ∷ rests) = ap₂ (λ one more. one ∷ more) (sym (append_assoc head own rest)) (both_before head own rests)
 
 -- A head goes on with what its next line adds.
-next_line : (cut : Bool) (mark : List ℕ) (head own : List (List ℕ)) (whole : List (List (List ℕ))) (lines : List (Bor (List ℕ))) (i : ℕ)
+next_line : (cut : Bool) (mark : List ℕ) (head own : List (List ℕ)) (whole : List (List (List ℕ)))
+    (lines : List (Bor (List ℕ))) (i : ℕ)
     (line : Bor (List ℕ)) → i < length lines → is_end (length (trimmed mark) == 0) mark (get_or lines i line).now ≡ false
     → own_lines mark (get_or lines i line).now ≡ own
     → map (λ rest. head ++ rest) (rest_of cut mark (map (λ line. line.now) (drop i lines))) ≡ whole

@@ -4,7 +4,8 @@ use Rattle.mime_headers.proofs.offers.read_offers.Goals as goal
 
 -- a word, and those that are taken after it
 next_word : {offers : List MediaType} {all : Result (List MediaType) (String Global × FieldError)} (n m : ℕ) (word : String Global)
-    (words rest : List (String Global)) → m + 1 ≡ n → words ≡ word ∷ rest → AreOffers (string_bytes word ∷ map string_bytes (take m rest)) offers all
+    (words rest : List (String Global)) → m + 1 ≡ n → words ≡ word ∷ rest
+    → AreOffers (string_bytes word ∷ map string_bytes (take m rest)) offers all
     → AreOffers (map string_bytes (take n words)) offers all
 next_word n m word words rest len is are =
     let next : n ≡ suc m = sym len ∙ omega arith in

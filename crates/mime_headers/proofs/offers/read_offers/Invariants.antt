@@ -5,7 +5,8 @@ use Rattle.mime_headers.proofs.offers.read_offers.Given as goal
 abbrev pub invariant-loop-word : goal.invariant-loop-word
 invariant-loop-word l =
     (all : Result (List MediaType) (String Global × FieldError))
-    → AreOffers (map string_bytes (take (into_iter_len l.arguments) (into_iter_items l.arguments))) (map (λ offer. offer.media) (vec_items l.offers)) all
+    → AreOffers (map string_bytes (take (into_iter_len l.arguments) (into_iter_items l.arguments)))
+    (map (λ offer. offer.media) (vec_items l.offers)) all
     → AreOffers (map string_bytes (drop 1 (take (into_iter_len l.fn.arguments) (into_iter_items l.fn.arguments)))) [] all
 
 abbrev pub decreases-loop-word : goal.decreases-loop-word

@@ -13,7 +13,8 @@ returns c =
     let rows = rw c.deref.ensures.value at c.in_ok-ranking.ensures in
     let best = rw c.deref-2.ensures.value at c.in_ok-is_acceptable.ensures in
     let text : vec_items c.push_best.new.text
-    ≡ read ++ (empty_row (vec_items c.args.text.now) read ++ (offer_rows (codes "offer ") ranges offers ranking ++ (best_row offers ranking).0)) =
+    ≡ read ++ (empty_row (vec_items c.args.text.now) read
+    ++ (offer_rows (codes "offer ") ranges offers ranking ++ (best_row offers ranking).0)) =
     simp (best.rows, rows.rows, empty, append_assoc) in (
       λ none. absurd (omega (arith, some, none, length-map c.args.lines.now vec_items)),
       λ _. record {

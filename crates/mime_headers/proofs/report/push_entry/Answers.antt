@@ -8,8 +8,10 @@ returns-in_ok-push c =
     let read = rw c.in-Some.is at c.in_ok-range.ensures in
     let took = ap (map (λ range. range.media)) c.in_ok-push.ensures.items
     ∙ map-append (λ range. range.media) (vec_items c.args.ranges.now) (c.in-Some.range ∷ []) in
-    let text = rw read.1 at c.in_ok-push_range.ensures in
-    (λ none. absurd (omega (arith, some, none)), λ _. (Ok c.in-Some.range.media, read.0, ap₂ (λ text ranges. (text, ranges)) text took))
+    let text = rw read.1 at c.in_ok-push_range.ensures in (
+      λ none. absurd (omega (arith, some, none)),
+      λ _. (Ok c.in-Some.range.media, read.0, ap₂ (λ text ranges. (text, ranges)) text took),
+    )
 
 pub returns-in_default : goal.returns-in_default
 returns-in_default c =

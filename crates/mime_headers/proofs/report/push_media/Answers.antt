@@ -20,5 +20,15 @@ returns c =
     let bound : HasBoundary media (option_map (λ bytes. bytes.now) c.as_deref.result) = search rules in (
       _,
       bound,
-      simp (c.in_ok-push_if-4.ensures, params, c.in_ok-push_if-3.ensures, c.in_ok-push_if-2.ensures, c.in_ok-push_if.ensures, kept, essence, suffix, append_assoc),
+      simp (
+        c.in_ok-push_if-4.ensures,
+        params,
+        c.in_ok-push_if-3.ensures,
+        c.in_ok-push_if-2.ensures,
+        c.in_ok-push_if.ensures,
+        kept,
+        essence,
+        suffix,
+        append_assoc,
+      ),
     )

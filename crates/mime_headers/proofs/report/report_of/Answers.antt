@@ -4,14 +4,17 @@ use Rattle.mime_headers.proofs.Rows.{folds-next}
 use Rattle.mime_headers.proofs.report.report_of.Goals as goal
 
 -- Without a head there is an empty report, or none if the input is cut off.
-no_head : (offers : List MediaType) (cut : Bool) (heads : Bool → List (List (List ℕ))) (none : Vec ℕ Global × Verdict) → heads cut ≡ []
-    → vec_items none.0 ≡ [] → none.1 ≡ Verdict.NoHead → MatchOption (then_some (not cut) none) ((cut ≡ true) × (heads true ≡ []))
+no_head : (offers : List MediaType) (cut : Bool) (heads : Bool → List (List (List ℕ))) (none : Vec ℕ Global × Verdict)
+    → heads cut ≡ []
+    → vec_items none.0 ≡ [] → none.1 ≡ Verdict.NoHead
+    → MatchOption (then_some (not cut) none) ((cut ≡ true) × (heads true ≡ []))
     (λ answer. IsReport offers cut (heads cut) (vec_items answer.0) answer.1)
 no_head offers true heads none is empty verdict = (refl, is)
 no_head offers false heads none is empty verdict = rw is (refl, empty, verdict)
 
 -- A report on some heads is a report.
-on_heads : (offers : List MediaType) (cut : Bool) (heads : List (List (List ℕ))) (text : List ℕ) (verdict : Verdict) → 0 < length heads
+on_heads : (offers : List MediaType) (cut : Bool) (heads : List (List (List ℕ))) (text : List ℕ) (verdict : Verdict)
+    → 0 < length heads
     → IsReportOn offers cut heads text verdict → IsReport offers cut heads text verdict
 on_heads offers cut [] text verdict some is = absurd (omega (arith, some))
 on_heads offers cut (head ∷ heads) text verdict some is = is

@@ -1,9 +1,7 @@
 -- The pieces that are written make the whole text.
 use Rattle.std.proofs.Common.{◌≡◌, List, [], ◌∷◌, ◌++◌, ℕ, sym, ap, ◌∙◌, subst, codes, Some, append-nil, append_assoc}
-use Rattle.std.specs.List.{FoldsTo, concat}
+use Rattle.std.specs.{List.FoldsTo, List.concat, Fmt.InlineText.inline_text, Fmt.InlineText.IsIntact, Fmt.InlineText.AppendsIfIntact, declared.fmt.InlineText.InlineText}
 use Rattle.std.specs.Fmt.{WritesInCalls, WritesText, ◌++?◌, decimal}
-use Rattle.std.specs.Fmt.InlineText.{inline_text, IsIntact, AppendsIfIntact}
-use Rattle.std.specs.declared.fmt.InlineText.{InlineText}
 use Rattle.mime.specs.Printed.{token_text as printed_token}
 use Rattle.mime.proofs.scan.fault.token_text.Goals as goal
 

@@ -1,10 +1,7 @@
 -- A byte more of the token is passed, which may be a plus.
 use Rattle.std.proofs.Common.{◌+◌, arith, sym, ◌∙◌, subst, ℕ, ◌≤◌}
-use Rattle.mime.specs.Inner.Remaining.{reader_at}
-use Rattle.mime.specs.Inner.Scanning.{PassesPluses}
-use Rattle.mime.proofs.ScanLemmas.Passing.{gives_at}
-use Rattle.mime.proofs.ScanLemmas.Pluses.{pluses_none, pluses_plus, pluses_other}
-use Rattle.mime.proofs.scan.reader.end_and_last_plus.Goals.{then-byte-eq43, else-byte-eq43+else-not-is_token}
+use Rattle.mime.specs.{Inner.Remaining.reader_at, Inner.Scanning.PassesPluses}
+use Rattle.mime.proofs.{ScanLemmas.Passing.gives_at, ScanLemmas.Pluses.pluses_none, ScanLemmas.Pluses.pluses_plus, ScanLemmas.Pluses.pluses_other, scan.reader.end_and_last_plus.Goals.then-byte-eq43, scan.reader.end_and_last_plus.Goals.else-byte-eq43+else-not-is_token}
 use Rattle.mime.proofs.scan.reader.end_and_last_plus.Goals as goal
 
 pub loop-at-init : goal.loop-at-init
@@ -21,7 +18,8 @@ loop-at-preserved c =
     let text = c.args.text.now in
     let at = c.loop-at.at in
     let first : c.args.from ≤ at = omega (arith, (so_far.passes 0).passing.given.counted) in
-    let Passes : ℕ → ℕ → Type 0 = λ before count. PassesPluses (reader_at text c.args.from before) (reader_at text (at + 1) before) count in
+    let Passes : ℕ → ℕ → Type 0 = λ before count. PassesPluses (reader_at text c.args.from before)
+    (reader_at text (at + 1) before) count in
     record {
       within = omega (arith, c.loop-at-test.true);
       order = elim c.if-byte-eq43.branch [

@@ -1,7 +1,6 @@
 -- The bytes so far follow the plus, and the last plus of all of them is known.
 use Rattle.std.proofs.Common.{ℕ, ◌-◌, ◌≤◌, length}
-use Rattle.mime.specs.Inner.Remaining.{reader_at}
-use Rattle.mime.specs.Inner.Scanning.{PassesPluses}
+use Rattle.mime.specs.{Inner.Remaining.reader_at, Inner.Scanning.PassesPluses}
 use Rattle.mime.proofs.scan.reader.end_and_last_plus.Given as goal
 
 abbrev pub invariant-loop-at : goal.invariant-loop-at

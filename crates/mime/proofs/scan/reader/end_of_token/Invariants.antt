@@ -7,7 +7,8 @@ use Rattle.mime.proofs.scan.reader.end_of_token.Given as goal
 abbrev pub invariant-loop-at : goal.invariant-loop-at
 invariant-loop-at l = record {
   within : l.at ≤ length l.text;
-  same : l.at + prefix_len (token_bytes l.with_plus) (drop l.at l.text) ≡ l.from + prefix_len (token_bytes l.with_plus) (drop l.from l.text);
+  same : l.at + prefix_len (token_bytes l.with_plus) (drop l.at l.text)
+      ≡ l.from + prefix_len (token_bytes l.with_plus) (drop l.from l.text);
 }
 
 abbrev pub decreases-loop-at : goal.decreases-loop-at

@@ -1,9 +1,7 @@
 -- The scanner's verdict is what the call answers.
 use Rattle.std.proofs.Common.{◌-◌, sym, rules, inl, inr}
 use Rattle.mime.specs.Faults.{IsDeadAt}
-use Rattle.mime.proofs.ValueLemmas.Reading.{Explains-from_fault, rejected-from_fault, star-accepted}
-use Rattle.mime.proofs.GrammarLemmas.Viability.{rejected-at_dead}
-use Rattle.mime.proofs.value.Mime.from_str.Goals.{In-Stopped}
+use Rattle.mime.proofs.{ValueLemmas.Reading.Explains-from_fault, ValueLemmas.Reading.rejected-from_fault, ValueLemmas.Reading.star-accepted, GrammarLemmas.Viability.rejected-at_dead, value.Mime.from_str.Goals.In-Stopped}
 use Rattle.mime.proofs.value.Mime.from_str.Goals as goal
 
 pub returns-clause-explained : goal.returns-clause-explained
@@ -17,7 +15,7 @@ pub returns-in-Unfinished-clause-star : goal.returns-in-Unfinished-clause-star
 returns-in-Unfinished-clause-star c = λ star.
     absurd (rejected-from_fault _ _ (rw c.by_blocks-reader.ensures.left at c.in-Unfinished.ensures.judged.1) (star-accepted _ star))
 
--- where the scanner stopped
+-- The byte at which the scanner stopped is at fault.
 dead_at_stop : (c : In-Stopped) → IsDeadAt c.args.s.now (c.scan.new.reader.count - c.by_blocks-reader.result.count - 1) c.in-Stopped.byte
 dead_at_stop c =
     elim c.in-Stopped.is [

@@ -1,7 +1,6 @@
 -- An accepted text is kept, and reads as the value of what is kept.
 use Rattle.std.proofs.Common.{arith}
-use Rattle.mime.proofs.ValueLemmas.KeptText.{kept-from_positions, kept_reads}
-use Rattle.mime.proofs.ValueLemmas.Reading.{Explains-no_memory}
+use Rattle.mime.proofs.{ValueLemmas.KeptText.kept-from_positions, ValueLemmas.KeptText.kept_reads, ValueLemmas.Reading.Explains-no_memory}
 use Rattle.mime.proofs.value.Mime.of_accepted.Goals as goal
 
 pub of_kept-requires : goal.of_kept-requires

@@ -9,6 +9,7 @@ returns c =
     let len = c.args.len in
     let some : 16 ≤ len = c.if-len-lt-BLOCK.false in
     let left : len % 16 < 16 = omega arith in
-    let blocks = c.lowercase_range-2.ensures ∙ lowered_start-more bytes bytes 0 0 (len - len % 16) refl (omega arith) (omega arith) (omega (arith, c.requires)) in
+    let blocks = c.lowercase_range-2.ensures
+    ∙ lowered_start-more bytes bytes 0 0 (len - len % 16) refl (omega arith) (omega arith) (omega (arith, c.requires)) in
     c.lowercase_range-3.ensures
     ∙ lowered_start-more _ bytes (len - len % 16) (len - 16) len blocks (omega (arith, left)) (omega (arith, some)) c.requires

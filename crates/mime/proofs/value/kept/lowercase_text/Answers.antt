@@ -2,15 +2,9 @@
 use Rattle.std.proofs.Common.{◌≡◌, ◌+◌, ◌-◌, cond, drop, length, length-drop, refl, lit<, ap, sym, subst, ◌∙◌, arith, ◌++◌, take, append-nil}
 use Rattle.std.proofs.lemmas.List.{take_all, drop_all, take_rest}
 use borrow.Rule.Slice.PartMut.{put_mid}
-use Rattle.mime.specs.Inner.KeptText.{with_pairs_lowered}
-use Rattle.mime.proofs.BytesLemmas.{boundary_after}
+use Rattle.mime.specs.{Inner.KeptText.with_pairs_lowered, Bytes.equals_byte, Values.is_charset, Values.lowered, Inner.ComparedText.IsLoneCharset, Inner.Pairs.HasPairs, Inner.Pairs.without_spaces}
+use Rattle.mime.proofs.{BytesLemmas.boundary_after, ValueLemmas.LastPair.pairs-after, ValueLemmas.LastPair.lowered_last, ValueLemmas.LastPair.lowered_len, ValueLemmas.LastPair.lone_charset-text, ValueLemmas.LastPair.end_within, ValueLemmas.LoweredTo.IsLoweredTo, ValueLemmas.LoweredTo.lowered_to-none, ValueLemmas.LoweredTo.lowered_to-more, ValueLemmas.LoweredTo.lowered_to-last, ValueLemmas.LoweredTo.lowered_to-sizes, ValueLemmas.LoweredTo.low_within}
 use Rattle.mime_search.specs.Rests.{before_byte, after_byte}
-use Rattle.mime.specs.Bytes.{equals_byte}
-use Rattle.mime.specs.Values.{is_charset, lowered}
-use Rattle.mime.specs.Inner.ComparedText.{IsLoneCharset}
-use Rattle.mime.specs.Inner.Pairs.{HasPairs, without_spaces}
-use Rattle.mime.proofs.ValueLemmas.LastPair.{pairs-after, lowered_last, lowered_len, lone_charset-text, end_within}
-use Rattle.mime.proofs.ValueLemmas.LoweredTo.{IsLoweredTo, lowered_to-none, lowered_to-more, lowered_to-last, lowered_to-sizes, low_within}
 use Rattle.mime.proofs.value.kept.lowercase_text.Goals as goal
 
 pub of-left-requires : goal.of-left-requires

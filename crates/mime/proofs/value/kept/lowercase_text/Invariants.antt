@@ -1,7 +1,6 @@
 -- The pairs so far are lowercased, and the list that is left ends the bytes.
 use Rattle.std.proofs.Common.{◌+◌, ◌-◌, ◌≤◌}
-use Rattle.mime.specs.Inner.KeptText.{with_pairs_lowered}
-use Rattle.mime.specs.Inner.Pairs.{HasPairs}
+use Rattle.mime.specs.{Inner.KeptText.with_pairs_lowered, Inner.Pairs.HasPairs}
 use Rattle.mime.proofs.ValueLemmas.LoweredTo.{IsLoweredTo}
 use Rattle.mime.proofs.value.kept.lowercase_text.Given as goal
 

@@ -10,7 +10,14 @@ pub returns-then-size-bytes-2-clause-other : goal.returns-then-size-bytes-2-clau
 returns-then-size-bytes-2-clause-other c = λ _ is.
     let body = c.args.list.now in
     let bytes = c.as_bytes-bytes.ensures.value ∙ c.text.ensures in
-    omega (arith, is, c.if-size-bytes.false, c.if-size-bytes-2.true, ap length bytes, prefix_len-le-length (λ b. not (b == equals_byte)) body)
+    omega (
+      arith,
+      is,
+      c.if-size-bytes.false,
+      c.if-size-bytes-2.true,
+      ap length bytes,
+      prefix_len-le-length (λ b. not (b == equals_byte)) body,
+    )
 
 pub returns-then-bytes-size-ne61-clause-other : goal.returns-then-bytes-size-ne61-clause-other
 returns-then-bytes-size-ne61-clause-other c = λ _.

@@ -15,10 +15,12 @@ after-requires-then-bytes-gt32-2 c =
     let list = c.args.list.now in
     let bytes = c.as_bytes-bytes.ensures.value ∙ c.text.ensures in
     let space : get_or list 0 0 ≡ 32 = subst (λ t. get_or t 0 0 ≡ 32) bytes c.if-bytes-eq32.true in
-    IsCharBoundary-after_ascii list 0 (subst IsUtf8 c.text.ensures c.text.utf8) (omega (arith, c.if-bytes-gt1.true, ap length bytes)) (omega (arith, space))
+    IsCharBoundary-after_ascii list 0 (subst IsUtf8 c.text.ensures c.text.utf8) (omega (arith, c.if-bytes-gt1.true, ap length bytes))
+    (omega (arith, space))
 
 pub after-requires-2 : goal.after-requires-2
 after-requires-2 c =
     let list = c.args.list.now in
     let bytes = c.as_bytes-bytes.ensures.value ∙ c.text.ensures in
-    subst (IsCharBoundary list) (sym (c.count_spaces.ensures ∙ ap leading_spaces bytes)) (spaces_border list (subst IsUtf8 c.text.ensures c.text.utf8))
+    subst (IsCharBoundary list) (sym (c.count_spaces.ensures ∙ ap leading_spaces bytes))
+    (spaces_border list (subst IsUtf8 c.text.ensures c.text.utf8))

@@ -2,8 +2,7 @@
 use Rattle.std.proofs.Common.{length, take, ap, sym, ◌≡◌, ◌∙◌}
 use Rattle.mime.specs.Values.{lowered}
 use Rattle.mime_search.proofs.IgnoringCase.{lowered-take}
-use Rattle.mime.proofs.ValueLemmas.KeptText.{kept-in_part}
-use Rattle.mime.proofs.ValueLemmas.Utf8.{low-in_part}
+use Rattle.mime.proofs.{ValueLemmas.KeptText.kept-in_part, ValueLemmas.Utf8.low-in_part}
 use Rattle.mime.proofs.value.short.lowercase_pairs.Goals as goal
 
 pub returns-else-has_capital-clause-lowered : goal.returns-else-has_capital-clause-lowered

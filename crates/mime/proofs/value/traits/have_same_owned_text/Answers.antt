@@ -1,11 +1,8 @@
 -- One text is read as one value.
 use Rattle.std.proofs.Common.{sym, ap, ◌∙◌}
 use Rattle.std.specs.Cmp.Lexicographic.{same_text}
-use Rattle.mime.specs.Inner.KeptBytes.{bytes_of}
-use Rattle.mime.specs.Inner.KeptPlaces.{positions_at}
-use Rattle.mime.specs.Inner.KeptText.{media_of}
-use Rattle.mime.proofs.ValueLemmas.KeptText.{reads-from_kept}
-use Rattle.mime.proofs.ValueLemmas.Parts.{same_from_text}
+use Rattle.mime.specs.{Inner.KeptBytes.bytes_of, Inner.KeptPlaces.positions_at, Inner.KeptText.media_of}
+use Rattle.mime.proofs.{ValueLemmas.KeptText.reads-from_kept, ValueLemmas.Parts.same_from_text}
 use Rattle.mime.proofs.value.traits.have_same_owned_text.Goals as goal
 
 pub returns-in-Owned-text : goal.returns-in-Owned-text

@@ -2,11 +2,8 @@
 use Rattle.std.proofs.Common.{ℕ, Option, None, Some, refl, sym, ap, ◌∙◌, ◌≡◌, false, true≢false}
 use Rattle.std.specs.Prelude.{is_some, not}
 use Rattle.std.specs.Cmp.Lexicographic.{same_text}
-use Rattle.mime.specs.Inner.KeptBytes.{bytes_of}
-use Rattle.mime.specs.Inner.KeptText.{media_of}
-use Rattle.mime.specs.Inner.KeptPlaces.{positions_at}
-use Rattle.mime.proofs.ValueLemmas.KeptText.{reads-from_kept}
-use Rattle.mime.proofs.ValueLemmas.Parts.{same_from_text}
+use Rattle.mime.specs.{Inner.KeptBytes.bytes_of, Inner.KeptText.media_of, Inner.KeptPlaces.positions_at}
+use Rattle.mime.proofs.{ValueLemmas.KeptText.reads-from_kept, ValueLemmas.Parts.same_from_text}
 use Rattle.mime.proofs.value.traits.have_same_text.Goals as goal
 
 -- what isn't some is none
@@ -15,7 +12,8 @@ none None is = refl
 none (Some at) is = absurd (true≢false is)
 
 pub returns-clause-same : goal.returns-clause-same
-returns-clause-same c = λ is. same_from_text _ _ c.args.first.now.media c.args.second.now.media c.as_str.ensures.reads c.as_str-2.ensures.reads
+returns-clause-same c = λ is. same_from_text _ _ c.args.first.now.media c.args.second.now.media c.as_str.ensures.reads
+    c.as_str-2.ensures.reads
     (same_text _ _ (sym is ∙ c.eq.ensures))
 
 pub returns-in-Short-text-clause-same : goal.returns-in-Short-text-clause-same

@@ -1,9 +1,7 @@
 -- The two walks yield the lists of the values' pairs.
 use Rattle.std.proofs.Common.{rules, ◌≡◌, ◌∙◌, refl}
-use Rattle.std.proofs.lemmas.Iterator.Consumers.{YieldsList-from_first}
-use Rattle.std.proofs.lemmas.Iterator.Search.{cmp_from_yields_List}
-use Rattle.mime.specs.Comparison.{pair_cmp}
-use Rattle.mime.specs.Inner.Pairs.{pair_seen}
+use Rattle.std.proofs.{lemmas.Iterator.Consumers.YieldsList-from_first, lemmas.Iterator.Search.cmp_from_yields_List}
+use Rattle.mime.specs.{Comparison.pair_cmp, Inner.Pairs.pair_seen}
 use Rattle.mime.proofs.value.traits.order_pairs.Goals as goal
 
 pub returns : goal.returns

@@ -1,13 +1,9 @@
 -- The texts are the same, or the essences differ where they do.
 use Rattle.std.proofs.Common.{arith, length, length-take, nat_cmp, slice_index, subst, sym, ap, ap₂, refl, ◌∙◌, ◌<◌}
 use Rattle.std.specs.Prelude.{unwrap_or}
-use Rattle.mime.specs.Inner.KeptBytes.{bytes_of}
-use Rattle.mime.specs.Inner.KeptPlaces.{positions_at}
-use Rattle.mime.specs.Inner.KeptText.{media_of}
+use Rattle.mime.specs.{Inner.KeptBytes.bytes_of, Inner.KeptPlaces.positions_at, Inner.KeptText.media_of}
 use Rattle.mime_search.specs.Differences.{DifferAt}
-use Rattle.mime.proofs.ValueLemmas.KeptText.{reads-from_kept}
-use Rattle.mime.proofs.ValueLemmas.Parts.{same_from_text}
-use Rattle.mime.proofs.ValueLemmas.Traits.{equal-media, ordered_by_essence, differ_in_beginnings}
+use Rattle.mime.proofs.{ValueLemmas.KeptText.reads-from_kept, ValueLemmas.Parts.same_from_text, ValueLemmas.Traits.equal-media, ValueLemmas.Traits.ordered_by_essence, ValueLemmas.Traits.differ_in_beginnings}
 use Rattle.mime.proofs.value.traits.order_short.Goals as goal
 
 pub returns-in_default : goal.returns-in_default
@@ -43,6 +39,7 @@ returns-then-at-other_essence c =
     let differ : DifferAt first.essence second.essence 0 at =
     rw (← c.first.view_is, ← c.second.view_is)
     (differ_in_beginnings text others end other_end at (omega (arith, here, size)) (omega (arith, there, other_size))
-    (rw (is, other_is) (c.in-Some.ensures.differ (omega (arith, here, size, ap length is)) (omega (arith, there, other_size, ap length other_is))))) in
+    (rw (is, other_is) (c.in-Some.ensures.differ (omega (arith, here, size, ap length is))
+    (omega (arith, there, other_size, ap length other_is))))) in
     c.cmp.ensures ∙ ap₂ (λ x y. nat_cmp (slice_index x at) (slice_index y at)) essence other
     ∙ sym (ordered_by_essence first second at within also differ)

@@ -1,11 +1,8 @@
 -- The two walks yield the values' pairs.
 use Rattle.std.proofs.Common.{◌≡◌, ◌↔◌, ◌∙◌, ℕ, List, IsTrue, sym, ap}
-use Rattle.std.specs.Borrow.{Bor}
-use Rattle.std.specs.Cmp.Lexicographic.{same_text}
+use Rattle.std.specs.{Borrow.Bor, Cmp.Lexicographic.same_text, Str.bytes_eq}
 use Rattle.std.specs.Prelude.{◌&&◌}
-use Rattle.std.specs.Str.{bytes_eq}
-use Rattle.std.proofs.lemmas.Bool.Decides.{Decides-and}
-use Rattle.std.proofs.lemmas.Slice.Eq.{bytes_eq-Decides}
+use Rattle.std.proofs.{lemmas.Bool.Decides.Decides-and, lemmas.Slice.Eq.bytes_eq-Decides}
 use Rattle.mime.specs.Inner.Pairs.{pair_seen}
 use Rattle.mime.proofs.ValueLemmas.Traits.{same_items}
 use Rattle.mime.proofs.value.traits.same_parts.Goals as goal

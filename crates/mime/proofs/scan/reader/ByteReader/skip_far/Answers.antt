@@ -1,8 +1,6 @@
 -- The run that is found is skipped.
 use Rattle.std.proofs.Common.{subst, arith}
-use Rattle.mime.specs.Inner.ByteClasses.{token_bytes}
-use Rattle.mime.specs.Inner.Scanning.{Passing}
-use Rattle.mime.specs.Inner.Remaining.{reader_at}
+use Rattle.mime.specs.{Inner.ByteClasses.token_bytes, Inner.Scanning.Passing, Inner.Remaining.reader_at}
 use Rattle.mime.proofs.ScanLemmas.Passing.{passing_skip}
 use Rattle.mime.proofs.scan.reader.ByteReader.skip_far.Goals as goal
 

@@ -1,10 +1,7 @@
 -- The name of the first pair that is left is accepted, or the key finds what it does in the others.
 use Rattle.std.proofs.Common.{◌≡◌, ◌∙◌, ◌-◌, None, true, refl, sym, subst, arith, true≢false}
-use Rattle.mime.specs.Inner.Pairs.{PairCut, cut_of, pairs_within}
-use Rattle.mime.specs.Items.{items_of, IsFirstAccepted}
-use Rattle.mime.specs.Inner.KeptText.{AreLowPairs}
-use Rattle.mime.proofs.ValueLemmas.Parts.{first_value-found}
-use Rattle.mime.proofs.ValueLemmas.Pairs.{cut_of-part, cut_of-name, found-next, pairs_within-first}
+use Rattle.mime.specs.{Inner.Pairs.PairCut, Inner.Pairs.cut_of, Inner.Pairs.pairs_within, Items.items_of, Items.IsFirstAccepted, Inner.KeptText.AreLowPairs}
+use Rattle.mime.proofs.{ValueLemmas.Parts.first_value-found, ValueLemmas.Pairs.cut_of-part, ValueLemmas.Pairs.cut_of-name, ValueLemmas.Pairs.found-next, ValueLemmas.Pairs.pairs_within-first}
 use Rattle.mime.proofs.value.pairs.Pairs.first_accepted.Goals as goal
 
 pub returns-then-first : goal.returns-then-first
@@ -37,7 +34,8 @@ loop-left-preserved g c =
           (found-next (g.K.ParamKey.Accepts c.args.key.now) c.loop-left.left list found c.loop-left-test.true
           (λ accepted. true≢false (sym (first.accepted.1 (subst (λ n. g.K.ParamKey.Accepts c.args.key.now n true)
           (sym (cut_of-name list _ first.name)) accepted)) ∙ c.if-first.false))
-          (subst (λ back. IsFirstAccepted (g.K.ParamKey.Accepts c.args.key.now) (items_of (pairs_within (c.loop-left.left - 1) back)) found) rest is));
+          (subst (λ back. IsFirstAccepted (g.K.ParamKey.Accepts c.args.key.now)
+          (items_of (pairs_within (c.loop-left.left - 1) back)) found) rest is));
       low = subst (λ back. AreLowPairs (pairs_within (c.loop-left.left - 1) back)) (sym rest)
           (subst AreLowPairs (pairs_within-first c.loop-left.left list c.loop-left-test.true) c.loop-left.invariant.low).1;
     }

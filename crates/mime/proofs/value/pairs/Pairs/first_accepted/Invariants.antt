@@ -1,8 +1,6 @@
 -- What is left to look up decides the whole, and is in lowercase where case is ignored.
 use Rattle.std.proofs.Common.{ℕ, List, Bool, Option}
-use Rattle.mime.specs.Inner.KeptText.{AreLowPairs}
-use Rattle.mime.specs.Inner.Pairs.{pairs_within}
-use Rattle.mime.specs.Items.{items_of, IsFirstAccepted}
+use Rattle.mime.specs.{Inner.KeptText.AreLowPairs, Inner.Pairs.pairs_within, Items.items_of, Items.IsFirstAccepted}
 use Rattle.mime.proofs.value.pairs.Pairs.first_accepted.Given as goal
 
 abbrev pub invariant-loop-left : goal.invariant-loop-left

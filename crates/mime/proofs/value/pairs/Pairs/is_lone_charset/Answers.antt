@@ -2,8 +2,7 @@
 use Rattle.std.proofs.Common.{◌≡◌, ◌∙◌, sym, ap, subst, take}
 use Rattle.std.specs.Prelude.{codes}
 use Rattle.std.specs.Cmp.Lexicographic.{same_text}
-use Rattle.mime.specs.Inner.Pairs.{pairs_within}
-use Rattle.mime.specs.Inner.ComparedText.{IsLoneCharset}
+use Rattle.mime.specs.{Inner.Pairs.pairs_within, Inner.ComparedText.IsLoneCharset}
 use Rattle.mime.proofs.CompareLemmas.Parts.{lone_charset}
 use Rattle.mime.proofs.value.pairs.Pairs.is_lone_charset.Goals as goal
 

@@ -13,5 +13,6 @@ invariant_of-result c =
     let is = ap (take c.args.len) c.copy_from_slice.ensures.after ∙ take-take c.args.len 40 c.args.block.now c.requires.short in (
       c.requires.short,
       subst IsUtf8 (sym is) c.requires.utf8,
-      ap (drop c.args.len) c.copy_from_slice.ensures.after ∙ zeros-within c.args.block.now c.args.len 40 8 c.requires.short c.requires.zeros,
+      ap (drop c.args.len) c.copy_from_slice.ensures.after
+          ∙ zeros-within c.args.block.now c.args.len 40 8 c.requires.short c.requires.zeros,
     )

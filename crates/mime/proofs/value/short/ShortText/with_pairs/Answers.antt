@@ -1,9 +1,7 @@
 -- Lowercasing in part keeps UTF-8.
 use Rattle.std.proofs.Common.{sym, subst, ◌∙◌}
 use Rattle.std.specs.Str.{IsUtf8}
-use Rattle.mime.proofs.ValueLemmas.KeptText.{kept-in_part, pairs-from_positions, slice_get-semicolon}
-use Rattle.mime.proofs.ValueLemmas.Utf8.{IsUtf8-in_part}
-use Rattle.mime.proofs.ValueLemmas.Zeros.{zeros-after}
+use Rattle.mime.proofs.{ValueLemmas.KeptText.kept-in_part, ValueLemmas.KeptText.pairs-from_positions, ValueLemmas.KeptText.slice_get-semicolon, ValueLemmas.Utf8.IsUtf8-in_part, ValueLemmas.Zeros.zeros-after}
 use Rattle.mime.proofs.value.short.ShortText.with_pairs.Goals as goal
 
 pub of-requires-clause-utf8 : goal.of-requires-clause-utf8

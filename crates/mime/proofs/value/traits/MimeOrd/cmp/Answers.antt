@@ -2,8 +2,7 @@
 use Rattle.std.proofs.Common.{rules, ◌∙◌, ◌≡◌, ◌⊎◌, inl, inr, sym, ap₂, length, nat_cmp}
 use Rattle.std.specs.Cmp.Lexicographic.{slice_cmp}
 use Rattle.mime.specs.Comparison.{pair_cmp}
-use Rattle.mime.proofs.ValueLemmas.Traits.{equal-media, tells_answer, none-first}
-use Rattle.mime.proofs.value.traits.MimeOrd.cmp.Goals.{then-param_count-eq0-via-then-param_count-eq0, then-param_count-eq0-via-else-param_count-eq0+then-param_count-eq0-2}
+use Rattle.mime.proofs.{ValueLemmas.Traits.equal-media, ValueLemmas.Traits.tells_answer, ValueLemmas.Traits.none-first, value.traits.MimeOrd.cmp.Goals.then-param_count-eq0-via-then-param_count-eq0, value.traits.MimeOrd.cmp.Goals.then-param_count-eq0-via-else-param_count-eq0+then-param_count-eq0-2}
 use Rattle.mime.proofs.value.traits.MimeOrd.cmp.Goals as goal
 
 pub returns-in-Some-clause-order : goal.returns-in-Some-clause-order

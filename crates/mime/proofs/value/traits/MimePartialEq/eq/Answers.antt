@@ -30,7 +30,8 @@ returns-then-have_same_text-clause-computed c =
 pub returns-then-param_count-eq0-clause-same : goal.returns-then-param_count-eq0-clause-same
 returns-then-param_count-eq0-clause-same c = (
   λ is. absurd (true≢false (sym is)),
-  λ same. absurd (true≢false (sym (c.have_same_text.ensures.bare (sym c.param_count-3.ensures ∙ c.if-param_count-eq0.true) same) ∙ c.if-have_same_text.false)),
+  λ same. absurd (true≢false (sym (c.have_same_text.ensures.bare (sym c.param_count-3.ensures ∙ c.if-param_count-eq0.true) same)
+      ∙ c.if-have_same_text.false)),
 )
 
 pub returns-then-param_count-eq0-clause-computed : goal.returns-then-param_count-eq0-clause-computed
