@@ -1,75 +1,121 @@
 -- Heads, rows and verdicts for which each definition is true, and others for which it is false, so that a page that says less or more
 -- doesn't check.
-use Rattle.mime_headers.proofs.Common.{AreOffers, Bool, Err, FieldError, Global, Invalid, InvalidToken, IsHttpMediaType, IsRead, List, MediaType, MissingSubtype, None, NotUtf8, Ok, Some, String, Verdict, [], a_word, bad_word, bare_lines, begins, best_row, codes, continued, control_len, count_row, cut_row, decimal, false, fault_place, fault_rows, flat_map, goes_on, heads_of, is_cut, lacking_at, length, map, media_rows, missing, no_word, offer_rows, place_text, range_row, refl, shown, spaced_row, string_bytes, title_row, trimmed, true, values_of, verdict_of, weight_text, with_entry, without_controls, without_mark, ℕ, ◌++◌, ◌∷◌, ◌≡◌, ◌≢◌}
+use Rattle.mime_headers.proofs.Common.{AreOffers, Bool, Err, FieldError, Global, Invalid, InvalidToken, IsAnswer, IsHttpMediaType, IsRead, IsReport, List, MediaType, MissingSubtype, None, NotUtf8, Ok, Some, String, Verdict, a_word, bad_word, bare, bare_lines, begins, best_row, byte_text, codes, continued, control_len, count_row, cut_row, decider, empty_row, false, fault_place, fault_rows, filter, flat_map, goes_on, heads_of, is_cut, is_field, is_request_line, is_status_line, last_choice, length, lines_of, map, mark_of, media_rows, missing, no_word, offer_row, offer_rows, range_row, refl, shown, spaced_row, string_bytes, text_of, title_row, trimmed, true, values_of, verdict_of, weight_text, with_entry, without_controls, [], ℕ, ◌++◌, ◌∷◌, ◌≡◌, ◌≢◌, digits, field_error_text, row, numbered, lacks_text, Option, RankedOffer, decimal}
+use Rattle.mime.specs.Bytes.{is_token_byte}
+use Rattle.mime_headers.specs.{Head.is_code, Head.is_own, Head.is_start, Head.is_version, Report.is_plain}
 
--- white space before and after, which a form feed and a carriage return aren't; a mark with its space, alone, and no mark
-bare :
+-- ---- lines
+
+-- White space before and after is left out, which a form feed and a carriage return aren't. A line loses a carriage return at its end, and
+-- what is before its first `<` or `>` if it begins with another. An input loses a byte order mark and, if it is cut off, its last line.
+lines :
     (map trimmed (codes " \t a b\t " ∷ codes " \r " ∷ (12 ∷ codes " a ") ∷ []) ≡ codes "a b" ∷ codes "\r" ∷ (12 ∷ codes " a") ∷ [])
-    × (map without_mark (codes "> a" ∷ codes "<  a" ∷ codes ">" ∷ codes "a> b" ∷ codes " > a" ∷ [])
-    ≡ codes "a" ∷ codes " a" ∷ [] ∷ codes "a> b" ∷ codes " > a" ∷ [])
-bare = (refl, refl)
+    × (map bare (lines_of (codes "a<\r\n\ra\r> b<\n\ra< b\n\ra\na\r\r")) ≡ lines_of (codes "a<\n> b<\n< b\n\ra\na\r"))
+    × (map (bare_lines false) ((239 ∷ 187 ∷ 191 ∷ codes "a\r\nb") ∷ (239 ∷ 187 ∷ codes "a\n") ∷ [])
+    ≡ lines_of (codes "a\nb") ∷ ((239 ∷ 187 ∷ codes "a") ∷ []) ∷ [])
+    × (map (bare_lines true) (codes "a\nb\n" ∷ codes "a\nb" ∷ []) ≡ (codes "a" ∷ []) ∷ (codes "a" ∷ []) ∷ [])
+lines = (refl, refl, refl, refl)
+
+-- A mark is white space, `> ` or `< `, or both. A line of its head begins with the mark, or is the mark without the space at its end.
+marks :
+    (map mark_of (lines_of (codes "a> b\n \ta\n> > a\n <  a\n>a\n>\n\r a\n")) ≡ lines_of (codes "\n \t\n> \n < \n\n\n\n"))
+    × (map text_of (lines_of (codes " a \n< a\n>\n")) ≡ lines_of (codes "a \na\n>\n"))
+    × (filter (is_own (codes "> ")) (lines_of (codes "> a\n> \n>\n< a\n > a\n\n>a\n")) ≡ lines_of (codes "> a\n> \n>\n"))
+    × (is_own [] (codes "a") ≡ true) × (is_own (codes "\t") [] ≡ false)
+unfolding is_own
+marks = (refl, refl, refl, refl, refl)
+
+-- Start lines are request lines and status lines. A field begins with a token and a colon.
+start_lines :
+    (filter is_version (lines_of (codes "HTTP/1.1\nHTTP/2\nhttp/2\nHTTP/a\nHTTP/1.\nHTTP/1.a\nHTTP/1 1\nHTTP/10\nHTTP/1.11\nHTTP/\nHTTP_2"))
+    ≡ lines_of (codes "HTTP/1.1\nHTTP/2"))
+    × (filter is_status_line (lines_of (codes "HTTP/1.1 200 O\nHTTP/2 200 \nHTTP/2 200\nHTTP/2 is.\nHTTP/2 2000\nHTTP/2 20a\nHTTP/2  200"))
+    ≡ lines_of (codes "HTTP/1.1 200 O\nHTTP/2 200 \nHTTP/2 200"))
+    × (filter is_request_line (lines_of (codes "GET / HTTP/2\nGET  HTTP/2\n / HTTP/2\nG:T / HTTP/2\nGET / HTTP/2 \nGET / b HTTP/2\nGET /"))
+    ≡ codes "GET / HTTP/2" ∷ [])
+    × (filter is_start (lines_of (codes " > GET / HTTP/2\n\tHTTP/2 200\na: b")) ≡ lines_of (codes " > GET / HTTP/2\n\tHTTP/2 200"))
+    × (filter is_field (lines_of (codes "a:\na b:\n:\na\na :")) ≡ codes "a:" ∷ [])
+unfolding is_code is_own is_start is_token_byte is_version
+start_lines = (refl, refl, refl, refl, refl)
 
 -- ---- heads
 
 -- the heads of bytes, with a bar after each line and a line feed after each head
-abbrev heads : Bool → List (List ℕ) → List (List ℕ)
-heads cut inputs = map (λ bytes. flat_map (λ head. flat_map (λ line. line ++ codes "|") head ++ codes "\n") (heads_of cut (bare_lines bytes))) inputs
+abbrev heads : Bool → List ℕ → List ℕ
+heads cut bytes = flat_map (λ head. flat_map (λ line. line ++ codes "|") head ++ codes "\n") (heads_of cut (bare_lines cut bytes))
 
--- a head ends with its first line that has nothing but a mark, or with the input, but not with white space, a form feed or a second
--- carriage return;
-first_heads :
-    heads false (codes "a: b\r\nc\r\n\r\nd: e" ∷ codes "> a:\n> \n< b:\n" ∷ codes "a:\n>\r\nb:" ∷ codes "\na:" ∷ codes "a:" ∷ []
-    ∷ (codes "a:\n \n\r\r\n> \t\n" ++ 12 ∷ codes "\nb: \r") ∷ [])
-    ≡ codes "a: b|c|\n" ∷ codes "a:|\n" ∷ codes "a:|\n" ∷ codes "\n" ∷ codes "a:|\n" ∷ codes "\n"
-    ∷ (codes "a:| |\r|\t|" ++ 12 ∷ codes "|b: |\n") ∷ []
-first_heads = refl
+-- What curl prints: 100, 103, 101 and redirects, a proxy's CONNECT, a refused connection, and a progress meter.
+of_curl :
+    (heads false (codes "* a:\n> PUT / HTTP/2\r\n> B: c\r\n> \r\n< HTTP/2 100\r\n} [2 bytes]\n* d: e\n< HTTP/2 200\r\n< F: g\r\n< \r\n< h")
+    ≡ codes "PUT / HTTP/2|B: c|\nHTTP/2 100|\nHTTP/2 200|F: g|\n")
+    × (heads false (codes "< HTTP/2 103 \r\n< B: c\r\n< HTTP/2 302 \r\n< d: e\r\n<\r\n* F: g\n> GET /a HTTP/2\n> H: i\n{ [1 bytes\nJ: k")
+    ≡ codes "HTTP/2 103 |B: c|\nHTTP/2 302 |d: e|\nGET /a HTTP/2|H: i|\n")
+    × (heads false (codes "> CONNECT a:1 HTTP/1.1\r\n> B: c\r\n> \r\n< HTTP/1.0 200 OK\r\n< \r\n* d\n> GET / HTTP/1.1\n> E: f\n> \n")
+    ≡ codes "CONNECT a:1 HTTP/1.1|B: c|\nHTTP/1.0 200 OK|\nGET / HTTP/1.1|E: f|\n")
+    × (heads false (codes "*   Trying 127.0.0.1:1...\n* connect to 127.0.0.1 port 1 failed: refused\n") ≡ [])
+    × (heads false (codes "> GET / HTTP/2\n> \n\r  0 --:-- 0< HTTP/2 200 \r\n\r100 --:--\n< a: b\n")
+    ≡ codes "GET / HTTP/2|\nHTTP/2 200 |a: b|\n")
+unfolding is_code is_own is_start is_token_byte is_version
+of_curl = (refl, refl, refl, refl, refl)
 
--- one that is indented loses two spaces of each line but the first, and ends before the next one; after an empty line others are passed over
--- until one that begins with `HTTP/`, or with two spaces and `HTTP/`, as one in a head may, too;
-next_heads :
-    heads false (codes "  http/1\n  a: b\n   c\n d\n \n  HTTP/2\n" ∷ codes " HTTP/1\n  a: b\n" ∷ codes "> a:\n>\n* b\n< HTTP/1.1 200\r\n<\n"
-    ∷ codes "a:\n\nb\n  HTTP/1.1 200\n  c:\n" ∷ codes "  HTTP/1.0 302\n  HTTP/1.1 200\n" ∷ codes "a:\nHTTP/1.1 200\n" ∷ codes "\nHTTP 1\n X\n HTTP/1" ∷ [])
-    ≡ codes "  http/1|a: b| c| d| |\n  HTTP/2|\n" ∷ codes " HTTP/1|  a: b|\n" ∷ codes "a:|\nHTTP/1.1 200|\n"
-    ∷ codes "a:|\n  HTTP/1.1 200|c:|\n" ∷ codes "  HTTP/1.0 302|\n  HTTP/1.1 200|\n" ∷ codes "a:|HTTP/1.1 200|\n" ∷ codes "\n" ∷ []
-next_heads = refl
+-- What wget prints with -S and with -d, heads that are indented, and bodies. A body has a head only if it has a start line.
+of_others :
+    (heads false (codes "--2026-- http://a/\n  HTTP/1.1 302 Found\n  A: b\nLocation: c\n  HTTP/1.1 200 OK\n  D: e\n   f\n g\n  h\n")
+    ≡ codes "HTTP/1.1 302 Found|A: b|\nHTTP/1.1 200 OK|D: e| f|\n")
+    × (heads false (codes "---request begin---\nGET / HTTP/1.1\r\nA: b\r\n\r\n---request end---\nC: d\nHTTP/1.1 200 OK\r\n\r\n200 OK\n")
+    ≡ codes "GET / HTTP/1.1|A: b|\nHTTP/1.1 200 OK|\n")
+    × (heads false (codes "\t> GET / HTTP/1.1\n\t> A: b\n\t>\n\t> C: d\n") ≡ codes "GET / HTTP/1.1|A: b|\n")
+    × (heads false (codes "HTTP/1.1 200 OK\na:\n\nHTTP/1.1 is older.\nHTTP/1.1 404 \n") ≡ codes "HTTP/1.1 200 OK|a:|\nHTTP/1.1 404 |\n")
+unfolding is_code is_own is_start is_token_byte is_version
+of_others = (refl, refl, refl, refl)
 
--- and in an input that is cut off a head counts only if something follows its end
+-- A head without a start line begins with the first field, before all start lines, and has one of the two fields: a mail, lines that grep
+-- finds, fields that are indented. Any other input without a start line has no head.
+pasted :
+    (heads false (codes "\n* a\nFrom: b\nCONTENT-TYPE: c/d\n \r\n\r\nAccept: e\n") ≡ codes "From: b|CONTENT-TYPE: c/d| |\n")
+    × (heads false (codes "> accept: a/b\n< Accept-Ranges: c\n> d: e\n") ≡ codes "accept: a/b|d: e|\n")
+    × (heads false (codes " Accept: a\n b\nc\n") ≡ codes "Accept: a|b|\n")
+    × (heads false (codes "Accept: a\nHTTP/2 200\nb\n") ≡ codes "Accept: a|\nHTTP/2 200|b|\n")
+    × (map (heads false) (codes "HTTP/2 200\n\nAccept: a\n" ∷ codes "From: b\n\nAccept: c\n" ∷ codes "a: b\nAccept : c\n" ∷ [] ∷ [])
+    ≡ codes "HTTP/2 200|\n" ∷ [] ∷ [] ∷ [] ∷ [])
+unfolding is_code is_own is_start is_token_byte is_version
+pasted = (refl, refl, refl, refl, refl)
+
+-- In an input that is cut off a head counts only if a line before the last ends it.
 cut_heads :
-    heads true (codes "a:\n\n" ∷ codes "a:\n\nb" ∷ codes "a:\n  HTTP/" ∷ codes "a:\n> " ∷ codes "\nHTTP/1\n\n" ∷ codes "\nHTTP/1\n\nb" ∷ [])
-    ≡ [] ∷ codes "a:|\n" ∷ codes "a:|\n" ∷ [] ∷ codes "\n" ∷ codes "\nHTTP/1|\n" ∷ []
-cut_heads = refl
+    (map (heads true) (codes "HTTP/2 200\n\n" ∷ codes "> GET / HTTP/2\n* a\n* b" ∷ codes "Accept: a\nb" ∷ []) ≡ [] ∷ [] ∷ [] ∷ [])
+    × (map (heads true) (codes "HTTP/2 200\n\na" ∷ codes "HTTP/2 200\nHTTP/2 201\na" ∷ codes " HTTP/2 200\na\nb" ∷ [])
+    ≡ codes "HTTP/2 200|\n" ∷ codes "HTTP/2 200|\n" ∷ codes "HTTP/2 200|\n" ∷ [])
+    × (heads true (codes "Accept: a\n\nb") ≡ codes "Accept: a|\n")
+unfolding is_code is_own is_start is_token_byte is_version
+cut_heads = (refl, refl, refl)
 
--- an input of one byte more than 1,048,576 is cut off
+-- An input of one byte more than 1,048,576 is cut off.
 cut_inputs : (bytes : List ℕ) → (length bytes ≡ 1048576 → is_cut bytes ≡ false) × (length bytes ≡ 1048577 → is_cut bytes ≡ true)
 cut_inputs bytes = (λ len. rw len refl, λ len. rw len refl)
 
 -- ---- fields
 
--- a name in any case, and others
-names :
-    map (begins (codes "accept:")) (codes "ACCEPT: a/b" ∷ codes "Accept : a/b" ∷ codes "Accept" ∷ codes "X-Accept: a/b" ∷ [])
-    ≡ true ∷ false ∷ false ∷ false ∷ []
-names = refl
-
--- a line that begins with white space goes on with the one before it; the values of a field are those of each of its lines, with what goes on
+-- A name may have any case. A line that begins with white space goes on with the one before it, whose value it joins.
 values :
-    (map goes_on (codes "\ta" ∷ codes "a b" ∷ [] ∷ (12 ∷ codes "a") ∷ codes "\ra" ∷ []) ≡ true ∷ false ∷ false ∷ false ∷ false ∷ [])
-    × (continued (codes "  b\t" ∷ codes "\tc d" ∷ codes "e" ∷ codes " f" ∷ []) ≡ codes " b c d") × (continued (codes " " ∷ codes " a" ∷ []) ≡ codes "  a")
-    × (values_of (codes "accept:") (codes "Accept: a/b, " ∷ codes "  c/d" ∷ codes "Host: e" ∷ codes " f" ∷ codes "accept:g/h" ∷ [])
-    ≡ codes "a/b, c/d" ∷ codes "g/h" ∷ [])
+    (filter (begins (codes "accept:")) (lines_of (codes "ACCEPT: a/b\nAccept : a/b\nAccept\nX-Accept: a/b")) ≡ codes "ACCEPT: a/b" ∷ [])
+    × (filter goes_on (codes "\ta" ∷ codes "a b" ∷ [] ∷ (12 ∷ codes "a") ∷ codes "\ra" ∷ []) ≡ codes "\ta" ∷ [])
+    × (map continued (lines_of (codes "  b\t\n\tc d\ne\n f") ∷ lines_of (codes " \n a") ∷ []) ≡ codes " b c d" ∷ codes "  a" ∷ [])
+    × (values_of (codes "accept:") (lines_of (codes "Accept: a/b, \n  c/d\nHost: e\n f\naccept:g/h")) ≡ lines_of (codes "a/b, c/d\ng/h"))
 values = (refl, refl, refl, refl)
 
 -- ---- rows
 
 -- a media type with a suffix and a parameter that has a quoted pair, the same without the parameter, and a range with a weight
 abbrev media : MediaType
-media = record {
-  essence = codes "a/b+c";
-  slash = 1;
-  plus = Some 3;
-  pairs = (codes "p", codes "x\\\"y") ∷ [];
-  kept = codes "a/b+c;p=\"x\\\"y\"";
-}
+media =
+    record {
+      essence = codes "a/b+c";
+      slash = 1;
+      plus = Some 3;
+      pairs = (codes "p", codes "x\\\"y") ∷ [];
+      kept = codes "a/b+c;p=\"x\\\"y\"";
+    }
 
 abbrev plain : MediaType
 plain = record media { pairs = []; kept = codes "a/b+c" }
@@ -77,92 +123,114 @@ plain = record media { pairs = []; kept = codes "a/b+c" }
 abbrev star : List ℕ → MediaType
 star q = record { essence = codes "*/*"; slash = 1; plus = None; pairs = (codes "q", q) ∷ []; kept = codes "*/*;q=" ++ q }
 
+-- A media type has a row for each part.
 rows_of_media :
     (media_rows media None ≡ codes "Content-Type a/b+c;p=\"x\\\"y\"\nessence a/b+c\nsuffix c\nparam p=x\"y\n")
     × (media_rows (star (codes "1")) (Some (codes "d")) ≡ codes "Content-Type */*;q=1\nessence */*\nparam q=1\nboundary d\n")
 rows_of_media = (refl, refl)
 
--- bytes that aren't printable ASCII; a fault at a byte, one at the end, and a comment, as mails have it
+-- Bytes that aren't printable ASCII have dots. A caret is under the byte at fault, which is named, or after the value.
 faults :
     (shown (97 ∷ 32 ∷ 126 ∷ 0 ∷ 9 ∷ 27 ∷ 127 ∷ 195 ∷ []) ≡ codes "a ~.....")
-    × (map (fault_place (codes "a/")) (Invalid (InvalidToken 2 98) ∷ Invalid MissingSubtype ∷ NotUtf8 1 ∷ Invalid (InvalidToken 1 40)
-    ∷ Invalid (InvalidToken 1 41) ∷ []) ≡ (2, []) ∷ (2, []) ∷ (1, []) ∷ (1, codes " (HTTP has no comments)") ∷ (1, []) ∷ [])
+    × (map (fault_place (codes "a/")) (Invalid (InvalidToken 1 98) ∷ Invalid MissingSubtype ∷ NotUtf8 1 ∷ []) ≡ 1 ∷ 2 ∷ 1 ∷ [])
+    × (map byte_text (99 ∷ 32 ∷ 9 ∷ 233 ∷ [])
+    ≡ (codes " c (" ++ (digits 16 true 99 ++ codes ")")) ∷ (codes " space (" ++ (digits 16 true 32 ++ codes ")"))
+    ∷ (codes " tab (" ++ (digits 16 true 9 ++ codes ")")) ∷ (codes " (" ++ (digits 16 true 233 ++ codes ")")) ∷ [])
+    × (byte_text 40 ≡ codes " ( (" ++ (digits 16 true 40 ++ codes "): HTTP has no comments"))
     × (fault_rows (codes "bad Content-Type ") (codes "a\tb/") (Invalid MissingSubtype)
     ≡ codes "bad Content-Type mime parse error: a subtype was missing behind the slash (/)\n    a.b/\n        ^\n")
-faults = (refl, refl, refl)
+    × (fault_rows (codes "bad Accept ") (codes "a c") (NotUtf8 1)
+    ≡ row (codes "bad Accept ") (field_error_text (NotUtf8 1)) ++ (codes "    a c\n     ^" ++ (byte_text 32 ++ codes "\n")))
+faults = (refl, refl, refl, refl, refl, refl)
 
--- a field that isn't there, and one that is; an input that is cut off; and the title of a head among many
+-- A field that isn't there has a row, `Accept` only if there are offers, and so have an empty `Accept`, an input that is cut off, the title
+-- of a head among many, and white space before a colon.
 rows_of_heads :
-    (missing None ≡ (codes "no Accept\n", codes "*/*" ∷ [])) × (missing (Some false) ≡ ([], []))
-    × (map count_row ([] ∷ ([] ∷ []) ∷ ([] ∷ [] ∷ []) ∷ []) ≡ codes "no Content-Type\n" ∷ [] ∷ codes "several Content-Type lines (HTTP allows one)\n" ∷ [])
-    × (cut_row true ≡ codes "not read after 1048576 bytes\n") × (cut_row false ≡ [])
-    × (title_row true (codes "* a" ∷ codes "GET /\t" ∷ codes "b: c" ∷ []) ≡ codes "head GET /.\n") × (title_row true [] ≡ codes "head \n")
-    × (title_row true (codes "  HTTP/1" ∷ []) ≡ codes "head HTTP/1\n") × (title_row false (codes "a" ∷ []) ≡ [])
-rows_of_heads = (refl, refl, refl, refl, refl, refl, refl, refl, refl)
+    (map (missing (plain ∷ [])) (None ∷ Some false ∷ []) ≡ (codes "no Accept\n", codes "*/*" ∷ []) ∷ ([], []) ∷ [])
+    × (missing [] None ≡ ([], []))
+    × (flat_map count_row ([] ∷ ([] ∷ []) ∷ ([] ∷ [] ∷ []) ∷ []) ≡ codes "no Content-Type\nseveral Content-Type lines (HTTP allows one)\n")
+    × (map (empty_row (codes "a")) (codes "a" ∷ codes "ab" ∷ []) ≡ codes "empty Accept\n" ∷ [] ∷ [])
+    × (map cut_row (true ∷ false ∷ []) ≡ codes "not read after 1048576 bytes\n" ∷ [] ∷ [])
+    × (map (title_row true) (lines_of (codes "GET /\t\nb: c") ∷ [] ∷ []) ≡ codes "head GET /.\n" ∷ codes "head \n" ∷ [])
+    × (title_row false (codes "a" ∷ []) ≡ [])
+    × (flat_map spaced_row (lines_of (codes "Content-Type \t: a\naccept :\nAccept: a\nAccept a:\nAccept \nX-Accept : a"))
+    ≡ codes "white space before the colon: Content-Type .: a\nwhite space before the colon: accept :\n")
+rows_of_heads = (refl, refl, refl, refl, refl, refl, refl, refl)
 
--- a line with white space before its colon, and others
-spaced :
-    map spaced_row (codes "Content-Type \t: a" ∷ codes "accept :" ∷ codes "Accept: a" ∷ codes "Accept a:" ∷ codes "Accept " ∷ codes "X-Accept : a" ∷ [])
-    ≡ codes "white space before the colon: Content-Type .: a\n" ∷ codes "white space before the colon: accept :\n" ∷ [] ∷ [] ∷ [] ∷ [] ∷ []
-spaced = refl
-
--- a control character of each kind has one dot, and others and the line feed stay
+-- A control character of each kind has one dot, also at the end of a text, and others and the line feed stay.
 controls :
-    (without_controls (97 ∷ 27 ∷ 10 ∷ 127 ∷ 194 ∷ 155 ∷ 51 ∷ 226 ∷ 128 ∷ 174 ∷ 226 ∷ 129 ∷ 166 ∷ 98 ∷ []) ≡ codes "a.\n..3..b")
-    × (map (λ bytes. control_len bytes) ((194 ∷ 127 ∷ []) ∷ (194 ∷ 160 ∷ []) ∷ (226 ∷ 128 ∷ 169 ∷ []) ∷ (226 ∷ 128 ∷ 175 ∷ []) ∷ (226 ∷ 129 ∷ 165 ∷ []) ∷ (226 ∷ 129 ∷ 170 ∷ []) ∷ (226 ∷ 128 ∷ []) ∷ [])
-    ≡ 0 ∷ 0 ∷ 0 ∷ 0 ∷ 0 ∷ 0 ∷ 0 ∷ [])
-controls = (refl, refl)
+    (without_controls (97 ∷ 27 ∷ 10 ∷ 127 ∷ 194 ∷ 155 ∷ 51 ∷ 226 ∷ 128 ∷ 174 ∷ 226 ∷ 129 ∷ 166 ∷ 216 ∷ 156 ∷ 98 ∷ []) ≡ codes "a.\n..3...b")
+    × (map (λ d. control_len (194 ∷ d ∷ [])) (127 ∷ 128 ∷ 159 ∷ 160 ∷ []) ≡ 0 ∷ 2 ∷ 2 ∷ 0 ∷ [])
+    × (map (λ d. control_len (216 ∷ d ∷ [])) (155 ∷ 156 ∷ 157 ∷ []) ≡ 0 ∷ 2 ∷ 0 ∷ [])
+    × (map (λ d. control_len (226 ∷ 128 ∷ d ∷ [])) (141 ∷ 142 ∷ 143 ∷ 144 ∷ 169 ∷ 170 ∷ 174 ∷ 175 ∷ [])
+    ≡ 0 ∷ 3 ∷ 3 ∷ 0 ∷ 0 ∷ 3 ∷ 3 ∷ 0 ∷ [])
+    × (map (λ d. control_len (226 ∷ 129 ∷ d ∷ [])) (165 ∷ 166 ∷ 169 ∷ 170 ∷ []) ≡ 0 ∷ 3 ∷ 3 ∷ 0 ∷ []) × (control_len (226 ∷ 128 ∷ []) ≡ 0)
+controls = (refl, refl, refl, refl, refl, refl)
 
 -- ---- offers
 
--- weights of three decimals, a range with a weight that is one, and one with another; what is read of an entry
+-- Weights have three decimals. A range has a remark if its `q` isn't a weight, or is in quotes. What is read of an entry is added.
 weights :
     (map weight_text (1000 ∷ 50 ∷ 7 ∷ []) ≡ codes "1.000" ∷ codes "0.050" ∷ codes "0.007" ∷ [])
-    × (map (λ q. range_row (star q)) (codes "0.5" ∷ codes ".5" ∷ [])
-    ≡ codes "Accept 0.500 */*;q=0.5\n" ∷ codes "Accept 0.500 */*;q=.5 (q is no weight)\n" ∷ [])
-    × (with_entry (codes "<", plain ∷ []) (codes "a") (Ok media) ≡ (codes "<" ++ range_row media, plain ∷ media ∷ []))
-    × (with_entry (codes "<", plain ∷ []) (codes "a") (Err (NotUtf8 0)) ≡ (codes "<" ++ fault_rows (codes "bad Accept ") (codes "a") (NotUtf8 0), plain ∷ []))
-weights = (refl, refl, refl, refl)
+    × (flat_map (λ q. range_row (codes "*/*;q=" ++ q) (star q)) (codes "0.5" ∷ codes ".5" ∷ [])
+    ≡ codes "Accept 0.500 */*;q=0.5\nAccept 0.500 */*;q=.5 (q isn't a weight in HTTP, counted as 0.500)\n")
+    × (range_row (codes "*/* ; q=\"1\"") (star (codes "1")) ≡ codes "Accept 1.000 */*;q=1 (q isn't a weight in HTTP, counted as 1.000)\n")
+    × (with_entry (codes "<", plain ∷ []) (codes "a") (Ok media) ≡ (codes "<" ++ range_row (codes "a") media, plain ∷ media ∷ []))
+    × (with_entry (codes "<", plain ∷ []) (codes "a") (Err (NotUtf8 0))
+    ≡ (codes "<" ++ fault_rows (codes "bad Accept ") (codes "a") (NotUtf8 0), plain ∷ []))
+unfolding is_plain
+weights = (refl, refl, refl, refl, refl)
 
--- the place of a range and its text, none, and none at that place; and the range that demands more, if the offer weighs nothing
-reasons :
-    (place_text (star (codes "1") ∷ plain ∷ []) (codes "<") (Some 1) (codes ">") [] ≡ codes "<" ++ (decimal 2 ++ codes " a/b+c>"))
-    × (place_text (plain ∷ []) (codes "<") None (codes ">") (codes "=") ≡ codes "=") × (place_text (plain ∷ []) (codes "<") (Some 1) (codes ">") (codes "=") ≡ [])
-    × (lacking_at (star (codes "1") ∷ media ∷ []) 0 plain ≡ Some 1) × (lacking_at (star (codes "1") ∷ media ∷ []) 1 plain ≡ None)
-    × (lacking_at (plain ∷ []) 0 media ≡ None)
-reasons = (refl, refl, refl, refl, refl, refl)
+-- a ranked offer
+abbrev ranked : ℕ → ℕ → Option ℕ → RankedOffer
+ranked offer weight range = record { offer = offer; weight = weight; range = range }
 
--- the rows of offers in the order of their ranking
+-- The rows of offers have the order of their ranking, the range that decides, and each that would but for a parameter.
 rows_of_offers :
-    offer_rows [] (plain ∷ star (codes "1") ∷ []) (record { offer = 1; weight = 0; range = None } ∷ record { offer = 0; weight = 1; range = None } ∷ record { offer = 2; weight = 1; range = None } ∷ [])
-    ≡ codes "offer 0.000 */*;q=1 by none\noffer 0.001 a/b+c by none\n"
-rows_of_offers = refl
+    (offer_rows (codes "offer ") [] (plain ∷ star (codes "1") ∷ []) (ranked 1 0 None ∷ ranked 0 1 None ∷ ranked 2 1 None ∷ [])
+    ≡ codes "offer 0.000 */*;q=1 by none\noffer 0.001 a/b+c by none\n")
+    × (offer_row (codes "offer ") (star (codes "1") ∷ media ∷ plain ∷ []) (ranked 0 1 (Some 0)) (Some plain)
+    ≡ codes "offer 0.001 a/b+c by " ++ (numbered (0, star (codes "1"))
+    ++ (flat_map (lacks_text plain (Some (star (codes "1")))) ((1, media) ∷ []) ++ codes "\n")))
+    × (lacks_text plain None (1, media) ≡ codes " (lacks p=x\"y of " ++ (numbered (1, media) ++ codes ")"))
+    × (lacks_text plain (Some plain) (1, star (codes "1")) ≡ []) × (numbered (1, plain) ≡ decimal 2 ++ codes " a/b+c")
+    × (decider (plain ∷ []) (ranked 0 1 (Some 1)) ≡ None)
+rows_of_offers = (refl, refl, refl, refl, refl, refl)
 
--- the best offer, none that is acceptable, and none at all; the verdict is that of all values and of the last choice
+-- The best offer has a row, and one that isn't acceptable another. The verdict is that of all values and of the last choice.
 verdicts :
     (best_row (plain ∷ media ∷ []) (record { offer = 1; weight = 1; range = Some 0 } ∷ []) ≡ (codes "best a/b+c;p=\"x\\\"y\"\n", true))
     × (best_row (media ∷ []) (record { offer = 0; weight = 0; range = None } ∷ []) ≡ (codes "406 Not Acceptable\n", false))
     × (best_row [] [] ≡ ([], true))
     × (map (verdict_of true) (Some true ∷ None ∷ Some false ∷ []) ≡ Verdict.Acceptable ∷ Verdict.Acceptable ∷ Verdict.NotAcceptable ∷ [])
     × (verdict_of false (Some true) ≡ Verdict.NotAcceptable)
-verdicts = (refl, refl, refl, refl, refl)
+    × (map (last_choice (Some true)) (None ∷ Some ([], false) ∷ []) ≡ Some true ∷ Some false ∷ [])
+verdicts = (refl, refl, refl, refl, refl, refl)
 
--- each word that is a media type names an offer, in its order
+-- Without a head the report is empty, and there is none if the input is cut off. Without a request a media type has no answer.
+no_heads :
+    IsReport [] false [] [] Verdict.NoHead × ((text : List ℕ) (verdict : Verdict) → ¬ (IsReport [] true [] text verdict))
+    × ((text : List ℕ) (verdict : Verdict) → IsReport [] false [] text verdict → (text ≡ []) × (verdict ≡ Verdict.NoHead))
+    × ((answer : List ℕ) → IsAnswer None plain answer → answer ≡ [])
+no_heads = ((refl, refl, refl), λ text verdict is. absurd (cc), λ text verdict is. (is.1, is.2), λ answer is. is)
+
+-- Each word that is a media type names an offer, in its order.
 offers_of_words : (word other : List ℕ) (offer second : MediaType) → IsRead word (Ok offer) → IsRead other (Ok second)
     → AreOffers (word ∷ other ∷ []) [] (Ok (offer ∷ second ∷ []))
 offers_of_words word other offer second reads also = a_word reads (a_word also no_word)
 
--- a word that isn't one has none
+-- A word that isn't a media type names no offer.
 no_offer_of_a_fault : (word : List ℕ) (words : List (List ℕ)) (offers all : List MediaType) → ¬ (IsHttpMediaType word)
     → ¬ (AreOffers (word ∷ words) offers (Ok all))
 no_offer_of_a_fault word words offers all isnt (a_word reads others) = isnt (_, reads.1)
 
--- but is refused by its fault, after one that is
+-- A word is rejected by its fault, after one that isn't.
 refused_words : (word : List ℕ) (offer : MediaType) (other : String Global) (error : FieldError) → IsRead word (Ok offer)
     → IsRead (string_bytes other) (Err error) → AreOffers (word ∷ string_bytes other ∷ []) [] (Err (other, error))
 refused_words word offer other error reads is = a_word reads (bad_word other error (λ _. is.1))
 
--- no words aren't refused, for want of memory neither
-some_refused : (words : List (List ℕ)) (offers : List MediaType) (error : String Global × FieldError) → AreOffers words offers (Err error) → words ≢ []
+-- If there is no word, none is rejected.
+some_refused : (words : List (List ℕ)) (offers : List MediaType) (error : String Global × FieldError) → AreOffers words offers (Err error)
+    → words ≢ []
 some_refused words offers error (a_word reads rest) none = absurd (cc)
 some_refused words offers error (bad_word word fault is) none = absurd (cc)

@@ -1,13 +1,13 @@
 -- Heads and offers have one report, with one verdict, so that a page that says less doesn't check: if offers have one ranking.
-use Rattle.mime_headers.proofs.Common.{AddsChoice, AddsEntry, AddsHead, AddsReading, AddsType, Bool, Err, FieldError, FoldsTo, HasBoundary, HttpExplains, Invalid, IsHttpMediaType, IsRanking, IsRead, IsReportOf, IsUtf8, List, MediaType, NoMemory, None, NotUtf8, Ok, Option, RankedOffer, Result, Some, State, Verdict, [], ap, ap₂, arith, media_rows, no_fault, one_http_fault, one_printed_text, only_cut, refl, sym, trimmed, utf8_valid_len-IsValidUpTo, with_entry, ℕ, ◌++◌, ◌∙◌, ◌∷◌, ◌≡◌, ◌≢◌}
+use Rattle.mime_headers.proofs.Common.{utf8_valid_len-IsValidUpTo, nat_lt, length, AddsChoice, AddsEntry, AddsHead, AddsReading, AddsType, Bool, Err, FieldError, FoldsTo, HasBoundary, HttpExplains, Invalid, IsHttpMediaType, IsRanking, IsRead, IsReportOf, IsUtf8, List, MediaType, NoMemory, None, NotUtf8, Ok, Option, RankedOffer, Result, Some, State, true, Verdict, [], ap, ap₂, arith, media_rows, no_fault, one_http_fault, one_printed_text, only_cut, refl, sym, trimmed, with_entry, ℕ, ◌++◌, ◌∙◌, ◌∷◌, ◌≡◌, ◌≢◌, IsAnswer, IsReport, bare_lines, codes, heads_of, is_cut, last_choice, offer_rows}
 
--- no value is both a media type and rejected
+-- No value is both a media type and rejected.
 not_both : (value : List ℕ) (error : FieldError) → IsUtf8 value → IsHttpMediaType value → error ≢ NoMemory → ¬ (HttpExplains value error)
 not_both value (NotUtf8 pos) utf8 is some why = why.0 utf8
 not_both value (Invalid fault) utf8 is some why = no_fault value fault is why.1
 not_both value NoMemory utf8 is some why = some refl
 
--- a rejected value has one error
+-- A rejected value has one error.
 one_error : (value : List ℕ) (error other : FieldError) → error ≢ NoMemory → other ≢ NoMemory → HttpExplains value error
     → HttpExplains value other → error ≡ other
 one_error value NoMemory other some more why too = absurd (some refl)
@@ -19,32 +19,21 @@ one_error value (Invalid fault) (NotUtf8 pos) some more why too = absurd (too.0 
 one_error value (Invalid fault) (Invalid other) some more why too =
     let only = (one_http_fault value (λ is. no_fault value fault is why.1)).2 in ap Invalid (only fault why.1 ∙ sym (only other too.1))
 
--- a value is read in one way
+-- A value is read in one way.
 one_reading : (value : List ℕ) (one other : Result MediaType FieldError) → IsRead value one → IsRead value other → one ≡ other
 one_reading value (Ok media) (Ok other) is too = ap Ok (one_printed_text value media other is.1 is.2 too.1 too.2)
 one_reading value (Ok media) (Err error) is why = absurd (not_both value error is.0 (media, is.1) why.0 why.1)
 one_reading value (Err error) (Ok media) why is = absurd (not_both value error is.0 (media, is.1) why.0 why.1)
 one_reading value (Err error) (Err other) why too = ap Err (one_error value error other why.0 too.0 why.1 too.1)
 
--- a media type has one boundary or none
+-- A media type has one boundary or none.
 one_boundary : (media : MediaType) (one other : Option (List ℕ)) → HasBoundary media one → HasBoundary media other → one ≡ other
 one_boundary media None None none again = refl
 one_boundary media None (Some bytes) none is = absurd (none bytes is)
 one_boundary media (Some bytes) None is none = absurd (none bytes is)
 one_boundary media (Some bytes) (Some other) is too = sym is.found ∙ too.found
 
--- so a value of `Content-Type` adds one text
-one_added : (old : List ℕ × Bool) (value : List ℕ) (reading : Result MediaType FieldError) (new other : List ℕ × Bool)
-    → AddsReading old value reading new → AddsReading old value reading other → new ≡ other
-one_added old value (Ok media) new other (one, is, adds) (two, too, more) =
-    adds ∙ ap (λ boundary. (old.0 ++ media_rows media boundary, old.1)) (one_boundary media one two is too) ∙ sym more
-one_added old value (Err error) new other adds more = adds ∙ sym more
-
-one_type : (old : List ℕ × Bool) (value : List ℕ) (new other : List ℕ × Bool) → AddsType old value new → AddsType old value other → new ≡ other
-one_type old value new other (one, is, adds) (two, too, more) =
-    one_added old (trimmed value) two new other (rw (one_reading (trimmed value) one two is too) at adds) more
-
--- and so does an entry,
+-- An entry adds one text.
 one_entry : (old : List ℕ × List MediaType) (entry : List ℕ) (new other : List ℕ × List MediaType) → AddsEntry old entry new
     → AddsEntry old entry other → new ≡ other
 one_entry old [] new other one two = one.0 refl ∙ sym (two.0 refl)
@@ -53,7 +42,7 @@ one_entry old (b ∷ entry) new other one two =
     let more = two.1 (omega arith) in
     adds.2 ∙ ap (with_entry old (b ∷ entry)) (one_reading (b ∷ entry) adds.0 more.0 adds.1 more.1) ∙ sym more.2
 
--- items in a row, if each does,
+-- Items in a row add one text, if each does.
 one_of_all : {P A : Type 0} (R : P → A → P → Type 0) → ((p : P) (x : A) (q r : P) → R p x q → R p x r → q ≡ r) → (p : P) (xs : List A) (q r : P)
     → FoldsTo R p xs q → FoldsTo R p xs r → q ≡ r
 one_of_all R one p [] q r is too = sym is ∙ too
@@ -62,9 +51,30 @@ one_of_all R one p (x ∷ xs) q r (next, is, rest) (other, too, others) =
 
 module _ (one_ranking : (ranges offers : List MediaType) (ranking other : List RankedOffer) → IsRanking ranges offers ranking
     → IsRanking ranges offers other → ranking ≡ other) where
-  -- lines of `Accept` with what is chosen,
-  one_choice : (offers : List MediaType) (lines : List (List ℕ)) (old new other : List ℕ × Option Bool) → AddsChoice offers lines old new
-      → AddsChoice offers lines old other → new ≡ other
+  -- A response's media type has one answer.
+  one_answer : (asked : Option (List MediaType)) (media : MediaType) (answer other : List ℕ) → IsAnswer asked media answer
+      → IsAnswer asked media other → answer ≡ other
+  one_answer None media answer other is too = is ∙ sym too
+  one_answer (Some ranges) media answer other (ranking, is, rows) (another, too, others) =
+      rows ∙ ap (offer_rows (codes "answer ") ranges (media ∷ [])) (one_ranking ranges (media ∷ []) ranking another is too) ∙ sym others
+
+  -- A value of `Content-Type` adds one text.
+  one_added : (asked : Option (List MediaType)) (old : List ℕ × Bool) (value : List ℕ) (reading : Result MediaType FieldError)
+      (new other : List ℕ × Bool) → AddsReading asked old value reading new → AddsReading asked old value reading other → new ≡ other
+  one_added asked old value (Ok media) new other (one, answer, is, says, adds) (two, another, too, saying, more) =
+      adds ∙ ap₂ (λ boundary answer. (old.0 ++ (media_rows media boundary ++ answer), old.1)) (one_boundary media one two is too)
+      (one_answer asked media answer another says saying) ∙ sym more
+  one_added asked old value (Err error) new other adds more = adds ∙ sym more
+
+  -- A value as it is written adds one text.
+  one_type : (asked : Option (List MediaType)) (old : List ℕ × Bool) (value : List ℕ) (new other : List ℕ × Bool)
+      → AddsType asked old value new → AddsType asked old value other → new ≡ other
+  one_type asked old value new other (one, is, adds) (two, too, more) =
+      one_added asked old (trimmed value) two new other (rw (one_reading (trimmed value) one two is too) at adds) more
+
+  -- Lines of `Accept` add one text and make one choice.
+  one_choice : (offers : List MediaType) (lines : List (List ℕ)) (old : List ℕ) (new other : List ℕ × Option (List MediaType × Bool))
+      → AddsChoice offers lines old new → AddsChoice offers lines old other → new ≡ other
   one_choice offers [] old new other one two = one.0 refl ∙ sym (two.0 refl)
   one_choice offers (line ∷ lines) old new other one two =
       let adds = one.1 (omega arith) in
@@ -74,18 +84,29 @@ module _ (one_ranking : (ranges offers : List MediaType) (ranking other : List R
       let rank = one_ranking more.read.1 offers adds.ranking more.ranking (rw (ap (λ it. it.1) read) at adds.is_ranking) more.is_ranking in
       cc (adds.is_new, more.is_new, read, rank)
 
-  -- a head,
+  -- A head adds one text.
   one_head : (offers : List MediaType) (many : Bool) (old : State) (head : List (List ℕ)) (new other : State) → AddsHead offers many old head new
       → AddsHead offers many old head other → new ≡ other
   one_head offers many old head new other one two =
-      let same = one_of_all AddsType one_type _ _ _ _ one.types two.types in
-      let last = one_choice offers _ _ _ _ (rw (ap (λ it. it.0) same) at one.choice) two.choice in
-      ap₂ (λ last are_good. record { text = last.0; are_good = are_good; choice = last.1 }) last (ap (λ it. it.1) same)
+      let same = one_of_all _ (one_type _) _ _ _ _ one.types two.types in
+      let chosen = one_choice offers _ _ _ _ (rw (ap (λ it. it.0) same) at one.chosen) two.chosen in
+      let choice = ap (λ it. it.1) chosen in
+      let last = one.last ∙ ap (last_choice old.choice) choice ∙ sym two.last in
+      let asked : new.asked ≡ other.asked = cc (one.asked, two.asked, choice) in
+      λ i. record { text = (chosen i).0; are_good = (same i).1; choice = last i; asked = asked i }
 
-  -- and all heads: bytes and offers have one report, with one verdict
+  -- Heads have one report.
+  one_of_heads : (offers : List MediaType) (cut : Bool) (heads : List (List (List ℕ))) (text other : List ℕ) (verdict another : Verdict)
+      → IsReport offers cut heads text verdict → IsReport offers cut heads other another → (text ≡ other) × (verdict ≡ another)
+  one_of_heads offers cut [] text other verdict another one two = (one.1 ∙ sym two.1, one.2 ∙ sym two.2)
+  one_of_heads offers cut (head ∷ heads) text other verdict another one two =
+      let many = nat_lt 1 (length (head ∷ heads)) in
+      let none : State = record { text = []; are_good = true; choice = None; asked = None } in
+      let same = one_of_all (AddsHead offers many) (one_head offers many) none (head ∷ heads) one.state two.state one.adds two.adds in
+      let last = one_choice offers _ _ _ _ (rw same at one.chosen) two.chosen in
+      (cc (one.is_text, two.is_text, last), cc (one.is_verdict, two.is_verdict, same, last))
+
+  -- Bytes and offers have one report, with one verdict.
   one_report : (offers : List MediaType) (bytes text other : List ℕ) (verdict another : Verdict) → IsReportOf offers bytes text verdict
       → IsReportOf offers bytes other another → (text ≡ other) × (verdict ≡ another)
-  one_report offers bytes text other verdict another one two =
-      let heads = one_of_all _ (one_head offers _) _ _ one.state two.state one.adds two.adds in
-      let last = one_choice offers _ _ _ _ (rw heads at one.chosen) two.chosen in
-      (cc (one.is_text, two.is_text, last), cc (one.is_verdict, two.is_verdict, heads, last))
+  one_report offers bytes = one_of_heads offers (is_cut bytes) (heads_of (is_cut bytes) (bare_lines (is_cut bytes) bytes))

@@ -1,50 +1,120 @@
--- The heads of an input, and the values of a field there (RFC 9110, 5.5 and 5.6.3; RFC 9112, 2.2 and 5).
-use Rattle.std.specs.Prelude.{ℕ, Bool, List, [], ◌∷◌, ◌++◌, ◌==◌, ◌||◌, ◌&&◌, not, Option, Some, None, map, take, drop, length, if◌then◌else◌, codes}
-use Rattle.std.specs.{List.slice_index, Str.str_eq_ignore_ascii_case, Str.Lines.strip_carriage_return}
-use Rattle.mime.specs.Grammar.{is_space}
-use Rattle.mime_http.specs.HttpList.{trimmed}
+-- The heads of an input, and the values of a field there (RFC 9110, 5.5, 5.6.2 and 5.6.3; RFC 9112, 2 to 5).
+use Rattle.std.specs.Prelude.{ℕ, ◌-◌, Bool, List, [], ◌∷◌, ◌++◌, ◌==◌, ◌||◌, ◌&&◌, not, nat_le, nat_lt, map, filter, take, drop, length, if◌then◌else◌, codes}
+use Rattle.std.specs.{Char.is_ascii_digit, List.list_all, List.slice_index, List.before_first, List.after_first, Str.bytes_eq, Str.str_eq_ignore_ascii_case, Str.Lines.strip_carriage_return}
+use Rattle.mime.specs.{Bytes.is_token_byte, Grammar.is_space}
+use Rattle.mime_http.specs.HttpList.{trim_start, trimmed}
 use Rattle.mime_io.specs.Lines.{lines_of}
-
--- a line without a mark of `curl -v` at its start: `<` or `>`, which begins no field's name, and one space after it, if there is one
-abbrev pub without_mark : List ℕ → List ℕ
-without_mark [] = []
-without_mark (b ∷ line) = if b == 60 || b == 62 then (if slice_index line 0 == 32 then drop 1 line else line) else b ∷ line
-
--- the lines of an input, each without one carriage return at its end, and then without its mark
-abbrev pub bare_lines : List ℕ → List (List ℕ)
-bare_lines bytes = map (λ line. without_mark (strip_carriage_return line)) (lines_of bytes)
 
 -- whether a line begins with a label, ignoring ASCII case
 abbrev pub begins : List ℕ → List ℕ → Bool
 begins label line = str_eq_ignore_ascii_case (take (length label) line) label
 
--- whether a line begins an indented head, as `wget -S` prints it: with two spaces and `HTTP/`, ignoring ASCII case
-abbrev pub is_indented : List ℕ → Bool
-is_indented line = begins (codes "  http/") line
+-- ---- lines
 
--- a line as it is added to a head: without two spaces at its start, if it has them and the head's first line is indented
-abbrev pub in_head : List (List ℕ) → List ℕ → List ℕ
-in_head [] line = line
-in_head (first ∷ head) line = if begins (codes "  ") line && is_indented first then drop 2 line else line
+-- what begins with the first `<` or `>` of a line, or all of it if it has neither
+abbrev pub from_angle : List ℕ → List ℕ → List ℕ
+from_angle all [] = all
+from_angle all (b ∷ line) = if b == 60 || b == 62 then b ∷ line else from_angle all line
 
--- a head of this first line, if the line begins with `HTTP/`, ignoring ASCII case, or begins an indented head
-abbrev pub begun : List ℕ → Option (List (List ℕ))
-begun line = if begins (codes "http/") line || is_indented line then Some (line ∷ []) else None
+-- A line without one carriage return at its end. If it then begins with one, it stands behind a progress meter of curl, which is left out.
+abbrev pub bare : List ℕ → List ℕ
+bare line = let line = strip_carriage_return line in if begins (13 ∷ []) line then from_angle line line else line
 
--- The heads of lines that follow the first lines of a head, or follow a head. A head ends with an empty line, with the input, or, if it has
--- a line, before a line that begins an indented head. In an input that is cut off, a head counts only if a line follows its end.
-abbrev pub heads_from : Bool → Option (List (List ℕ)) → List (List ℕ) → List (List (List ℕ))
-heads_from cut None [] = []
-heads_from cut None (line ∷ lines) = heads_from cut (begun line) lines
-heads_from cut (Some head) [] = if cut then [] else head ∷ []
-heads_from cut (Some head) (line ∷ lines) =
-    if not (length line == 0) && (length head == 0 || not (is_indented line))
-    then heads_from cut (Some (head ++ (in_head head line ∷ []))) lines else
-    if cut && (length line == 0 && length lines == 0) then [] else head ∷ heads_from cut (begun line) lines
+-- the lines of an input without a byte order mark, each bare; of an input that is cut off, without the last line
+abbrev pub bare_lines : Bool → List ℕ → List (List ℕ)
+bare_lines cut bytes =
+    let lines = map bare (lines_of (if begins (239 ∷ 187 ∷ 191 ∷ []) bytes then drop 3 bytes else bytes)) in
+    if cut then take (length lines - 1) lines else lines
 
--- the heads of an input's lines; the first line begins the first head
-abbrev pub heads_of : Bool → List (List ℕ) → List (List (List ℕ))
-heads_of cut lines = heads_from cut (Some []) lines
+-- what follows a line's mark, which is the white space at its start, and `> ` or `< ` after it, if that follows
+abbrev pub text_of : List ℕ → List ℕ
+text_of line =
+    let rest = trim_start line in if begins (codes "> ") rest || begins (codes "< ") rest then drop 2 rest else rest
+
+abbrev pub mark_of : List ℕ → List ℕ
+mark_of line = take (length line - length (text_of line)) line
+
+-- ---- start lines
+
+-- the first of the words that single spaces part, and the others
+abbrev pub word : List ℕ → List ℕ
+word text = before_first (λ b. b == 32) text
+
+abbrev pub other_words : List ℕ → List ℕ
+other_words text = after_first (λ b. b == 32) text
+
+-- token = 1*tchar (RFC 9110, 5.6.2)
+abbrev pub is_token : List ℕ → Bool
+is_token bytes = not (length bytes == 0) && list_all is_token_byte bytes
+
+-- HTTP-version, in which case counts (RFC 9112, 2.3), or with one digit, as curl prints it: `HTTP/1.1`, `HTTP/2`
+unfoldable pub is_version : List ℕ → Bool
+is_version bytes =
+    bytes_eq (take 5 bytes) (codes "HTTP/") && (is_ascii_digit (slice_index bytes 5) && (length bytes == 6
+    || (length bytes == 8 && (slice_index bytes 6 == 46 && is_ascii_digit (slice_index bytes 7)))))
+
+-- request-line = method SP request-target SP HTTP-version (RFC 9112, 3)
+abbrev pub is_request_line : List ℕ → Bool
+is_request_line text =
+    is_token (word text) && (not (length (word (other_words text)) == 0) && is_version (other_words (other_words text)))
+
+-- status-code = 3DIGIT
+unfoldable pub is_code : List ℕ → Bool
+is_code bytes =
+    length bytes == 3
+    && (is_ascii_digit (slice_index bytes 0) && (is_ascii_digit (slice_index bytes 1) && is_ascii_digit (slice_index bytes 2)))
+
+-- status-line = HTTP-version SP status-code SP [ reason-phrase ], or without the last space (RFC 9112, 4)
+abbrev pub is_status_line : List ℕ → Bool
+is_status_line text = is_version (word text) && is_code (word (other_words text))
+
+unfoldable pub is_start : List ℕ → Bool
+is_start line = is_request_line (text_of line) || is_status_line (text_of line)
+
+-- ---- heads
+
+-- whether a line is of the head with a mark: it begins with the mark, or is the mark without the space at its end
+unfoldable pub is_own : List ℕ → List ℕ → Bool
+is_own mark line =
+    bytes_eq (take (length mark) line) mark
+    || (slice_index mark (length mark - 1) == 32 && bytes_eq (take (length mark - 1) mark) line)
+
+-- whether a line ends a head: a start line, the mark alone, or, if the mark is an indent, a line that isn't the head's
+abbrev pub is_end : Bool → List ℕ → List ℕ → Bool
+is_end is_indent mark line = is_start line || (if is_own mark line then nat_le (length line) (length mark) else is_indent)
+
+-- a line of the head without the mark, or none for any other line
+abbrev pub own_lines : List ℕ → List ℕ → List (List ℕ)
+own_lines mark line = if is_own mark line then drop (length mark) line ∷ [] else []
+
+-- the rest of a head, of which there is none if only the end of an input that is cut off ends it, or one
+abbrev pub rest_of : Bool → List ℕ → List (List ℕ) → List (List (List ℕ))
+rest_of cut mark [] = if cut then [] else [] ∷ []
+rest_of cut mark (line ∷ lines) =
+    if is_end (length (trimmed mark) == 0) mark line then [] ∷ []
+    else map (λ rest. own_lines mark line ++ rest) (rest_of cut mark lines)
+
+-- the head that the first of lines begins, of which there is none or one
+abbrev pub head_at : Bool → List (List ℕ) → List (List (List ℕ))
+head_at cut [] = []
+head_at cut (line ∷ lines) = map (λ rest. text_of line ∷ rest) (rest_of cut (mark_of line) lines)
+
+-- the heads that begin with start lines
+abbrev pub started_heads : Bool → List (List ℕ) → List (List (List ℕ))
+started_heads cut [] = []
+started_heads cut (line ∷ lines) = (if is_start line then head_at cut (line ∷ lines) else []) ++ started_heads cut lines
+
+-- whether a text begins with a field's name and a colon (RFC 9112, 5)
+abbrev pub is_field : List ℕ → Bool
+is_field text =
+    let name = before_first (λ b. b == 58) text in is_token name && nat_lt (length name) (length text)
+
+-- the first line of a head, which is its title
+abbrev pub title_of : List (List ℕ) → List ℕ
+title_of [] = []
+title_of (line ∷ lines) = line
+
+-- ---- fields
 
 -- whether a line begins with white space, and so continues a field (RFC 9112, 5.2)
 abbrev pub goes_on : List ℕ → Bool
@@ -63,12 +133,23 @@ values_of label (line ∷ lines) =
     then (trimmed (drop (length label) line) ++ continued lines) ∷ values_of label lines
     else values_of label lines
 
--- the title of a head: its first line that isn't a remark of curl, which begins with `*`, without the two spaces of an indented line
-abbrev pub title_of : List (List ℕ) → List ℕ
-title_of [] = []
-title_of (line ∷ lines) = if begins (codes "*") line then title_of lines else if is_indented line then drop 2 line else line
+-- whether a head has a `Content-Type` or an `Accept`
+abbrev pub has_field : List (List ℕ) → Bool
+has_field head = nat_lt 0 (length (values_of (codes "content-type:") head ++ values_of (codes "accept:") head))
 
 -- whether a line begins with a field's name, white space and a colon, which HTTP doesn't allow (RFC 9112, 5.1)
 abbrev pub is_spaced : List ℕ → List ℕ → Bool
 is_spaced name line =
     begins name line && (goes_on (drop (length name) line) && begins (codes ":") (trimmed (drop (length name) line)))
+
+-- ---- all heads
+
+-- the head without a start line: it begins with the first field before all start lines, and has a `Content-Type` or an `Accept`
+abbrev pub pasted_head : Bool → List (List ℕ) → List (List (List ℕ))
+pasted_head cut [] = []
+pasted_head cut (line ∷ lines) =
+    if is_start line then [] else
+    if is_field (text_of line) then filter has_field (head_at cut (line ∷ lines)) else pasted_head cut lines
+
+abbrev pub heads_of : Bool → List (List ℕ) → List (List (List ℕ))
+heads_of cut lines = pasted_head cut lines ++ started_heads cut lines

@@ -1,10 +1,10 @@
 -- The report on heads and offers: the rows of each `Content-Type`, of `Accept`, and of each offer (RFC 9110, 8.3, 12.5.1 and 15.5.7).
-use Rattle.std.specs.Prelude.{◌≡◌, ◌≢◌, ◌<◌, ℕ, ◌+◌, ◌/◌, ◌%◌, Bool, true, false, List, [], ◌∷◌, ◌++◌, ◌==◌, ◌||◌, ◌&&◌, Option, Some, None, Result, Ok, Err, MatchOption, option_map, unwrap_or, position, map, flat_map, length, slice_get, replicate, nat_lt, if◌then◌else◌, codes}
-use Rattle.std.specs.{Char.is_ascii_graphic, Fmt.decimal, List.FoldsTo, Str.IsUtf8}
+use Rattle.std.specs.Prelude.{◌≡◌, ◌≢◌, ◌<◌, ℕ, ◌+◌, ◌/◌, ◌%◌, Bool, true, false, List, [], ◌∷◌, ◌++◌, ◌==◌, ◌||◌, ◌&&◌, not, Option, Some, None, Result, Ok, Err, MatchOption, option_and_then, option_map, unwrap_or, map, flat_map, length, slice_get, replicate, nat_lt, if◌then◌else◌, codes}
+use Rattle.std.specs.{Char.is_ascii_graphic, Fmt.decimal, Fmt.digits, List.FoldsTo, List.enumerate_from, Option.option_or, Str.IsUtf8}
 use Rattle.mime.specs.{Values.MediaType, Values.suffix_of, declared.scan.fault.ParseError.TheVariants.InvalidToken}
-use Rattle.mime_http.specs.{Boundary.IsBoundaryOf, HttpFaults.HttpExplains, HttpList.trimmed, HttpList.AreBetweenCommas, HttpList.IsPrinted, HttpList.IsPiece, HttpList.BeginsPiece, HttpMediaType.HttpReads, HttpPrinted.field_error_text, Ranges.weight_of, Ranges.first_value, Ranking.is_qvalue, Ranking.is_lacking, Ranking.IsRanking, Unescaped.unescaped, declared.ranking.RankedOffer.RankedOffer, declared.value.FieldError.FieldError, declared.value.FieldError.TheVariants.NotUtf8, declared.value.FieldError.TheVariants.Invalid, declared.value.FieldError.TheVariants.NoMemory}
+use Rattle.mime_http.specs.{Boundary.IsBoundaryOf, HttpFaults.HttpExplains, HttpList.trimmed, HttpList.AreBetweenCommas, HttpList.IsPrinted, HttpList.IsPiece, HttpList.BeginsPiece, HttpMediaType.HttpReads, HttpPrinted.field_error_text, Lacks.is_quoted, Lacks.lacked, Ranges.weight_of, Ranges.first_value, Ranking.is_qvalue, Ranking.IsRanking, Unescaped.unescaped, declared.ranking.RankedOffer.RankedOffer, declared.value.FieldError.FieldError, declared.value.FieldError.TheVariants.NotUtf8, declared.value.FieldError.TheVariants.Invalid, declared.value.FieldError.TheVariants.NoMemory}
 use Rattle.mime_io.specs.{Lines.row, Stops.limit}
-use Rattle.mime_headers.specs.{Head.bare_lines, Head.heads_of, Head.is_spaced, Head.title_of, Head.values_of, Shown.without_controls}
+use Rattle.mime_headers.specs.{Head.bare_lines, Head.heads_of, Head.is_spaced, Head.is_status_line, Head.title_of, Head.values_of, Shown.without_controls}
 use Rattle.mime_headers.specs.declared.verdict.Verdict.{Verdict}
 
 -- A value of a field is read as this media type, which is printed for the value, or is rejected with this error, which isn't `NoMemory`.
@@ -12,12 +12,13 @@ abbrev pub IsRead : List ℕ → Result MediaType FieldError → Type 0
 IsRead value (Ok media) = IsUtf8 value × HttpReads value media × IsPrinted value media
 IsRead value (Err error) = (error ≢ NoMemory) × HttpExplains value error
 
--- What is known after some heads: the report, whether each `Content-Type` is accepted, and the last choice, if a head has an `Accept`. A
--- choice is `true` if an offer is acceptable or there are no offers.
+-- What is known after some heads: the report, whether each `Content-Type` is accepted, the last choice, if a head has an `Accept`, and the
+-- ranges that the last request has, if it has an `Accept`. A choice is `true` if an offer is acceptable or there are no offers.
 pub record State : Type 0 where
   pub text : List ℕ
   pub are_good : Bool
   pub choice : Option Bool
+  pub asked : Option (List MediaType)
 
 -- ---- a rejected value
 
@@ -25,18 +26,23 @@ pub record State : Type 0 where
 abbrev pub shown : List ℕ → List ℕ
 shown bytes = map (λ b. if b == 32 || is_ascii_graphic b then b else 46) bytes
 
--- the position of the byte at fault, or the value's length if something is missing at its end; and a remark, which is empty unless that
--- byte is `(`, which begins a comment in mail
-abbrev pub fault_place : List ℕ → FieldError → ℕ × List ℕ
-fault_place value (NotUtf8 pos) = (pos, [])
-fault_place value (Invalid (InvalidToken pos byte)) = (pos, if byte == 40 then codes " (HTTP has no comments)" else [])
-fault_place value error = (length value, [])
+-- the position of the byte at fault, or the value's length if something is missing at its end
+abbrev pub fault_place : List ℕ → FieldError → ℕ
+fault_place value (NotUtf8 pos) = pos
+fault_place value (Invalid (InvalidToken pos byte)) = pos
+fault_place value error = length value
 
--- the rows of a rejected value of a field: its fault, and the value over a caret at the byte at fault, with the remark
+-- a byte as a person reads it, and in hexadecimal; with a remark if it is `(`, which begins a comment in mail
+abbrev pub byte_text : ℕ → List ℕ
+byte_text b =
+    (if b == 32 then codes " space" else if b == 9 then codes " tab" else if is_ascii_graphic b then 32 ∷ b ∷ [] else [])
+    ++ (codes " (" ++ (digits 16 true b ++ (if b == 40 then codes "): HTTP has no comments" else codes ")")))
+
+-- the rows of a rejected value of a field: its fault, and the value over a caret at the byte at fault, with this byte, if there is one
 abbrev pub fault_rows : List ℕ → List ℕ → FieldError → List ℕ
 fault_rows label value error =
     row label (field_error_text error) ++ (row (codes "    ") (shown value) ++ (codes "    "
-    ++ (replicate (fault_place value error).0 32 ++ (codes "^" ++ ((fault_place value error).1 ++ codes "\n")))))
+    ++ (replicate (fault_place value error) 32 ++ row (codes "^") (unwrap_or (option_map byte_text (slice_get value (fault_place value error))) []))))
 
 -- ---- Content-Type
 
@@ -59,24 +65,6 @@ media_rows media boundary =
 abbrev pub HasBoundary : MediaType → Option (List ℕ) → Type 0
 HasBoundary media boundary = MatchOption boundary ((bytes : List ℕ) → ¬ (IsBoundaryOf media bytes)) (IsBoundaryOf media)
 
--- What is read of a value of `Content-Type` adds its rows to a report. `are_good`, whether all values so far are accepted, becomes `false`
--- if this value is rejected.
-abbrev pub AddsReading : List ℕ × Bool → List ℕ → Result MediaType FieldError → List ℕ × Bool → Type 0
-AddsReading (text, are_good) value (Ok media) new =
-    (boundary : Option (List ℕ)) × HasBoundary media boundary × (new ≡ (text ++ media_rows media boundary, are_good))
-AddsReading (text, are_good) value (Err error) new = new ≡ (text ++ fault_rows (codes "bad Content-Type ") value error, false)
-
--- A value of `Content-Type` is read without the white space around it (RFC 9110, 5.5), and what is read adds its rows.
-abbrev pub AddsType : List ℕ × Bool → List ℕ → List ℕ × Bool → Type 0
-AddsType old value new =
-    (reading : Result MediaType FieldError) × IsRead (trimmed value) reading × AddsReading old (trimmed value) reading new
-
--- the row which says that there is no `Content-Type`, or more than one; nothing if there is one
-abbrev pub count_row : List (List ℕ) → List ℕ
-count_row [] = codes "no Content-Type\n"
-count_row (value ∷ []) = []
-count_row (value ∷ other ∷ values) = codes "several Content-Type lines (HTTP allows one)\n"
-
 -- ---- Accept
 
 -- a weight in thousandths as a number with three decimals, such as 0.800
@@ -87,15 +75,21 @@ weight_text weight = (48 + weight / 1000 % 10) ∷ 46 ∷ (48 + weight / 100 % 1
 abbrev pub weighed_text : List ℕ → ℕ → MediaType → List ℕ
 weighed_text label weight media = label ++ (weight_text weight ++ (codes " " ++ media.kept))
 
--- the row of a range, with a remark if RFC 9110, 12.4.2, doesn't allow its `q`
-abbrev pub range_row : MediaType → List ℕ
-range_row range =
+-- whether RFC 9110, 12.4.2, allows the `q` of a range that is read of an entry: it is a qvalue, without quotes, or there is none
+unfoldable pub is_plain : List ℕ → MediaType → Bool
+is_plain entry range =
+    unwrap_or (option_map is_qvalue (first_value (codes "q") range.pairs)) true && not (is_quoted false false entry)
+
+-- the row of a range that is read of an entry, with a remark if its `q` isn't allowed
+abbrev pub range_row : List ℕ → MediaType → List ℕ
+range_row entry range =
     weighed_text (codes "Accept ") (weight_of range) range
-    ++ (if unwrap_or (option_map is_qvalue (first_value (codes "q") range.pairs)) true then codes "\n" else codes " (q is no weight)\n")
+    ++ (if is_plain entry range then codes "\n"
+    else codes " (q isn't a weight in HTTP, counted as " ++ (weight_text (weight_of range) ++ codes ")\n"))
 
 -- a report and its ranges after an entry: an entry that is a range adds its row and itself, and a rejected entry adds its fault's rows
 abbrev pub with_entry : List ℕ × List MediaType → List ℕ → Result MediaType FieldError → List ℕ × List MediaType
-with_entry (text, ranges) entry (Ok range) = (text ++ range_row range, ranges ++ (range ∷ []))
+with_entry (text, ranges) entry (Ok range) = (text ++ range_row entry range, ranges ++ (range ∷ []))
 with_entry (text, ranges) entry (Err error) = (text ++ fault_rows (codes "bad Accept ") entry error, ranges)
 
 -- An empty entry changes nothing. Any other entry is read and added.
@@ -112,27 +106,31 @@ pub record AddsLines (lines : List (List ℕ)) (old new : List ℕ × List Media
 
 -- ---- offers
 
--- `before`, a range's place among the ranges, from 1, its kept text, and `after`; or `none` if there is no position
-abbrev pub place_text : List MediaType → List ℕ → Option ℕ → List ℕ → List ℕ → List ℕ
-place_text ranges before None after none = none
-place_text ranges before (Some at) after none =
-    unwrap_or (option_map (λ range. before ++ (decimal (at + 1) ++ (codes " " ++ (range.kept ++ after)))) (slice_get ranges at)) []
+-- a range's place among the ranges, from 1, and its kept text
+abbrev pub numbered : ℕ × MediaType → List ℕ
+numbered (at, range) = decimal (at + 1) ++ (codes " " ++ range.kept)
 
--- the position of the first range of which an offer lacks a parameter, if the offer weighs 0
-abbrev pub lacking_at : List MediaType → ℕ → MediaType → Option ℕ
-lacking_at ranges weight offer = if weight == 0 then position (is_lacking offer) ranges else None
+-- the range that decides, with its position
+abbrev pub decider : List MediaType → RankedOffer → Option (ℕ × MediaType)
+decider ranges one = option_and_then (λ at. option_map (λ range. (at, range)) (slice_get ranges at)) one.range
 
--- the row of an offer, if there is one: its weight, its kept text, the range that decides, and the range that `lacking_at` finds
-abbrev pub offer_row : List MediaType → RankedOffer → Option MediaType → List ℕ
-offer_row ranges one None = []
-offer_row ranges one (Some offer) =
-    weighed_text (codes "offer ") one.weight offer
-    ++ (place_text ranges (codes " by ") one.range [] (codes " by none")
-    ++ place_text ranges (codes " (lacks a parameter of ") (lacking_at ranges one.weight offer) (codes ")\n") (codes "\n"))
+-- that a range would decide but for a parameter; nothing if it wouldn't
+abbrev pub lacks_text : MediaType → Option MediaType → ℕ × MediaType → List ℕ
+lacks_text offer decider (at, range) =
+    unwrap_or (option_map (λ pair. codes " (lacks " ++ (pair.0 ++ (codes "=" ++ (unescaped pair.1 ++ (codes " of "
+    ++ (numbered (at, range) ++ codes ")")))))) (lacked range decider offer)) []
+
+-- the row of an offer, if there is one: its weight, its kept text, the range that decides, and those that would but for a parameter
+abbrev pub offer_row : List ℕ → List MediaType → RankedOffer → Option MediaType → List ℕ
+offer_row label ranges one None = []
+offer_row label ranges one (Some offer) =
+    weighed_text label one.weight offer
+    ++ (codes " by " ++ (unwrap_or (option_map numbered (decider ranges one)) (codes "none")
+    ++ (flat_map (lacks_text offer (option_map (λ item. item.1) (decider ranges one))) (enumerate_from 0 ranges) ++ codes "\n")))
 
 -- the rows of the offers, in the ranking's order
-abbrev pub offer_rows : List MediaType → List MediaType → List RankedOffer → List ℕ
-offer_rows ranges offers ranking = flat_map (λ one. offer_row ranges one (slice_get offers one.offer)) ranking
+abbrev pub offer_rows : List ℕ → List MediaType → List MediaType → List RankedOffer → List ℕ
+offer_rows label ranges offers ranking = flat_map (λ one. offer_row label ranges one (slice_get offers one.offer)) ranking
 
 -- the row of the best offer, the ranking's first, or of 406 if it weighs 0; and whether an offer is acceptable or there are no offers
 abbrev pub best_row : List MediaType → List RankedOffer → List ℕ × Bool
@@ -141,19 +139,53 @@ best_row offers (one ∷ ranking) =
     if one.weight == 0 then (codes "406 Not Acceptable\n", false)
     else (row_if (codes "best ") (option_map (λ best. best.kept) (slice_get offers one.offer)), true)
 
+-- ---- Content-Type in an answer
+
+-- the row of a response's media type, which is weighed like an offer by the ranges of the request, if that has an `Accept`
+abbrev pub IsAnswer : Option (List MediaType) → MediaType → List ℕ → Type 0
+IsAnswer None media answer = answer ≡ []
+IsAnswer (Some ranges) media answer =
+    (ranking : List RankedOffer) × IsRanking ranges (media ∷ []) ranking × (answer ≡ offer_rows (codes "answer ") ranges (media ∷ []) ranking)
+
+-- What is read of a value of `Content-Type` adds its rows to a report, for the ranges `asked` of a request. `are_good`, whether all values so
+-- far are accepted, becomes `false` if this value is rejected.
+abbrev pub AddsReading : Option (List MediaType) → List ℕ × Bool → List ℕ → Result MediaType FieldError → List ℕ × Bool → Type 0
+AddsReading asked (text, are_good) value (Ok media) new =
+    (boundary : Option (List ℕ)) × (answer : List ℕ) × HasBoundary media boundary × IsAnswer asked media answer
+    × (new ≡ (text ++ (media_rows media boundary ++ answer), are_good))
+AddsReading asked (text, are_good) value (Err error) new = new ≡ (text ++ fault_rows (codes "bad Content-Type ") value error, false)
+
+-- A value of `Content-Type` is read without the white space around it (RFC 9110, 5.5), and what is read adds its rows.
+abbrev pub AddsType : Option (List MediaType) → List ℕ × Bool → List ℕ → List ℕ × Bool → Type 0
+AddsType asked old value new =
+    (reading : Result MediaType FieldError) × IsRead (trimmed value) reading × AddsReading asked old (trimmed value) reading new
+
+-- the row which says that there is no `Content-Type`, or more than one; nothing if there is one
+abbrev pub count_row : List (List ℕ) → List ℕ
+count_row [] = codes "no Content-Type\n"
+count_row (value ∷ []) = []
+count_row (value ∷ other ∷ values) = codes "several Content-Type lines (HTTP allows one)\n"
+
 -- ---- heads
 
--- The lines of `Accept`, which are one list (RFC 9110, 5.3), and the offers add their rows to a report. `best_row` has the new choice.
-pub record IsChoice (offers : List MediaType) (lines : List (List ℕ)) (old : List ℕ) (new : List ℕ × Option Bool) : Type 0 where
+-- the row which says that lines of `Accept` have no entry, if the report is the same before them and after
+abbrev pub empty_row : List ℕ → List ℕ → List ℕ
+empty_row old new = if length old == length new then codes "empty Accept\n" else []
+
+-- The lines of `Accept`, which are one list (RFC 9110, 5.3), and the offers add their rows to a report, and make a choice by their ranges.
+pub record IsChoice (offers : List MediaType) (lines : List (List ℕ)) (old : List ℕ) (new : List ℕ × Option (List MediaType × Bool)) : Type 0 where
   pub read : List ℕ × List MediaType
   pub are_read : AddsLines lines (old, []) read
   pub ranking : List RankedOffer
   pub is_ranking : IsRanking read.1 offers ranking
-  pub is_new : new ≡ (read.0 ++ (offer_rows read.1 offers ranking ++ (best_row offers ranking).0), Some (best_row offers ranking).1)
+  pub is_new : new ≡ (
+    read.0 ++ (empty_row old read.0 ++ (offer_rows (codes "offer ") read.1 offers ranking ++ (best_row offers ranking).0)),
+    Some (read.1, (best_row offers ranking).1),
+  )
 
--- Without lines of `Accept`, nothing changes. Otherwise, the lines make the new choice.
-abbrev pub AddsChoice : List MediaType → List (List ℕ) → List ℕ × Option Bool → List ℕ × Option Bool → Type 0
-AddsChoice offers lines old new = (length lines ≡ 0 → new ≡ old) × (0 < length lines → IsChoice offers lines old.0 new)
+-- Without lines of `Accept`, nothing is added, and no choice is made.
+abbrev pub AddsChoice : List MediaType → List (List ℕ) → List ℕ → List ℕ × Option (List MediaType × Bool) → Type 0
+AddsChoice offers lines old new = (length lines ≡ 0 → new ≡ (old, None)) × (0 < length lines → IsChoice offers lines old new)
 
 -- the row of a head's title, if there are several heads
 abbrev pub title_row : Bool → List (List ℕ) → List ℕ
@@ -164,18 +196,27 @@ abbrev pub spaced_row : List ℕ → List ℕ
 spaced_row line =
     if is_spaced (codes "content-type") line || is_spaced (codes "accept") line then row (codes "white space before the colon: ") (shown line) else []
 
--- A head adds, in order: its title, its lines with white space before a colon, its values of `Content-Type`, `count_row`, and its choice.
+-- what a choice says of the offers, or `last` if none is made
+abbrev pub last_choice : Option Bool → Option (List MediaType × Bool) → Option Bool
+last_choice last choice = option_or (option_map (λ choice. choice.1) choice) last
+
+-- A head adds, in order: its title, its lines with white space before a colon, its values of `Content-Type`, `count_row`, and its choice. A
+-- response answers the last request, and any other head is a request.
 pub record AddsHead (offers : List MediaType) (many : Bool) (old : State) (head : List (List ℕ)) (new : State) : Type 0 where
   pub between : List ℕ
-  pub types : FoldsTo AddsType (old.text ++ (title_row many head ++ flat_map spaced_row head), old.are_good)
-      (values_of (codes "content-type:") head) (between, new.are_good)
-  pub choice : AddsChoice offers (values_of (codes "accept:") head)
-      (between ++ count_row (values_of (codes "content-type:") head), old.choice) (new.text, new.choice)
+  pub choice : Option (List MediaType × Bool)
+  pub types : FoldsTo (AddsType (if is_status_line (title_of head) then old.asked else None))
+      (old.text ++ (title_row many head ++ flat_map spaced_row head), old.are_good) (values_of (codes "content-type:") head)
+      (between, new.are_good)
+  pub chosen : AddsChoice offers (values_of (codes "accept:") head) (between ++ count_row (values_of (codes "content-type:") head))
+      (new.text, choice)
+  pub last : new.choice ≡ last_choice old.choice choice
+  pub asked : new.asked ≡ (if is_status_line (title_of head) then old.asked else option_map (λ choice. choice.0) choice)
 
--- the row which says that no head has an `Accept`, and the line that is read in its place; neither if a head has one
-abbrev pub missing : Option Bool → List ℕ × List (List ℕ)
-missing None = (codes "no Accept\n", codes "*/*" ∷ [])
-missing (Some choice) = ([], [])
+-- if there are offers and no head has an `Accept`, the row which says so, and the line that is read in its place
+abbrev pub missing : List MediaType → Option Bool → List ℕ × List (List ℕ)
+missing (offer ∷ offers) None = (codes "no Accept\n", codes "*/*" ∷ [])
+missing offers choice = ([], [])
 
 -- the row which says that an input is cut off, if it is
 abbrev pub cut_row : Bool → List ℕ
@@ -186,15 +227,19 @@ abbrev pub verdict_of : Bool → Option Bool → Verdict
 verdict_of are_good choice = if are_good && unwrap_or choice true then Verdict.Acceptable else Verdict.NotAcceptable
 
 -- The text is the report on these heads and offers, without control characters. The verdict follows from each `Content-Type` and the last
--- choice. There is no report without a head.
-pub record IsReport (offers : List MediaType) (cut : Bool) (heads : List (List (List ℕ))) (text : List ℕ) (verdict : Verdict) : Type 0 where
+-- choice.
+pub record IsReportOn (offers : List MediaType) (cut : Bool) (heads : List (List (List ℕ))) (text : List ℕ) (verdict : Verdict) : Type 0 where
   pub state : State
-  pub last : List ℕ × Option Bool
-  pub some : heads ≢ []
-  pub adds : FoldsTo (AddsHead offers (nat_lt 1 (length heads))) (record { text = []; are_good = true; choice = None }) heads state
-  pub chosen : AddsChoice offers (missing state.choice).1 (state.text ++ (missing state.choice).0, state.choice) last
+  pub last : List ℕ × Option (List MediaType × Bool)
+  pub adds : FoldsTo (AddsHead offers (nat_lt 1 (length heads))) (record { text = []; are_good = true; choice = None; asked = None }) heads state
+  pub chosen : AddsChoice offers (missing offers state.choice).1 (state.text ++ (missing offers state.choice).0) last
   pub is_text : text ≡ without_controls (last.0 ++ cut_row cut)
-  pub is_verdict : verdict ≡ verdict_of state.are_good last.1
+  pub is_verdict : verdict ≡ verdict_of state.are_good (last_choice state.choice last.1)
+
+-- Without a head there is no row, and an input that is cut off has no report then.
+abbrev pub IsReport : List MediaType → Bool → List (List (List ℕ)) → List ℕ → Verdict → Type 0
+IsReport offers cut [] text verdict = (cut ≡ false) × (text ≡ []) × (verdict ≡ Verdict.NoHead)
+IsReport offers cut (head ∷ heads) text verdict = IsReportOn offers cut (head ∷ heads) text verdict
 
 -- whether an input is cut off: more bytes than the limit were read
 abbrev pub is_cut : List ℕ → Bool
@@ -202,4 +247,4 @@ is_cut bytes = nat_lt limit (length bytes)
 
 -- The text and the verdict are those of the report on the bytes that were read, and on offers.
 abbrev pub IsReportOf : List MediaType → List ℕ → List ℕ → Verdict → Type 0
-IsReportOf offers bytes text verdict = IsReport offers (is_cut bytes) (heads_of (is_cut bytes) (bare_lines bytes)) text verdict
+IsReportOf offers bytes text verdict = IsReport offers (is_cut bytes) (heads_of (is_cut bytes) (bare_lines (is_cut bytes) bytes)) text verdict

@@ -16,6 +16,7 @@ mod verdict;
 
 use crate::offers::read_offers;
 pub use crate::program::run;
+use crate::shown::without_controls;
 pub use crate::verdict::Verdict;
 use mime_http::FieldError;
 use mime_io::{Device, RunError};
@@ -55,10 +56,12 @@ fn main(rt: HostRuntime) -> ExitCode {
         Ok(offers) => offers,
         Err((_, FieldError::NoMemory)) => return stopped(&rt, &RunError::NoMemory),
         Err((word, error)) => {
-            return stopped(
-                &rt,
-                &format_args!("bad offer {word}: {error}\nusage: mime_headers [OFFER..]"),
-            );
+            let shown = without_controls(rt.alloc(), word.into_bytes()).map(String::from_utf8);
+            let Ok(Ok(word)) = shown else {
+                return stopped(&rt, &RunError::NoMemory);
+            };
+            let usage = "usage: mime_headers [OFFER..]";
+            return stopped(&rt, &format_args!("bad offer {word}: {error}\n{usage}"));
         }
     };
     let mut input = device(rt.stdin());
@@ -85,11 +88,13 @@ fn device<T>(inner: T) -> Device<T> {
 fn status(rt: &impl Eprint, outcome: Result<Verdict, RunError>) -> ExitCode
     ensures acceptable { outcome ≡ Ok Verdict.Acceptable → exit_status result ≡ 0 }
     ensures not_acceptable { outcome ≡ Ok Verdict.NotAcceptable → exit_status result ≡ 1 }
+    ensures no_head { outcome ≡ Ok Verdict.NoHead → exit_status result ≡ 2 }
     ensures stopped { OnErr outcome (exit_status result ≡ 2) }
 {
     match outcome {
         Ok(Verdict::Acceptable) => ExitCode::SUCCESS,
         Ok(Verdict::NotAcceptable) => ExitCode::FAILURE,
+        Ok(Verdict::NoHead) => stopped(rt, &"no head"),
         Err(error) => stopped(rt, &error),
     }
 }

@@ -1,108 +1,182 @@
 //! The report on heads.
 
-ghost use Rattle.std.specs.Prelude.{◌≡◌, ◌<◌, ◌++◌, ℕ, List, [], Err, Ok, Option, length, map, flat_map, slice_get, true, if◌then◌else◌, OnOk, IfOk, IfSome, MatchOption, option_map};
-ghost use Rattle.std.specs.List.{FoldsTo};
+ghost use Rattle.std.specs.Prelude.{◌≡◌, ◌<◌, ◌^◌, ◌++◌, ℕ, false, None, List, [], Err, Ok, Option, length, map, flat_map, slice_get, true, if◌then◌else◌, OnOk, IfOk, IfSome, MatchOption, option_map, unwrap_or};
+ghost use Rattle.std.specs.List.{FoldsTo, enumerate_from};
 ghost use Rattle.std.specs.Vec.{vec_items};
+ghost use Rattle.mime_http.specs.Ranking.{IsRanking};
 ghost use Rattle.mime_io.specs.Lines.{row};
 ghost use Rattle.mime_headers.specs.Head.{bare_lines, heads_of};
-ghost use Rattle.mime_headers.specs.Report.{AddsChoice, AddsEntry, AddsLines, AddsType, HasBoundary, IsRead, IsReport, best_row, count_row, fault_place, fault_rows, media_rows, missing, offer_row, place_text, range_row, row_if, shown, spaced_row, weighed_text};
+ghost use Rattle.mime_headers.specs.Inner.{asked_now, choice_now, state_now};
+ghost use Rattle.mime_headers.specs.Report.{AddsChoice, AddsEntry, AddsHead, AddsLines, AddsType, HasBoundary, IsAnswer, IsRead, IsReportOf, best_row, byte_text, count_row, decider, fault_place, fault_rows, is_cut, is_plain, lacks_text, last_choice, media_rows, missing, numbered, offer_row, offer_rows, range_row, row_if, shown, spaced_row, weighed_text, weight_text};
 
-use crate::head::{heads_of, is_spaced, title_of, values_of};
+use crate::head::{Made, bare_lines, heads_of, is_spaced, is_status_line, title_of, values_of};
 use crate::shown::without_controls;
 use crate::verdict::Verdict;
 use mime::{Mime, ParseError};
 use mime_http::{
-    FieldError, RankedOffer, boundary, content_type, first_entry, has_weight, lacking, rank_offers,
-    trimmed, unescape, weight_of,
+    FieldError, RankedOffer, boundary, content_type, first_entry, has_quoted_weight, has_weight,
+    lacked, rank_offers, trimmed, unescape, weight_of,
 };
+use mime_io::LIMIT;
 use std::alloc::{AllocError, Global};
 
-/// Returns the text and the verdict of the report on the heads of an input and on offers, or `None` if the input is cut off and no
-/// line follows the end of its first head.
-pub(crate) fn report_of(
-    alloc: Global,
-    input: &[u8],
-    is_cut: bool,
-    offers: &[Mime],
-) -> Result<Option<(Vec<u8>, Verdict)>, AllocError>
-    ensures { IfOk result (λ answer. MatchOption answer ((is_cut ≡ true) × (heads_of true (bare_lines input.now) ≡ [])) (λ report.
-        IsReport (map (λ offer. offer.media) offers.now) is_cut (heads_of is_cut (bare_lines input.now)) (vec_items report.0) report.1)) }
+/// A report's text and its verdict.
+pub(crate) type Answer = (Vec<u8>, Verdict);
+
+/// The ranges of lines of `Accept`, and whether an offer is acceptable or there are no offers. `None` if there are no lines.
+type Choice = Option<(Vec<Mime>, bool)>;
+
+type Ranking = Vec<RankedOffer>;
+
+/// The ranges by which a response is weighed, if any.
+type Asked<'a> = Option<&'a [Mime]>;
+
+/// What is known after some heads.
+#[derive(Drop)]
+struct Report {
+    text: Vec<u8>,
+    /// Whether each `Content-Type` is accepted.
+    are_good: bool,
+    /// Whether the last `Accept` has an acceptable offer or there are no offers, or `None` if no head has an `Accept`.
+    choice: Option<bool>,
+    /// The ranges of the last request, if it has an `Accept`.
+    asked: Option<Vec<Mime>>,
+}
+
+/// Returns the text and the verdict of the report on the heads of an input and on offers, or `None` if the input is cut off and has no head
+/// that ends.
+pub(crate) fn report_of(alloc: Global, input: &[u8], offers: &[Mime]) -> Made<Option<Answer>>
+    ensures { IfOk result (λ answer. MatchOption answer ((is_cut input.now ≡ true) × (heads_of true (bare_lines true input.now) ≡ []))
+        (λ answer. IsReportOf (map (λ offer. offer.media) offers.now) input.now (vec_items answer.0) answer.1)) }
 {
-    let heads = heads_of(alloc, input, is_cut)?;
+    let is_cut = input.len() > LIMIT;
+    let lines = bare_lines(alloc, input, is_cut)?;
+    let heads = heads_of(alloc, &lines, is_cut)?;
     if heads.is_empty() {
-        return Ok(None);
+        return Ok((!is_cut).then_some((Vec::new(alloc), Verdict::NoHead)));
     }
+    let mut report = Report {
+        text: Vec::new(alloc),
+        are_good: true,
+        choice: None,
+        asked: None,
+    };
     let many = heads.len() > 1;
-    let mut text = Vec::new(alloc);
-    let (mut are_good, mut choice) = (true, None);
     for head in &heads {
-        let head = head.as_slice();
-        push_shown(&mut text, many, b"head ", title_of(head))?;
-        push_spaced(&mut text, head)?;
-        let types = values_of(alloc, b"content-type:", head)?;
-        push_types(&mut text, &mut are_good, &types)?;
-        push(&mut text, &[count_row(&types)])?;
-        let accepts = values_of(alloc, b"accept:", head)?;
-        choice = push_choice(&mut text, offers, &accepts, choice)?;
+        push_head(&mut report, offers, many, head.as_slice())?;
     }
-    let last = push_missing(&mut text, offers, choice)?;
-    push_shown(&mut text, is_cut, b"not read after ", b"1048576 bytes")?;
-    let verdict = if are_good && last.unwrap_or(true) {
+    let text = &mut report.text;
+    let any = push_missing(text, offers, report.choice)?;
+    let last = push_choice(text, offers, &any)?;
+    push_shown(text, is_cut, b"not read after ", b"1048576 bytes")?;
+    let choice = last_choice(report.choice, &last);
+    let verdict = if report.are_good && choice.unwrap_or(true) {
         Verdict::Acceptable
     } else {
         Verdict::NotAcceptable
     };
-    let text = without_controls(alloc, text)?;
-    Ok(Some((text, verdict)))
+    Ok(Some((without_controls(alloc, report.text)?, verdict)))
 }
 
-/// Adds the rows of the lines of `Accept` and of the offers, and returns the outcome: `Some(true)` if an offer is acceptable or there
-/// are no offers, and otherwise `Some(false)`. If there are no lines, adds nothing and returns `last`.
-fn push_choice(
-    text: &mut Vec<u8>,
-    offers: &[Mime],
-    lines: &[Vec<u8>],
-    last: Option<bool>,
-) -> Result<Option<bool>, AllocError>
-    ensures { IfOk result (λ choice. AddsChoice (map (λ offer. offer.media) offers.now) (map vec_items lines.now) (vec_items text.old, last)
-        (vec_items text.new, choice)) }
+/// Adds the rows of a head. `many` says whether there are several heads.
+fn push_head(report: &mut Report, offers: &[Mime], many: bool, head: &[&[u8]]) -> Made<()>
+    ensures { OnOk result (AddsHead (map (λ offer. offer.media) offers.now) many (state_now report.old) (map (λ line. line.now) head.now)
+        (state_now report.new)) }
 {
-    if lines.is_empty() {
-        return Ok(last);
-    }
-    let mut ranges = Vec::new(*text.allocator());
-    push_lines(text, &mut ranges, lines)?;
-    let ranking = rank_offers(*text.allocator(), &ranges, offers)?;
-    for one in &ranking {
-        push_offer(text, &ranges, one, nth(offers, one.offer))?;
-    }
-    let is_acceptable = push_best(text, offers, &ranking)?;
-    Ok(Some(is_acceptable))
+    let alloc = *report.text.allocator();
+    let title = title_of(head);
+    let is_answer = is_status_line(title);
+    let text = &mut report.text;
+    push_shown(text, many, b"head ", title)?;
+    push_spaced(text, head)?;
+    let types = values_of(alloc, b"content-type:", head)?;
+    let asked = asked_by(&report.asked, is_answer);
+    push_types(text, &mut report.are_good, asked, &types)?;
+    push(text, &[count_row(&types)])?;
+    let accepts = values_of(alloc, b"accept:", head)?;
+    let chosen = push_choice(text, offers, &accepts)?;
+    report.choice = last_choice(report.choice, &chosen);
+    keep_asked(&mut report.asked, is_answer, chosen);
+    Ok(())
 }
 
-/// Adds `no Accept`, and the rows of `*/*` and of the offers, if `choice` is `None` (RFC 9110, 12.5.1). Returns their outcome or `choice`.
-fn push_missing(
-    text: &mut Vec<u8>,
-    offers: &[Mime],
-    choice: Option<bool>,
-) -> Result<Option<bool>, AllocError>
-    ensures { IfOk result (λ last. AddsChoice (map (λ offer. offer.media) offers.now) (missing choice).1
-        (vec_items text.old ++ (missing choice).0, choice) (vec_items text.new, last)) }
+/// Returns the ranges by which a head is weighed: those of the last request if the head is an answer.
+fn asked_by(asked: &Option<Vec<Mime>>, is_answer: bool) -> Asked<'_>
+    ensures { option_map (λ ranges. map (λ range. range.media) ranges.now) result ≡ (if is_answer then asked_now asked.now else None) }
 {
-    if choice.is_some() {
-        return Ok(choice);
+    match asked {
+        Some(ranges) if is_answer => Some(ranges),
+        _ => None,
+    }
+}
+
+/// Keeps the ranges of a request's choice. `is_answer` says that the choice is a response's.
+fn keep_asked(asked: &mut Option<Vec<Mime>>, is_answer: bool, choice: Choice)
+    ensures { asked_now asked.new ≡ (if is_answer then asked_now asked.old else option_map (λ choice. choice.0) (choice_now choice)) }
+{
+    if is_answer {
+        return;
+    }
+    *asked = choice.map(|choice| choice.0);
+}
+
+/// Adds `no Accept` if there are offers and `choice` is `None`, and returns the line that is read then (RFC 9110, 12.5.1).
+fn push_missing(text: &mut Vec<u8>, offers: &[Mime], choice: Option<bool>) -> Made<Vec<Vec<u8>>>
+    ensures row { OnOk result (vec_items text.new ≡ vec_items text.old ++ (missing (map (λ offer. offer.media) offers.now) choice).0) }
+    ensures lines { IfOk result (λ lines. map vec_items (vec_items lines) ≡ (missing (map (λ offer. offer.media) offers.now) choice).1) }
+{
+    if offers.is_empty() || choice.is_some() {
+        return Ok(Vec::new(*text.allocator()));
     }
     push(text, &[b"no Accept\n"])?;
-    let any = values_of(*text.allocator(), b"accept:", &[b"accept:*/*"])?;
-    push_choice(text, offers, &any, None)
+    values_of(*text.allocator(), b"accept:", &[b"accept:*/*"])
 }
 
-/// The result of adding to a report.
-type Pushed = Result<(), AllocError>;
+/// Returns what a choice says of the offers, or `last` if none is made.
+fn last_choice(last: Option<bool>, choice: &Choice) -> Option<bool>
+    ensures { result ≡ last_choice last (choice_now choice.now) }
+{
+    match choice {
+        Some((_, is_acceptable)) => Some(*is_acceptable),
+        None => last,
+    }
+}
+
+/// Adds the rows of the lines of `Accept` and of the offers, or nothing if there are no lines.
+fn push_choice(text: &mut Vec<u8>, offers: &[Mime], lines: &[Vec<u8>]) -> Made<Choice>
+    ensures { IfOk result (λ choice. AddsChoice (map (λ offer. offer.media) offers.now) (map vec_items lines.now) (vec_items text.old)
+        (vec_items text.new, choice_now choice)) }
+{
+    if lines.is_empty() {
+        return Ok(None);
+    }
+    let before = text.len();
+    let mut ranges = Vec::new(*text.allocator());
+    push_lines(text, &mut ranges, lines)?;
+    let is_empty = before == text.len();
+    push_shown(text, is_empty, b"empty Accept", b"")?;
+    let ranking = push_offers(text, b"offer ", &ranges, offers)?;
+    let is_acceptable = push_best(text, offers, &ranking)?;
+    Ok(Some((ranges, is_acceptable)))
+}
+
+/// Adds the rows of offers, the best first, and returns the ranking.
+fn push_offers(text: &mut Vec<u8>, label: &[u8], ranges: &[Mime], offers: &[Mime]) -> Made<Ranking>
+    ensures ranking { IfOk result (λ ranking.
+        IsRanking (map (λ range. range.media) ranges.now) (map (λ offer. offer.media) offers.now) (vec_items ranking)) }
+    ensures rows { IfOk result (λ ranking. vec_items text.new ≡ vec_items text.old
+        ++ offer_rows label.now (map (λ range. range.media) ranges.now) (map (λ offer. offer.media) offers.now) (vec_items ranking)) }
+{
+    let ranking = rank_offers(*text.allocator(), ranges, offers)?;
+    for one in &ranking {
+        push_offer(text, label, ranges, one, nth(offers, one.offer))?;
+    }
+    Ok(ranking)
+}
 
 /// Adds pieces of text.
 #[inline(always)]
-fn push(text: &mut Vec<u8>, pieces: &[&[u8]]) -> Pushed
+fn push(text: &mut Vec<u8>, pieces: &[&[u8]]) -> Made<()>
     ensures { OnOk result (vec_items text.new ≡ vec_items text.old ++ flat_map (λ piece. piece.now) pieces.now) }
 {
     for piece in pieces {
@@ -112,7 +186,7 @@ fn push(text: &mut Vec<u8>, pieces: &[&[u8]]) -> Pushed
 }
 
 /// Adds a row of a label and bytes, or nothing if `bytes` is `None`.
-fn push_if(text: &mut Vec<u8>, label: &[u8], bytes: Option<&[u8]>) -> Pushed
+fn push_if(text: &mut Vec<u8>, label: &[u8], bytes: Option<&[u8]>) -> Made<()>
     ensures { OnOk result (vec_items text.new ≡ vec_items text.old ++ row_if label.now (option_map (λ bytes. bytes.now) bytes.entry)) }
 {
     match bytes {
@@ -122,7 +196,7 @@ fn push_if(text: &mut Vec<u8>, label: &[u8], bytes: Option<&[u8]>) -> Pushed
 }
 
 /// Adds a row of a label and bytes if `is_wanted`. A dot replaces each byte that isn't printable ASCII.
-fn push_shown(text: &mut Vec<u8>, is_wanted: bool, label: &[u8], bytes: &[u8]) -> Pushed
+fn push_shown(text: &mut Vec<u8>, is_wanted: bool, label: &[u8], bytes: &[u8]) -> Made<()>
     ensures { OnOk result (vec_items text.new ≡ vec_items text.old ++ (if is_wanted then row label.now (shown bytes.now) else [])) }
 {
     if !is_wanted {
@@ -137,7 +211,7 @@ fn push_shown(text: &mut Vec<u8>, is_wanted: bool, label: &[u8], bytes: &[u8]) -
 }
 
 /// Adds a row for each line with white space between the name `Content-Type` or `Accept` and its colon.
-fn push_spaced(text: &mut Vec<u8>, head: &[&[u8]]) -> Pushed
+fn push_spaced(text: &mut Vec<u8>, head: &[&[u8]]) -> Made<()>
     ensures { OnOk result (vec_items text.new ≡ vec_items text.old ++ flat_map spaced_row (map (λ line. line.now) head.now)) }
 {
     for line in head {
@@ -147,23 +221,36 @@ fn push_spaced(text: &mut Vec<u8>, head: &[&[u8]]) -> Pushed
     Ok(())
 }
 
-/// Adds the rows of values of `Content-Type`, each trimmed. Sets `are_good` to `false` if a value is rejected.
-fn push_types(text: &mut Vec<u8>, are_good: &mut bool, values: &[Vec<u8>]) -> Pushed
-    ensures { OnOk result (FoldsTo AddsType (vec_items text.old, are_good.old) (map vec_items values.now)
-        (vec_items text.new, are_good.new)) }
+/// Adds the rows of values of `Content-Type`, each trimmed. `asked` has the ranges by which they are weighed, if any. Sets `good` to
+/// `false` if a value is rejected.
+fn push_types(text: &mut Vec<u8>, good: &mut bool, asked: Asked, values: &[Vec<u8>]) -> Made<()>
+    ensures { OnOk result (FoldsTo (AddsType (option_map (λ ranges. map (λ range. range.media) ranges.now) asked.entry))
+        (vec_items text.old, good.old) (map vec_items values.now) (vec_items text.new, good.new)) }
 {
     for value in values {
         let Some(mime) = read(text, b"bad Content-Type ", trimmed(value))? else {
-            *are_good = false;
+            *good = false;
             continue;
         };
         push_media(text, &mime)?;
+        push_answer(text, asked, mime)?;
+    }
+    Ok(())
+}
+
+/// Adds the row of a response's media type, weighed like an offer by `asked`, or nothing if `asked` is `None`.
+fn push_answer(text: &mut Vec<u8>, asked: Asked, mime: Mime) -> Made<()>
+    ensures { OnOk result ((answer : List ℕ) × IsAnswer (option_map (λ ranges. map (λ range. range.media) ranges.now) asked.entry) mime.media answer
+        × (vec_items text.new ≡ vec_items text.old ++ answer)) }
+{
+    if let Some(ranges) = asked {
+        let _ranking = push_offers(text, b"answer ", ranges, &[mime])?;
     }
     Ok(())
 }
 
 /// Reads a value of a field. If it is rejected, adds the rows of its fault and returns `None`.
-fn read(text: &mut Vec<u8>, label: &[u8], value: &[u8]) -> Result<Option<Mime>, AllocError>
+fn read(text: &mut Vec<u8>, label: &[u8], value: &[u8]) -> Made<Option<Mime>>
     ensures { IfOk result (λ found. MatchOption found
         ((error : FieldError) × IsRead value.now (Err error) × (vec_items text.new ≡ vec_items text.old ++ fault_rows label.now value.now error))
         (λ mime. IsRead value.now (Ok mime.media) × (vec_items text.new ≡ vec_items text.old))) }
@@ -190,7 +277,7 @@ fn count_row(values: &[Vec<u8>]) -> &'static [u8]
 }
 
 /// Adds the rows of a media type.
-fn push_media(text: &mut Vec<u8>, mime: &Mime) -> Pushed
+fn push_media(text: &mut Vec<u8>, mime: &Mime) -> Made<()>
     ensures { OnOk result ((boundary : Option (List ℕ)) × HasBoundary mime.now.media boundary
         × (vec_items text.new ≡ vec_items text.old ++ media_rows mime.now.media boundary)) }
 {
@@ -209,37 +296,70 @@ fn push_media(text: &mut Vec<u8>, mime: &Mime) -> Pushed
 }
 
 /// Adds the rows of a rejected value of a field.
-fn push_fault(text: &mut Vec<u8>, label: &[u8], value: &[u8], error: FieldError) -> Pushed
+fn push_fault(text: &mut Vec<u8>, label: &[u8], value: &[u8], error: FieldError) -> Made<()>
     ensures { OnOk result (vec_items text.new ≡ vec_items text.old ++ fault_rows label.now value.now error) }
 {
     let said = format!(in *text.allocator(); "{error}")?;
     push(text, &[label, said.as_bytes(), b"\n"])?;
     push_shown(text, true, b"    ", value)?;
-    let (at, remark) = fault_place(value, error);
+    let at = fault_place(value, error);
     push(text, &[b"    "])?;
     for _ in 0..at {
         text.push(b' ')?;
     }
-    push(text, &[b"^", remark, b"\n"])
+    push(text, &[b"^"])?;
+    push_byte(text, byte_at(value, at))?;
+    push(text, &[b"\n"])?;
+    Ok(())
 }
 
-/// Returns the position of the byte at fault, or the value's length if something is missing at its end. Also returns a remark, which is
-/// empty unless that byte is `(`, which begins a comment in mail.
-fn fault_place(value: &[u8], error: FieldError) -> (usize, &'static [u8])
-    ensures { (result.0, result.1.now) ≡ fault_place value.now error }
+/// Returns the position of the byte at fault, or the value's length if something is missing at its end.
+fn fault_place(value: &[u8], error: FieldError) -> usize
+    ensures { result ≡ fault_place value.now error }
 {
     match error {
-        FieldError::NotUtf8 { pos } => (pos, b""),
-        FieldError::Invalid(ParseError::InvalidToken { pos, byte: b'(' }) => {
-            (pos, b" (HTTP has no comments)")
-        }
-        FieldError::Invalid(ParseError::InvalidToken { pos, .. }) => (pos, b""),
-        _ => (value.len(), b""),
+        FieldError::NotUtf8 { pos } => pos,
+        FieldError::Invalid(ParseError::InvalidToken { pos, .. }) => pos,
+        _ => value.len(),
     }
 }
 
+/// Returns the byte at a position, or `None` if there is none.
+fn byte_at(value: &[u8], at: usize) -> Option<u8>
+    ensures { result ≡ slice_get value.now at }
+{
+    if at < value.len() {
+        Some(value[at])
+    } else {
+        None
+    }
+}
+
+/// Adds a byte, if there is one, as a person reads it, and in hexadecimal. Adds a remark if it is `(`, which begins a comment in mail.
+fn push_byte(text: &mut Vec<u8>, byte: Option<u8>) -> Made<()>
+    ensures { OnOk result (vec_items text.new ≡ vec_items text.old ++ unwrap_or (option_map byte_text byte) []) }
+{
+    let Some(byte) = byte else {
+        return Ok(());
+    };
+    let printed = [b' ', byte];
+    let name = match byte {
+        b' ' => b" space".as_slice(),
+        b'\t' => b" tab",
+        _ if byte.is_ascii_graphic() => &printed,
+        _ => b"",
+    };
+    let remark = if byte == b'(' {
+        b"): HTTP has no comments".as_slice()
+    } else {
+        b")"
+    };
+    let number = format!(in *text.allocator(); "{byte:X}")?;
+    push(text, &[name, b" (", number.as_bytes(), remark])
+}
+
 /// Adds the rows of each entry in lines of `Accept`, and pushes the ranges to `ranges`.
-fn push_lines(text: &mut Vec<u8>, ranges: &mut Vec<Mime>, lines: &[Vec<u8>]) -> Pushed
+fn push_lines(text: &mut Vec<u8>, ranges: &mut Vec<Mime>, lines: &[Vec<u8>]) -> Made<()>
     ensures { OnOk result (AddsLines (map vec_items lines.now) (vec_items text.old, map (λ range. range.media) (vec_items ranges.old))
         (vec_items text.new, map (λ range. range.media) (vec_items ranges.new))) }
 {
@@ -258,7 +378,7 @@ fn push_lines(text: &mut Vec<u8>, ranges: &mut Vec<Mime>, lines: &[Vec<u8>]) -> 
 }
 
 /// Adds the rows of an entry that isn't empty, and pushes it to `ranges` if it is a range.
-fn push_entry(text: &mut Vec<u8>, ranges: &mut Vec<Mime>, entry: &[u8]) -> Pushed
+fn push_entry(text: &mut Vec<u8>, ranges: &mut Vec<Mime>, entry: &[u8]) -> Made<()>
     ensures { OnOk result (AddsEntry (vec_items text.old, map (λ range. range.media) (vec_items ranges.old)) entry.now
         (vec_items text.new, map (λ range. range.media) (vec_items ranges.new))) }
 {
@@ -266,60 +386,112 @@ fn push_entry(text: &mut Vec<u8>, ranges: &mut Vec<Mime>, entry: &[u8]) -> Pushe
         return Ok(());
     }
     if let Some(range) = read(text, b"bad Accept ", entry)? {
-        push_range(text, &range)?;
+        push_range(text, entry, &range)?;
         ranges.push(range)?;
     }
     Ok(())
 }
 
-/// Adds the row of a range.
-fn push_range(text: &mut Vec<u8>, range: &Mime) -> Pushed
-    ensures { OnOk result (vec_items text.new ≡ vec_items text.old ++ range_row range.now.media) }
+/// Adds the row of a range that is read of an entry.
+fn push_range(text: &mut Vec<u8>, entry: &[u8], range: &Mime) -> Made<()>
+    ensures { OnOk result (vec_items text.new ≡ vec_items text.old ++ range_row entry.now range.now.media) }
 {
-    push_weighed(text, b"Accept ", weight_of(range), range)?;
-    if has_weight(range) {
+    let weight = weight_of(range);
+    push_weighed(text, b"Accept ", weight, range)?;
+    if is_plain(entry, range) {
         return push(text, &[b"\n"]);
     }
-    push(text, &[b" (q is no weight)\n"])?;
+    let remark = b" (q isn't a weight in HTTP, counted as ";
+    push(text, &[remark, &decimals(weight), b")\n"])?;
     Ok(())
 }
 
-/// Adds a label, a weight with three decimals, and a media type. `weight` is in thousandths.
-fn push_weighed(text: &mut Vec<u8>, label: &[u8], weight: u16, mime: &Mime) -> Pushed
-    ensures { OnOk result (vec_items text.new ≡ vec_items text.old ++ weighed_text label.now weight mime.now.media) }
+/// Returns `true` if an entry has a weight as RFC 9110 allows it (12.4.2), or none. `range` is what is read of the entry.
+#[tactic(auto, unfolding(crate::specs::Report::is_plain))]
+fn is_plain(entry: &[u8], range: &Mime) -> bool
+    ensures { result ≡ is_plain entry.now range.now.media }
 {
-    let decimals = [
+    has_weight(range) && !has_quoted_weight(entry)
+}
+
+/// Returns a weight in thousandths as a number with three decimals.
+fn decimals(weight: u16) -> [u8; 5]
+    ensures { result ≡ weight_text weight }
+{
+    [
         b'0' + (weight / 1000 % 10) as u8,
         b'.',
         b'0' + (weight / 100 % 10) as u8,
         b'0' + (weight / 10 % 10) as u8,
         b'0' + (weight % 10) as u8,
-    ];
-    push(text, &[label, &decimals, b" ", mime.as_str().as_bytes()])
+    ]
+}
+
+/// Adds a label, a weight with three decimals, and a media type. `weight` is in thousandths.
+fn push_weighed(text: &mut Vec<u8>, label: &[u8], weight: u16, mime: &Mime) -> Made<()>
+    ensures { OnOk result (vec_items text.new ≡ vec_items text.old ++ weighed_text label.now weight mime.now.media) }
+{
+    push(
+        text,
+        &[label, &decimals(weight), b" ", mime.as_str().as_bytes()],
+    )
 }
 
 /// Adds the row of a ranked offer, or nothing if `offer` is `None`.
 fn push_offer(
     text: &mut Vec<u8>,
+    label: &[u8],
     ranges: &[Mime],
     one: &RankedOffer,
     offer: Option<&Mime>,
-) -> Pushed
+) -> Made<()>
     ensures { OnOk result (vec_items text.new ≡ vec_items text.old
-        ++ offer_row (map (λ range. range.media) ranges.now) one.now (option_map (λ offer. offer.now.media) offer.entry)) }
+        ++ offer_row label.now (map (λ range. range.media) ranges.now) one.now (option_map (λ offer. offer.now.media) offer.entry)) }
 {
     let Some(offer) = offer else {
         return Ok(());
     };
-    push_weighed(text, b"offer ", one.weight, offer)?;
-    push_place(text, ranges, b" by ", one.range, b"", b" by none")?;
-    let lacking = if one.weight > 0 {
-        None
-    } else {
-        lacking(ranges, offer)
-    };
-    let before = b" (lacks a parameter of ";
-    push_place(text, ranges, before, lacking, b")\n", b"\n")
+    push_weighed(text, label, one.weight, offer)?;
+    push(text, &[b" by "])?;
+    let decider = decider(ranges, one);
+    match decider {
+        Some((at, range)) => push_numbered(text, at, range)?,
+        None => push(text, &[b"none"])?,
+    }
+    push_lacked(text, ranges, decider.map(|decider| decider.1), offer)?;
+    push(text, &[b"\n"])
+}
+
+/// Returns the range that decides the weight of an offer, with its position, or `None` if none does.
+fn decider<'r>(ranges: &'r [Mime], one: &RankedOffer) -> Option<(usize, &'r Mime)>
+    ensures item { option_map (λ item. (item.0, item.1.now.media)) result ≡ decider (map (λ range. range.media) ranges.now) one.now }
+    ensures within { IfSome result (λ item. item.0 < length ranges.now) }
+{
+    let at = one.range?;
+    Some((at, nth(ranges, at)?))
+}
+
+/// Adds each range that would decide the weight of an offer if the offer didn't lack a parameter.
+fn push_lacked(
+    text: &mut Vec<u8>,
+    ranges: &[Mime],
+    decider: Option<&Mime>,
+    offer: &Mime,
+) -> Made<()>
+    ensures { OnOk result (vec_items text.new ≡ vec_items text.old
+        ++ flat_map (lacks_text offer.now.media (option_map (λ decider. decider.now.media) decider.entry))
+        (enumerate_from 0 (map (λ range. range.media) ranges.now))) }
+{
+    for (at, range) in ranges.iter().enumerate() {
+        if let Some((name, value)) = lacked(range, decider, offer) {
+            push(text, &[b" (lacks ", name.text.as_bytes(), b"="])?;
+            unescape(value.text, text)?;
+            push(text, &[b" of "])?;
+            push_numbered(text, at, range)?;
+            push(text, &[b")"])?;
+        }
+    }
+    Ok(())
 }
 
 /// Returns the media type at a position, or `None` if there is none.
@@ -330,47 +502,31 @@ fn nth(mimes: &[Mime], at: usize) -> Option<&Mime>
     mimes.get(at)
 }
 
-/// Adds `before`, the number (from 1) and the text of the range at position `at`, and `after`. Adds only `none` if `at` is `None`.
-fn push_place(
-    text: &mut Vec<u8>,
-    ranges: &[Mime],
-    before: &[u8],
-    at: Option<usize>,
-    after: &[u8],
-    none: &[u8],
-) -> Pushed
-    ensures { OnOk result (vec_items text.new ≡ vec_items text.old
-        ++ place_text (map (λ range. range.media) ranges.now) before.now at after.now none.now) }
+/// Adds the number (from 1) and the text of the range at position `at`.
+fn push_numbered(text: &mut Vec<u8>, at: usize, range: &Mime) -> Made<()>
+    requires { at < 2 ^ 63 }
+    ensures { OnOk result (vec_items text.new ≡ vec_items text.old ++ numbered (at, range.now.media)) }
 {
-    let Some(at) = at else {
-        return push(text, &[none]);
-    };
-    let Some(range) = nth(ranges, at) else {
-        return Ok(());
-    };
     let number = format!(in *text.allocator(); "{}", at + 1)?;
-    push(text, &[before, number.as_bytes(), b" "])?;
-    push(text, &[range.as_str().as_bytes(), after])
+    push(text, &[number.as_bytes(), b" ", range.as_str().as_bytes()])
 }
 
 /// Adds the row of the best offer, or `406 Not Acceptable` if no offer is acceptable. Adds nothing if there are no offers. Returns `true`
 /// if an offer is acceptable or there are no offers.
-fn push_best(
-    text: &mut Vec<u8>,
-    offers: &[Mime],
-    ranking: &[RankedOffer],
-) -> Result<bool, AllocError>
+fn push_best(text: &mut Vec<u8>, offers: &[Mime], ranking: &[RankedOffer]) -> Made<bool>
     ensures rows { OnOk result (vec_items text.new ≡ vec_items text.old ++ (best_row (map (λ offer. offer.media) offers.now) ranking.now).0) }
     ensures acceptable { IfOk result (λ acceptable. acceptable ≡ (best_row (map (λ offer. offer.media) offers.now) ranking.now).1) }
 {
-    let Some(first) = ranking.first() else {
-        return Ok(true);
-    };
-    if first.weight == 0 {
-        push(text, &[b"406 Not Acceptable\n"])?;
-        return Ok(false);
+    match ranking.first() {
+        None => Ok(true),
+        Some(first) if first.weight == 0 => {
+            push(text, &[b"406 Not Acceptable\n"])?;
+            Ok(false)
+        }
+        Some(first) => {
+            let best = nth(offers, first.offer).map(|best| best.as_str().as_bytes());
+            push_if(text, b"best ", best)?;
+            Ok(true)
+        }
     }
-    let best = nth(offers, first.offer).map(|best| best.as_str().as_bytes());
-    push_if(text, b"best ", best)?;
-    Ok(true)
 }

@@ -7,15 +7,16 @@ ghost use Rattle.mime_headers.specs.Shown.{control_len, without_controls};
 use std::alloc::{AllocError, Global};
 
 /// Returns the number of bytes of the control character at the start of these bytes, or 0 if there is none. Here, a line feed doesn't count
-/// as a control character, but U+202A to U+202E and U+2066 to U+2069, which change the direction of text, do.
+/// as a control character, but the characters that turn the direction of text do: U+061C, U+200E, U+200F, U+202A to U+202E, and U+2066 to
+/// U+2069.
 fn control_len(bytes: &[u8]) -> usize
     ensures { result ≡ control_len bytes.now }
 {
     match bytes {
         [b'\n', ..] => 0,
         [0..=31 | 127, ..] => 1,
-        [0xC2, 0x80..=0x9F, ..] => 2,
-        [0xE2, 0x80, 0xAA..=0xAE, ..] | [0xE2, 0x81, 0xA6..=0xA9, ..] => 3,
+        [0xC2, 0x80..=0x9F, ..] | [0xD8, 0x9C, ..] => 2,
+        [0xE2, 0x80, 0x8E | 0x8F | 0xAA..=0xAE, ..] | [0xE2, 0x81, 0xA6..=0xA9, ..] => 3,
         _ => 0,
     }
 }
@@ -27,7 +28,11 @@ pub(crate) fn without_controls(alloc: Global, bytes: Vec<u8>) -> Result<Vec<u8>,
     // Most reports have no byte that may begin a control character. The loop has no early exit, so that several bytes are tested at a time.
     let mut found = false;
     for byte in &bytes {
-        found |= (*byte < 32 && *byte != b'\n') || *byte == 127 || *byte == 0xC2 || *byte == 0xE2;
+        found |= (*byte < 32 && *byte != b'\n')
+            || *byte == 127
+            || *byte == 0xC2
+            || *byte == 0xD8
+            || *byte == 0xE2;
     }
     if !found {
         return Ok(bytes);

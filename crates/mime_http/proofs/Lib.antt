@@ -7,7 +7,9 @@ pub mod Demanded
 pub mod Highest
 pub mod HttpFacts
 pub mod HttpLaws
+pub mod LacksFacts
 pub mod Lists
+pub mod Missing
 pub mod NegotiationFacts
 pub mod Numbers
 pub mod Order

@@ -8,6 +8,7 @@ pub mod HttpPrinted
 pub mod Weight
 pub mod Ranges
 pub mod Ranking
+pub mod Lacks
 pub mod Boundary
 pub mod HeaderLaws
 pub mod ListLaws

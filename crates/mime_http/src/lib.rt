@@ -42,6 +42,7 @@
 #![tactic(auto)]
 
 mod accept;
+mod lacks;
 pub mod laws;
 mod list;
 mod meaning;
@@ -56,6 +57,7 @@ mod value;
 mod weights;
 
 pub use crate::accept::Accept;
+pub use crate::lacks::{has_quoted_weight, lacked};
 pub use crate::list::trimmed;
 pub use crate::multipart::{boundary, is_boundary};
 pub use crate::parameter::{with_boundary, with_charset, with_parameter};

@@ -79,7 +79,7 @@ pub(crate) fn named_parts(range: &Mime, essence: &str, type_: &str) -> Option<u8
 
 /// Returns `true` if an offer has a parameter of this name whose value means the same as `value`.
 #[tactic(auto, using(crate::proofs::Demanded::has_item))]
-fn has(offer: &Mime, name: &str, value: &str) -> bool
+pub(crate) fn has(offer: &Mime, name: &str, value: &str) -> bool
     ensures { result ≡ has offer.now.media (name.now, value.now) }
 {
     for (own, own_value) in offer.params() {

@@ -4,7 +4,7 @@ use crate::fields::string_at;
 use crate::values::read_or_not;
 use mime::Mime;
 use mime_http::{
-    Accept, FieldError, boundary, content_type, covers, unescape, weight_of, with_boundary,
+    Accept, FieldError, boundary, content_type, covers, lacked, unescape, weight_of, with_boundary,
     with_charset, with_parameter,
 };
 use std::alloc::{AllocError, Global};
@@ -138,6 +138,28 @@ fn show_position(out: &mut String, position: Option<usize>) {
 fn order_of(alloc: Global, strings: &[String]) -> Result<Vec<usize>, AllocError> {
     let accept = header_of(alloc, string_at(strings, 0))?;
     accept.order(alloc, &offers_of(alloc, strings)?)
+}
+
+/// Shows the parameter that keeps a range from deciding the weight of an offer. An empty `decider` stands for none.
+pub(crate) fn show_lacked(
+    alloc: Global,
+    out: &mut String,
+    range: &str,
+    decider: &str,
+    offer: &str,
+) {
+    let Some(range) = read_or_not(alloc, out, range) else {
+        return;
+    };
+    let Some(offer) = read_or_not(alloc, out, offer) else {
+        return;
+    };
+    let decider = Mime::from_str(alloc, decider).ok();
+    let Some((name, value)) = lacked(&range, decider.as_ref(), &offer) else {
+        return show_text(out, None);
+    };
+    show(out, &name.text);
+    show(out, &value.text);
 }
 
 /// Shows the positions, among a row's offers, of those that the header accepts, the best first.

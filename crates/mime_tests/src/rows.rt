@@ -27,7 +27,7 @@ use crate::constants::{show_bytes, show_copies};
 use crate::fields::string_at;
 use crate::http::{
     show, show_accept, show_accept_in_latin_1, show_best, show_boundary,
-    show_content_type_in_latin_1, show_covers, show_order, show_text, show_unescaped,
+    show_content_type_in_latin_1, show_covers, show_lacked, show_order, show_text, show_unescaped,
     show_unescaped_in_room, show_value, show_weight_of, show_weights, show_with_boundary,
     show_with_charset, show_with_parameter, shown,
 };
@@ -47,7 +47,7 @@ use mime_examples::answer::{refusal, refusal_of_body, status_of};
 use mime_examples::callers::{has_suffix, reads_alike};
 use mime_examples::reader::reader_of;
 use mime_examples::utf8::says_utf8;
-use mime_http::{FieldError, content_type, is_boundary, trimmed};
+use mime_http::{FieldError, content_type, has_quoted_weight, is_boundary, trimmed};
 use std::alloc::Global;
 
 /// Writes the answers to a row.
@@ -104,7 +104,9 @@ fn show_of_headers(alloc: Global, out: &mut String, word: &str, strings: &[Strin
         "content_type" => show_value(out, content_type(alloc, one.as_bytes())),
         "content_type in Latin-1" => show_content_type_in_latin_1(alloc, out, one),
         "covers" => show_covers(alloc, out, one, two),
+        "has_quoted_weight" => show(out, &has_quoted_weight(one.as_bytes())),
         "is_boundary" => show(out, &is_boundary(one.as_bytes())),
+        "lacked" => show_lacked(alloc, out, one, two, three),
         "order" => show_order(alloc, out, strings),
         "trimmed" => show_text(out, Some(shown(trimmed(one.as_bytes())))),
         "unescape" => show_unescaped(alloc, out, one, two),
