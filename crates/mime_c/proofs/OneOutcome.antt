@@ -15,7 +15,7 @@ use Rattle.mime_c.proofs.NoZero.{texts_come_back, items_come_back}
 -- An outcome is the one if any other is the same.
 pub one_is : {Held : Type 0} {Is : ℕ → Held → Type 0} {n : ℕ} {held : Held} → n ≢ MIME_NO_MEMORY → Is n held
     → ((m : ℕ) (other : Held) → n ≢ MIME_NO_MEMORY → m ≢ MIME_NO_MEMORY → Is n held → Is m other
-        → (m ≡ n) × (other ≡ held)) → HasOne Is
+    → (m ≡ n) × (other ≡ held)) → HasOne Is
 one_is {n = n} {held = held} some is same = (n, held, some, is, λ m other too has. same m other some too is has)
 
 -- A call that succeeds with what it has to hold has one outcome.

@@ -61,7 +61,7 @@ module _ {X : Type 0} (R : X → X → Type 0) (goes_on : (x y z : X) → R x y 
               (λ there. ⊎_elim inl (λ deeper. inr (a_later y z xs deeper)) ((rest.2 z).0 there)) (one_of y z rest.0 is),
           λ is. ⊎_elim (λ same. a_later y z rest.0 ((rest.2 z).1 (inl same)))
               (λ there. ⊎_elim (the_first y z rest.0) (λ deeper. a_later y z rest.0 ((rest.2 z).1 (inr deeper)))
-                  (one_of y z xs there)) is,
+              (one_of y z xs there)) is,
         ),
       ))
       (All-head (λ z. R x z ⊎ R z x) y xs apart)

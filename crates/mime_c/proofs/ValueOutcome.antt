@@ -81,7 +81,7 @@ boundary_or_not media =
     (λ found. ⊎_elim
     (λ is. inl (found.0, record { multipart = named.0 multipart; found = found.1; is = is }))
     (λ no. inr (λ other is. no (subst IsBoundary (same_Some other found.0 (sym is.found ∙ found.1)) is.is)))
-        (is_boundary_or_not found.0))
+    (is_boundary_or_not found.0))
     (λ none. inr (λ other is. none-some other (sym none ∙ is.found)))
     (some_or_none (option_map unescaped (first_value (codes "boundary") media.pairs))))
     (λ no. inr (λ other is. true≢false (sym (named.1 is.multipart) ∙ no)))

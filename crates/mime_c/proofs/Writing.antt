@@ -51,8 +51,16 @@ module _ {old now left all : List ℕ} {at : ℕ} (leaves : Leaves old now at le
   pub leaves-holds : (bytes more : List ℕ) → left ≡ bytes ++ more → length all ≤ length old → at + length bytes ≤ length now
   leaves-holds bytes more is room =
       let sizes = ap length leaves.onward in
-      omega (arith, leaves.wrote.end, ap length leaves.wrote.there, sizes, ap length is, room, length-append {A = ℕ},
-          length-drop {A = ℕ})
+      omega (
+        arith,
+        leaves.wrote.end,
+        ap length leaves.wrote.there,
+        sizes,
+        ap length is,
+        room,
+        length-append {A = ℕ},
+        length-drop {A = ℕ},
+      )
 
   -- The bytes after the next are left once the next are written.
   pub leaves-next : (bytes more new : List ℕ) (end : ℕ) → left ≡ bytes ++ more → Writes now at bytes new end
@@ -79,7 +87,7 @@ writes-all {old} {now} {left} {all} {at} {end} leaves none = record {
       let after : drop (length (prefix ++ all)) old ≡ drop (length (prefix ++ all)) older =
       rw (length-append prefix all)
       (sym (drop-drop (length all) (length prefix) old) ∙ ap (drop (length all)) behind
-          ∙ drop-drop (length all) (length prefix) older) in
+      ∙ drop-drop (length all) (length prefix) older) in
       record { there = cc (before, after, last.there); end = last.end ∙ ap (λ it. length (it ++ all)) before };
 }
 

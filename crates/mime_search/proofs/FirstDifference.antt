@@ -62,7 +62,7 @@ module _ (a b : List ℕ) (at : ℕ) (room : at + 16 ≤ length a) (other_room :
   pub lowest_differs : lane_mask ≢ 0 → DifferAt a b at (at + count_trailing_zeros 64 lane_mask)
   lowest_differs some =
       let first : count_trailing_zeros 64 lane_mask ≡ equal_run =
-          trailing_mask_l (top 7) 64 lanes (omega (arith, count)) (omega (arith, some)) in
+      trailing_mask_l (top 7) 64 lanes (omega (arith, count)) (omega (arith, some)) in
       let within : equal_run < length lanes = omega (
         arith,
         (λ (all : equal_run ≡ length lanes). some (all_pass (top 7) lanes all)),

@@ -124,7 +124,7 @@ module _ (a b bits : List ℕ) (at : ℕ) (room : 16 ≤ length a) (other_room :
   first_bit near =
       let stop : get_or bits at 0 ≡ 1 =
       (let stops = prefix_len_stops (λ b. not (b == 1)) bits 0 (omega (arith, near, bit_count, first)) in
-          grind (arith, nat_tests, first)) in
+      grind (arith, nat_tests, first)) in
       let differ : difference_bit (get_or a at 0) (get_or b at 0) ≡ 1 =
       cc (
         stop,

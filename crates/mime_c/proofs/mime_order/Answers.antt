@@ -70,7 +70,7 @@ returns c =
     let some : order ≢ [] = λ empty. absurd (grind (arith, nat_tests, ap length empty, c.if-is_empty.ensures)) in
     let IsHeld = OrderIs c.args.is_there c.args.accept.now c.args.offers.now c.args.order.now 0 in
     let length_is : c.len-3.result ≡ length order =
-        omega (arith, c.len-3.ensures, c.deref.ensures.len, ap length c.deref.ensures.value) in
+    omega (arith, c.len-3.ensures, c.deref.ensures.len, ap length c.deref.ensures.value) in
     let answer : IsHeld (written order c.args.order.now, length order) = are_offers header.0 offered.0 _ _ header.1 offered.1
     (none_bad c.args.offers.now c.in-Ok.entries.first offered.0 c.in-Ok.ensures.first c.in_default-first.not-Some offered.3)
     (order_is order _ _ (in_order offered.0 _ header.2 (c.ranges-2.ensures ∙ ap (λ (it : Header). it.ranges) offered.2)

@@ -12,7 +12,7 @@ put-requires c =
     let here : c.copy-end-2.result ≡ c.args.at + 5 = omega (arith, digits, c.copy-end.ensures.end, c.copy-end-2.ensures.end) in
     let there : length c.copy-end-2.new.out ≡ length c.args.out.now = omega (arith, c.copy-end.auto.out, c.copy-end-2.auto.out) in
     let within : c.copy-end-2.result ≤ length c.copy-end-2.new.out =
-        omega (arith, c.requires, all, here, there, length-append {A = ℕ}) in
+    omega (arith, c.requires, all, here, there, length-append {A = ℕ}) in
     let end = writes-end within c.put_parts-end.ensures in
     omega (arith, c.requires, all, here, there, end, c.put_parts-end.auto.out, size, length-append {A = ℕ})
 

@@ -13,7 +13,7 @@ means : (paired : Bool) (bytes more : List ℕ) (b : ℕ) (begins : Bool) → by
     → unescaped_from paired bytes ≡ (if begins then unescaped_from true more else b ∷ unescaped_from false more)
 means paired bytes more b begins is tells =
     ap (unescaped_from paired) is ∙ ap (λ (pair : Bool). if pair then unescaped_from true more else b
-        ∷ unescaped_from false more) tells
+    ∷ unescaped_from false more) tells
 
 pub returns-then-not-has_backslash : goal.returns-then-not-has_backslash
 returns-then-not-has_backslash c = record {
