@@ -1,6 +1,6 @@
 -- Heads, rows and verdicts for which each definition is true, and others for which it is false, so that a page that says less or more
 -- doesn't check.
-use Rattle.mime_headers.proofs.Common.{AreOffers, Bool, Err, FieldError, Global, Invalid, InvalidToken, IsAnswer, IsHttpMediaType, IsRead, IsReport, List, MediaType, MissingSubtype, None, NotUtf8, Ok, Some, String, Verdict, a_word, bad_word, bare, bare_lines, begins, best_row, byte_text, codes, continued, control_len, count_row, cut_row, decider, empty_row, false, fault_place, fault_rows, filter, flat_map, goes_on, heads_of, is_cut, is_field, is_request_line, is_status_line, last_choice, length, lines_of, map, mark_of, media_rows, missing, no_word, offer_row, offer_rows, range_row, refl, shown, spaced_row, string_bytes, text_of, title_row, trimmed, true, values_of, verdict_of, weight_text, with_entry, without_controls, [], ℕ, ◌++◌, ◌∷◌, ◌≡◌, ◌≢◌, digits, field_error_text, row, numbered, lacks_text, Option, RankedOffer, decimal}
+use Rattle.mime_headers.proofs.Common.{AreOffers, Bool, Err, FieldError, Global, Invalid, InvalidToken, IsAnswer, IsHttpMediaType, IsRead, IsReport, List, MediaType, MissingSubtype, None, NotUtf8, Ok, Some, String, Verdict, a_word, asked_after, bad_word, bare, bare_lines, begins, best_row, byte_text, codes, continued, control_len, count_row, cut_row, decider, empty_row, false, fault_place, fault_rows, filter, flat_map, goes_on, heads_of, is_answer, is_cut, is_field, is_interim, is_request_line, is_status_line, last_choice, length, lines_of, map, mark_of, media_rows, missing, no_word, offer_row, offer_rows, range_row, refl, shown, spaced_row, string_bytes, text_of, title_row, trimmed, true, values_of, verdict_of, weight_text, with_entry, without_controls, [], ℕ, ◌++◌, ◌∷◌, ◌≡◌, ◌≢◌, digits, field_error_text, row, numbered, lacks_text, Option, RankedOffer, decimal}
 use Rattle.mime.specs.Bytes.{is_token_byte}
 use Rattle.mime_headers.specs.{Head.is_code, Head.is_own, Head.is_start, Head.is_version, Report.is_plain}
 
@@ -218,6 +218,18 @@ verdicts :
     × (verdict_of false (Some true) ≡ Verdict.NotAcceptable)
     × (map (last_choice (Some true)) (None ∷ Some ([], false) ∷ []) ≡ Some true ∷ Some false ∷ [])
 verdicts = (refl, refl, refl, refl, refl, refl)
+
+-- A response that isn't interim answers the last request, with one media type, and no later response does. A request begins anew.
+answers :
+    (map is_interim (codes "HTTP/1.1 100 Continue" ∷ codes "HTTP/2 200 1" ∷ codes "HTTP/1.1 " ∷ []) ≡ true ∷ false ∷ false ∷ [])
+    × (map (λ title. is_answer title ([] ∷ [])) (codes "HTTP/2 200" ∷ codes "HTTP/2 103" ∷ codes "GET / HTTP/2" ∷ [])
+    ≡ true ∷ false ∷ false ∷ [])
+    × (map (is_answer (codes "HTTP/2 200")) ([] ∷ ([] ∷ [] ∷ []) ∷ []) ≡ false ∷ false ∷ [])
+    × (map (λ title. asked_after title (Some []) None) (codes "HTTP/2 200" ∷ codes "HTTP/2 103" ∷ codes "GET 1 HTTP/2" ∷ [])
+    ≡ None ∷ Some [] ∷ None ∷ [])
+    × (map (asked_after (codes "GET / HTTP/2") None) (Some (plain ∷ [], true) ∷ None ∷ []) ≡ Some (plain ∷ []) ∷ None ∷ [])
+unfolding is_code is_version
+answers = (refl, refl, refl, refl, refl)
 
 -- Without a head the report is empty, and there is none if the input is cut off. Without a request a media type has no answer.
 no_heads :

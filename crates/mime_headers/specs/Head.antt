@@ -68,6 +68,10 @@ is_code bytes =
 abbrev pub is_status_line : List ℕ → Bool
 is_status_line text = is_version (word text) && is_code (word (other_words text))
 
+-- whether a status line is that of an interim response, whose code begins with 1, and after which another response follows (RFC 9110, 15.2)
+abbrev pub is_interim : List ℕ → Bool
+is_interim text = slice_index (other_words text) 0 == 49
+
 unfoldable pub is_start : List ℕ → Bool
 is_start line = is_request_line (text_of line) || is_status_line (text_of line)
 

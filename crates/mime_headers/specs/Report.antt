@@ -4,7 +4,7 @@ use Rattle.std.specs.{Char.is_ascii_graphic, Fmt.decimal, Fmt.digits, List.Folds
 use Rattle.mime.specs.{Values.MediaType, Values.suffix_of, declared.scan.fault.ParseError.TheVariants.InvalidToken}
 use Rattle.mime_http.specs.{Boundary.IsBoundaryOf, HttpFaults.HttpExplains, HttpList.trimmed, HttpList.AreBetweenCommas, HttpList.IsPrinted, HttpList.IsPiece, HttpList.BeginsPiece, HttpMediaType.HttpReads, HttpPrinted.field_error_text, Lacks.is_quoted, Lacks.lacked, Ranges.weight_of, Ranges.first_value, Ranking.is_qvalue, Ranking.IsRanking, Unescaped.unescaped, declared.ranking.RankedOffer.RankedOffer, declared.value.FieldError.FieldError, declared.value.FieldError.TheVariants.NotUtf8, declared.value.FieldError.TheVariants.Invalid, declared.value.FieldError.TheVariants.NoMemory}
 use Rattle.mime_io.specs.{Lines.row, Stops.limit}
-use Rattle.mime_headers.specs.{Head.bare_lines, Head.heads_of, Head.is_spaced, Head.is_status_line, Head.title_of, Head.values_of, Shown.without_controls}
+use Rattle.mime_headers.specs.{Head.bare_lines, Head.heads_of, Head.is_interim, Head.is_spaced, Head.is_status_line, Head.title_of, Head.values_of, Shown.without_controls}
 use Rattle.mime_headers.specs.declared.verdict.Verdict.{Verdict}
 
 -- A value of a field is read as this media type, which is printed for the value, or is rejected with this error, which isn't `NoMemory`.
@@ -200,18 +200,27 @@ spaced_row line =
 abbrev pub last_choice : Option Bool → Option (List MediaType × Bool) → Option Bool
 last_choice last choice = option_or (option_map (λ choice. choice.1) choice) last
 
+-- whether a head of this title and with these values of `Content-Type` answers a request: a response that isn't interim, with one value
+abbrev pub is_answer : List ℕ → List (List ℕ) → Bool
+is_answer title values = is_status_line title && (not (is_interim title) && length values == 1)
+
+-- the ranges that are left to weigh a later response by: a request's own, and those of the last request after an interim response
+abbrev pub asked_after : List ℕ → Option (List MediaType) → Option (List MediaType × Bool) → Option (List MediaType)
+asked_after title asked choice =
+    if is_status_line title then (if is_interim title then asked else None) else option_map (λ choice. choice.0) choice
+
 -- A head adds, in order: its title, its lines with white space before a colon, its values of `Content-Type`, `count_row`, and its choice. A
--- response answers the last request, and any other head is a request.
+-- response that isn't interim answers the last request, and any head but a response is a request.
 pub record AddsHead (offers : List MediaType) (many : Bool) (old : State) (head : List (List ℕ)) (new : State) : Type 0 where
   pub between : List ℕ
   pub choice : Option (List MediaType × Bool)
-  pub types : FoldsTo (AddsType (if is_status_line (title_of head) then old.asked else None))
+  pub types : FoldsTo (AddsType (if is_answer (title_of head) (values_of (codes "content-type:") head) then old.asked else None))
       (old.text ++ (title_row many head ++ flat_map spaced_row head), old.are_good) (values_of (codes "content-type:") head)
       (between, new.are_good)
   pub chosen : AddsChoice offers (values_of (codes "accept:") head) (between ++ count_row (values_of (codes "content-type:") head))
       (new.text, choice)
   pub last : new.choice ≡ last_choice old.choice choice
-  pub asked : new.asked ≡ (if is_status_line (title_of head) then old.asked else option_map (λ choice. choice.0) choice)
+  pub asked : new.asked ≡ asked_after (title_of head) old.asked choice
 
 -- if there are offers and no head has an `Accept`, the row which says so, and the line that is read in its place
 abbrev pub missing : List MediaType → Option Bool → List ℕ × List (List ℕ)

@@ -5,7 +5,7 @@ ghost use Rattle.std.specs.List.{before_first, after_first, list_all};
 ghost use Rattle.std.specs.Vec.{vec_items};
 ghost use Rattle.mime.specs.Bytes.{is_token_byte};
 ghost use Rattle.mime_http.specs.HttpList.{trimmed};
-ghost use Rattle.mime_headers.specs.Head.{bare, bare_lines, begins, continued, from_angle, goes_on, has_field, head_at, heads_of, is_field, is_own, is_request_line, is_code, is_end, is_spaced, is_start, is_status_line, is_token, is_version, own_lines, pasted_head, text_of, title_of, values_of};
+ghost use Rattle.mime_headers.specs.Head.{bare, bare_lines, begins, continued, from_angle, goes_on, has_field, head_at, heads_of, is_field, is_own, is_request_line, is_code, is_end, is_interim, is_spaced, is_start, is_status_line, is_token, is_version, own_lines, pasted_head, text_of, title_of, values_of};
 ghost use Rattle.mime_headers.specs.Inner.{lines_now};
 
 use mime_http::trimmed;
@@ -150,6 +150,14 @@ pub(crate) fn is_status_line(text: &[u8]) -> bool
     let (version, rest) = cut(text, b' ');
     let (code, _) = cut(rest, b' ');
     is_version(version) && is_code(code)
+}
+
+/// Returns `true` if a status line is that of an interim response, such as `HTTP/1.1 100 Continue`.
+pub(crate) fn is_interim(text: &[u8]) -> bool
+    ensures { result ≡ is_interim text.now }
+{
+    let (_, rest) = cut(text, b' ');
+    matches!(rest, [b'1', ..])
 }
 
 /// Returns `true` if a line is a start line after its mark.

@@ -7,9 +7,11 @@ ghost use Rattle.mime_http.specs.Ranking.{IsRanking};
 ghost use Rattle.mime_io.specs.Lines.{row};
 ghost use Rattle.mime_headers.specs.Head.{bare_lines, heads_of};
 ghost use Rattle.mime_headers.specs.Inner.{asked_now, choice_now, state_now};
-ghost use Rattle.mime_headers.specs.Report.{AddsChoice, AddsEntry, AddsHead, AddsLines, AddsType, HasBoundary, IsAnswer, IsRead, IsReportOf, best_row, byte_text, count_row, decider, fault_place, fault_rows, is_cut, is_plain, lacks_text, last_choice, media_rows, missing, numbered, offer_row, offer_rows, range_row, row_if, shown, spaced_row, weighed_text, weight_text};
+ghost use Rattle.mime_headers.specs.Report.{AddsChoice, AddsEntry, AddsHead, AddsLines, AddsType, HasBoundary, IsAnswer, IsRead, IsReportOf, asked_after, best_row, byte_text, count_row, decider, fault_place, fault_rows, is_answer, is_cut, is_plain, lacks_text, last_choice, media_rows, missing, numbered, offer_row, offer_rows, range_row, row_if, shown, spaced_row, weighed_text, weight_text};
 
-use crate::head::{Made, bare_lines, heads_of, is_spaced, is_status_line, title_of, values_of};
+use crate::head::{
+    Made, bare_lines, heads_of, is_interim, is_spaced, is_status_line, title_of, values_of,
+};
 use crate::shown::without_controls;
 use crate::verdict::Verdict;
 use mime::{Mime, ParseError};
@@ -85,19 +87,26 @@ fn push_head(report: &mut Report, offers: &[Mime], many: bool, head: &[&[u8]]) -
 {
     let alloc = *report.text.allocator();
     let title = title_of(head);
-    let is_answer = is_status_line(title);
     let text = &mut report.text;
     push_shown(text, many, b"head ", title)?;
     push_spaced(text, head)?;
     let types = values_of(alloc, b"content-type:", head)?;
-    let asked = asked_by(&report.asked, is_answer);
+    let asked = asked_by(&report.asked, is_answer(title, &types));
     push_types(text, &mut report.are_good, asked, &types)?;
     push(text, &[count_row(&types)])?;
     let accepts = values_of(alloc, b"accept:", head)?;
     let chosen = push_choice(text, offers, &accepts)?;
     report.choice = last_choice(report.choice, &chosen);
-    keep_asked(&mut report.asked, is_answer, chosen);
+    keep_asked(&mut report.asked, title, chosen);
     Ok(())
+}
+
+/// Returns `true` if a head answers a request: it is a response that isn't interim (RFC 9110, 15.2), with one `Content-Type`. So each
+/// `Accept` weighs at most one media type.
+fn is_answer(title: &[u8], types: &[Vec<u8>]) -> bool
+    ensures { result ≡ is_answer title.now (map vec_items types.now) }
+{
+    is_status_line(title) && (!is_interim(title) && types.len() == 1)
 }
 
 /// Returns the ranges by which a head is weighed: those of the last request if the head is an answer.
@@ -110,11 +119,14 @@ fn asked_by(asked: &Option<Vec<Mime>>, is_answer: bool) -> Asked<'_>
     }
 }
 
-/// Keeps the ranges of a request's choice. `is_answer` says that the choice is a response's.
-fn keep_asked(asked: &mut Option<Vec<Mime>>, is_answer: bool, choice: Choice)
-    ensures { asked_now asked.new ≡ (if is_answer then asked_now asked.old else option_map (λ choice. choice.0) (choice_now choice)) }
+/// Keeps the ranges by which a later response is weighed: those of a request's choice, and after an interim response those in `asked`.
+fn keep_asked(asked: &mut Option<Vec<Mime>>, title: &[u8], choice: Choice)
+    ensures { asked_now asked.new ≡ asked_after title.now (asked_now asked.old) (choice_now choice) }
 {
-    if is_answer {
+    if is_status_line(title) {
+        if !is_interim(title) {
+            *asked = None;
+        }
         return;
     }
     *asked = choice.map(|choice| choice.0);
