@@ -1,6 +1,6 @@
 -- Heads, rows and verdicts for which each definition is true, and others for which it is false, so that a page that says less or more
 -- doesn't check.
-use Rattle.mime_headers.proofs.Common.{AreOffers, Bool, Err, FieldError, Global, Invalid, InvalidToken, IsAnswer, IsHttpMediaType, IsRead, IsReport, List, MediaType, MissingSubtype, None, NotUtf8, Ok, Some, String, Verdict, a_word, asked_after, bad_word, bare, bare_lines, begins, best_row, byte_text, codes, continued, control_len, count_row, cut_row, decider, empty_row, false, fault_place, fault_rows, filter, flat_map, goes_on, heads_of, is_answer, is_cut, is_field, is_interim, is_request_line, is_status_line, last_choice, length, lines_of, map, mark_of, media_rows, missing, no_word, offer_row, offer_rows, range_row, refl, shown, spaced_row, string_bytes, text_of, title_row, trimmed, true, values_of, verdict_of, weight_text, with_entry, without_controls, [], ℕ, ◌++◌, ◌∷◌, ◌≡◌, ◌≢◌, digits, field_error_text, row, numbered, lacks_text, Option, RankedOffer, decimal}
+use Rattle.mime_headers.proofs.Common.{AreOffers, Bool, Err, FieldError, Global, Invalid, InvalidToken, IsAnswer, IsHttpMediaType, IsRead, IsReport, List, MediaType, MissingSubtype, None, NotUtf8, Ok, Some, String, Verdict, a_word, asked_after, bad_word, bare, bare_lines, begins, best_row, byte_text, codes, continued, control_len, count_row, cut_row, decider, empty_row, false, fault_rows, filter, flat_map, goes_on, heads_of, is_answer, is_cut, is_field, is_interim, is_request_line, is_status_line, last_choice, length, lines_of, map, mark_of, media_rows, missing, no_word, offer_row, offer_rows, range_row, refl, shown, spaced_row, string_bytes, text_of, title_row, trimmed, true, values_of, verdict_of, weight_text, with_entry, without_controls, [], ℕ, ◌++◌, ◌∷◌, ◌≡◌, ◌≢◌, digits, field_error_text, row, numbered, lacks_text, Option, RankedOffer, decimal}
 use Rattle.mime.specs.Bytes.{is_token_byte}
 use Rattle.mime_headers.specs.{Head.is_code, Head.is_own, Head.is_start, Head.is_version, Report.is_plain}
 
@@ -137,8 +137,6 @@ rows_of_media = (refl, refl)
 -- Bytes that aren't printable ASCII have dots. A caret is under the byte at fault, which is named, or after the value.
 faults :
     (shown (97 ∷ 32 ∷ 126 ∷ 0 ∷ 9 ∷ 27 ∷ 127 ∷ 195 ∷ []) ≡ codes "a ~.....")
-    × (map (fault_place (codes "a/")) (Invalid (InvalidToken 1 98) ∷ Invalid MissingSubtype ∷ NotUtf8 1 ∷ []) ≡ 1 ∷ 2
-    ∷ 1 ∷ [])
     × (map byte_text (99 ∷ 32 ∷ 9 ∷ 233 ∷ [])
     ≡ (codes " c (" ++ (digits 16 true 99 ++ codes ")")) ∷ (codes " space (" ++ (digits 16 true 32 ++ codes ")"))
     ∷ (codes " tab (" ++ (digits 16 true 9 ++ codes ")")) ∷ (codes " (" ++ (digits 16 true 233 ++ codes ")")) ∷ [])
@@ -147,7 +145,7 @@ faults :
     ≡ codes "bad Content-Type mime parse error: a subtype was missing behind the slash (/)\n    a.b/\n        ^\n")
     × (fault_rows (codes "bad Accept ") (codes "a c") (NotUtf8 1)
     ≡ row (codes "bad Accept ") (field_error_text (NotUtf8 1)) ++ (codes "    a c\n     ^" ++ (byte_text 32 ++ codes "\n")))
-faults = (refl, refl, refl, refl, refl, refl)
+faults = (refl, refl, refl, refl, refl)
 
 -- A field that isn't there has a row, `Accept` only if there are offers, and so have an empty `Accept`, an input that is cut off, the title
 -- of a head among many, and white space before a colon.

@@ -1,5 +1,5 @@
--- Heads and offers have one report, with one verdict, so that a page that says less doesn't check: if offers have one ranking.
-use Rattle.mime_headers.proofs.Common.{utf8_valid_len-IsValidUpTo, nat_lt, length, AddsChoice, AddsEntry, AddsHead, AddsReading, AddsType, Bool, Err, FieldError, FoldsTo, HasBoundary, HttpExplains, Invalid, IsHttpMediaType, IsRanking, IsRead, IsReportOf, IsUtf8, List, MediaType, NoMemory, None, NotUtf8, Ok, Option, RankedOffer, Result, Some, State, true, Verdict, [], ap, ap₂, arith, media_rows, no_fault, one_http_fault, one_printed_text, only_cut, refl, sym, trimmed, with_entry, ℕ, ◌++◌, ◌∙◌, ◌∷◌, ◌≡◌, ◌≢◌, IsAnswer, IsReport, bare_lines, codes, heads_of, is_cut, last_choice, offer_rows}
+-- Heads and offers have one report, with one verdict, so that a page that says less doesn't check.
+use Rattle.mime_headers.proofs.Common.{utf8_valid_len-IsValidUpTo, nat_lt, length, AddsChoice, AddsEntry, AddsHead, AddsReading, AddsType, Bool, Err, FieldError, FoldsTo, HasBoundary, HttpExplains, Invalid, IsHttpMediaType, IsRead, IsReportOf, IsUtf8, List, MediaType, NoMemory, None, NotUtf8, Ok, Option, Result, Some, State, true, Verdict, [], ap, ap₂, arith, media_rows, no_fault, one_http_fault, one_printed_text, one_ranking, only_cut, refl, sym, trimmed, with_entry, ℕ, ◌++◌, ◌∙◌, ◌∷◌, ◌≡◌, ◌≢◌, IsAnswer, IsReport, bare_lines, codes, heads_of, is_cut, last_choice, offer_rows}
 
 -- No value is both a media type and rejected.
 not_both : (value : List ℕ) (error : FieldError) → IsUtf8 value → IsHttpMediaType value → error ≢ NoMemory
@@ -51,68 +51,66 @@ one_of_all R one p [] q r is too = sym is ∙ too
 one_of_all R one p (x ∷ xs) q r (next, is, rest) (other, too, others) =
     one_of_all R one other xs q r (rw (one p x next other is too) at rest) others
 
-module _ (one_ranking : (ranges offers : List MediaType) (ranking other : List RankedOffer) → IsRanking ranges offers ranking
-    → IsRanking ranges offers other → ranking ≡ other) where
-  -- A response's media type has one answer.
-  one_answer : (asked : Option (List MediaType)) (media : MediaType) (answer other : List ℕ) → IsAnswer asked media answer
-      → IsAnswer asked media other → answer ≡ other
-  one_answer None media answer other is too = is ∙ sym too
-  one_answer (Some ranges) media answer other (ranking, is, rows) (another, too, others) =
-      rows ∙ ap (offer_rows (codes "answer ") ranges (media ∷ [])) (one_ranking ranges (media ∷ []) ranking another is too)
-      ∙ sym others
+-- A response's media type has one answer.
+one_answer : (asked : Option (List MediaType)) (media : MediaType) (answer other : List ℕ) → IsAnswer asked media answer
+    → IsAnswer asked media other → answer ≡ other
+one_answer None media answer other is too = is ∙ sym too
+one_answer (Some ranges) media answer other (ranking, is, rows) (another, too, others) =
+    rows ∙ ap (offer_rows (codes "answer ") ranges (media ∷ [])) (one_ranking ranges (media ∷ []) ranking another is too)
+    ∙ sym others
 
-  -- A value of `Content-Type` adds one text.
-  one_added : (asked : Option (List MediaType)) (old : List ℕ × Bool) (value : List ℕ) (reading : Result MediaType FieldError)
-      (new other : List ℕ × Bool) → AddsReading asked old value reading new → AddsReading asked old value reading other
-      → new ≡ other
-  one_added asked old value (Ok media) new other (one, answer, is, says, adds) (two, another, too, saying, more) =
-      adds ∙ ap₂ (λ boundary answer. (old.0 ++ (media_rows media boundary ++ answer), old.1)) (one_boundary media one two is too)
-      (one_answer asked media answer another says saying) ∙ sym more
-  one_added asked old value (Err error) new other adds more = adds ∙ sym more
+-- A value of `Content-Type` adds one text.
+one_added : (asked : Option (List MediaType)) (old : List ℕ × Bool) (value : List ℕ) (reading : Result MediaType FieldError)
+    (new other : List ℕ × Bool) → AddsReading asked old value reading new → AddsReading asked old value reading other
+    → new ≡ other
+one_added asked old value (Ok media) new other (one, answer, is, says, adds) (two, another, too, saying, more) =
+    adds ∙ ap₂ (λ boundary answer. (old.0 ++ (media_rows media boundary ++ answer), old.1)) (one_boundary media one two is too)
+    (one_answer asked media answer another says saying) ∙ sym more
+one_added asked old value (Err error) new other adds more = adds ∙ sym more
 
-  -- A value as it is written adds one text.
-  one_type : (asked : Option (List MediaType)) (old : List ℕ × Bool) (value : List ℕ) (new other : List ℕ × Bool)
-      → AddsType asked old value new → AddsType asked old value other → new ≡ other
-  one_type asked old value new other (one, is, adds) (two, too, more) =
-      one_added asked old (trimmed value) two new other (rw (one_reading (trimmed value) one two is too) at adds) more
+-- A value as it is written adds one text.
+one_type : (asked : Option (List MediaType)) (old : List ℕ × Bool) (value : List ℕ) (new other : List ℕ × Bool)
+    → AddsType asked old value new → AddsType asked old value other → new ≡ other
+one_type asked old value new other (one, is, adds) (two, too, more) =
+    one_added asked old (trimmed value) two new other (rw (one_reading (trimmed value) one two is too) at adds) more
 
-  -- Lines of `Accept` add one text and make one choice.
-  one_choice : (offers : List MediaType) (lines : List (List ℕ)) (old : List ℕ) (new other : List ℕ
-      × Option (List MediaType × Bool))
-      → AddsChoice offers lines old new → AddsChoice offers lines old other → new ≡ other
-  one_choice offers [] old new other one two = one.0 refl ∙ sym (two.0 refl)
-  one_choice offers (line ∷ lines) old new other one two =
-      let adds = one.1 (omega arith) in
-      let more = two.1 (omega arith) in
-      let same = only_cut adds.are_read.cut ∙ sym (only_cut more.are_read.cut) in
-      let read = one_of_all AddsEntry one_entry _ _ _ _ (rw same at adds.are_read.entries) more.are_read.entries in
-      let rank = one_ranking more.read.1 offers adds.ranking more.ranking (rw (ap (λ it. it.1) read) at adds.is_ranking) more.is_ranking in
-      cc (adds.is_new, more.is_new, read, rank)
+-- Lines of `Accept` add one text and make one choice.
+one_choice : (offers : List MediaType) (lines : List (List ℕ)) (old : List ℕ) (new other : List ℕ
+    × Option (List MediaType × Bool))
+    → AddsChoice offers lines old new → AddsChoice offers lines old other → new ≡ other
+one_choice offers [] old new other one two = one.0 refl ∙ sym (two.0 refl)
+one_choice offers (line ∷ lines) old new other one two =
+    let adds = one.1 (omega arith) in
+    let more = two.1 (omega arith) in
+    let same = only_cut adds.are_read.cut ∙ sym (only_cut more.are_read.cut) in
+    let read = one_of_all AddsEntry one_entry _ _ _ _ (rw same at adds.are_read.entries) more.are_read.entries in
+    let rank = one_ranking more.read.1 offers adds.ranking more.ranking (rw (ap (λ it. it.1) read) at adds.is_ranking) more.is_ranking in
+    cc (adds.is_new, more.is_new, read, rank)
 
-  -- A head adds one text.
-  one_head : (offers : List MediaType) (many : Bool) (old : State) (head : List (List ℕ)) (new other : State)
-      → AddsHead offers many old head new
-      → AddsHead offers many old head other → new ≡ other
-  one_head offers many old head new other one two =
-      let same = one_of_all _ (one_type _) _ _ _ _ one.types two.types in
-      let chosen = one_choice offers _ _ _ _ (rw (ap (λ it. it.0) same) at one.chosen) two.chosen in
-      let choice = ap (λ it. it.1) chosen in
-      let last = one.last ∙ ap (last_choice old.choice) choice ∙ sym two.last in
-      let asked : new.asked ≡ other.asked = cc (one.asked, two.asked, choice) in
-      λ i. record { text = (chosen i).0; are_good = (same i).1; choice = last i; asked = asked i }
+-- A head adds one text.
+one_head : (offers : List MediaType) (many : Bool) (old : State) (head : List (List ℕ)) (new other : State)
+    → AddsHead offers many old head new
+    → AddsHead offers many old head other → new ≡ other
+one_head offers many old head new other one two =
+    let same = one_of_all _ (one_type _) _ _ _ _ one.types two.types in
+    let chosen = one_choice offers _ _ _ _ (rw (ap (λ it. it.0) same) at one.chosen) two.chosen in
+    let choice = ap (λ it. it.1) chosen in
+    let last = one.last ∙ ap (last_choice old.choice) choice ∙ sym two.last in
+    let asked : new.asked ≡ other.asked = cc (one.asked, two.asked, choice) in
+    λ i. record { text = (chosen i).0; are_good = (same i).1; choice = last i; asked = asked i }
 
-  -- Heads have one report.
-  one_of_heads : (offers : List MediaType) (cut : Bool) (heads : List (List (List ℕ))) (text other : List ℕ) (verdict another : Verdict)
-      → IsReport offers cut heads text verdict → IsReport offers cut heads other another → (text ≡ other) × (verdict ≡ another)
-  one_of_heads offers cut [] text other verdict another one two = (one.1 ∙ sym two.1, one.2 ∙ sym two.2)
-  one_of_heads offers cut (head ∷ heads) text other verdict another one two =
-      let many = nat_lt 1 (length (head ∷ heads)) in
-      let none : State = record { text = []; are_good = true; choice = None; asked = None } in
-      let same = one_of_all (AddsHead offers many) (one_head offers many) none (head ∷ heads) one.state two.state one.adds two.adds in
-      let last = one_choice offers _ _ _ _ (rw same at one.chosen) two.chosen in
-      (cc (one.is_text, two.is_text, last), cc (one.is_verdict, two.is_verdict, same, last))
+-- Heads have one report.
+one_of_heads : (offers : List MediaType) (cut : Bool) (heads : List (List (List ℕ))) (text other : List ℕ) (verdict another : Verdict)
+    → IsReport offers cut heads text verdict → IsReport offers cut heads other another → (text ≡ other) × (verdict ≡ another)
+one_of_heads offers cut [] text other verdict another one two = (one.1 ∙ sym two.1, one.2 ∙ sym two.2)
+one_of_heads offers cut (head ∷ heads) text other verdict another one two =
+    let many = nat_lt 1 (length (head ∷ heads)) in
+    let none : State = record { text = []; are_good = true; choice = None; asked = None } in
+    let same = one_of_all (AddsHead offers many) (one_head offers many) none (head ∷ heads) one.state two.state one.adds two.adds in
+    let last = one_choice offers _ _ _ _ (rw same at one.chosen) two.chosen in
+    (cc (one.is_text, two.is_text, last), cc (one.is_verdict, two.is_verdict, same, last))
 
-  -- Bytes and offers have one report, with one verdict.
-  one_report : (offers : List MediaType) (bytes text other : List ℕ) (verdict another : Verdict) → IsReportOf offers bytes text verdict
-      → IsReportOf offers bytes other another → (text ≡ other) × (verdict ≡ another)
-  one_report offers bytes = one_of_heads offers (is_cut bytes) (heads_of (is_cut bytes) (bare_lines (is_cut bytes) bytes))
+-- Bytes and offers have one report, with one verdict.
+one_report : (offers : List MediaType) (bytes text other : List ℕ) (verdict another : Verdict) → IsReportOf offers bytes text verdict
+    → IsReportOf offers bytes other another → (text ≡ other) × (verdict ≡ another)
+one_report offers bytes = one_of_heads offers (is_cut bytes) (heads_of (is_cut bytes) (bare_lines (is_cut bytes) bytes))

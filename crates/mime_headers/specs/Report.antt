@@ -1,8 +1,8 @@
 -- The report on heads and offers: the rows of each `Content-Type`, of `Accept`, and of each offer (RFC 9110, 8.3, 12.5.1 and 15.5.7).
 use Rattle.std.specs.Prelude.{◌≡◌, ◌≢◌, ◌<◌, ℕ, ◌+◌, ◌/◌, ◌%◌, Bool, true, false, List, [], ◌∷◌, ◌++◌, ◌==◌, ◌||◌, ◌&&◌, not, Option, Some, None, Result, Ok, Err, MatchOption, option_and_then, option_map, unwrap_or, map, flat_map, length, slice_get, replicate, nat_lt, if◌then◌else◌, codes}
 use Rattle.std.specs.{Char.is_ascii_graphic, Fmt.decimal, Fmt.digits, List.FoldsTo, List.enumerate_from, Option.option_or, Str.IsUtf8}
-use Rattle.mime.specs.{Values.MediaType, Values.suffix_of, declared.scan.fault.ParseError.TheVariants.InvalidToken}
-use Rattle.mime_http.specs.{Boundary.IsBoundaryOf, HttpFaults.HttpExplains, HttpList.trimmed, HttpList.AreBetweenCommas, HttpList.IsPrinted, HttpList.IsPiece, HttpList.BeginsPiece, HttpMediaType.HttpReads, HttpPrinted.field_error_text, Lacks.is_quoted, Lacks.lacked, Ranges.weight_of, Ranges.first_value, Ranking.is_qvalue, Ranking.IsRanking, Unescaped.unescaped, declared.ranking.RankedOffer.RankedOffer, declared.value.FieldError.FieldError, declared.value.FieldError.TheVariants.NotUtf8, declared.value.FieldError.TheVariants.Invalid, declared.value.FieldError.TheVariants.NoMemory}
+use Rattle.mime.specs.{Values.MediaType, Values.suffix_of}
+use Rattle.mime_http.specs.{Boundary.IsBoundaryOf, HttpFaults.HttpExplains, HttpFaults.fault_position, HttpList.trimmed, HttpList.AreBetweenCommas, HttpList.IsPrinted, HttpList.IsPiece, HttpList.BeginsPiece, HttpMediaType.HttpReads, HttpPrinted.field_error_text, Lacks.is_quoted, Lacks.lacked, Ranges.weight_of, Ranges.first_value, Ranking.is_qvalue, Ranking.IsRanking, Unescaped.unescaped, declared.ranking.RankedOffer.RankedOffer, declared.value.FieldError.FieldError, declared.value.FieldError.TheVariants.NoMemory}
 use Rattle.mime_io.specs.{Lines.row, Stops.limit}
 use Rattle.mime_headers.specs.{Head.bare_lines, Head.heads_of, Head.is_interim, Head.is_spaced, Head.is_status_line, Head.title_of, Head.values_of, Shown.without_controls}
 use Rattle.mime_headers.specs.declared.verdict.Verdict.{Verdict}
@@ -26,12 +26,6 @@ pub record State : Type 0 where
 abbrev pub shown : List ℕ → List ℕ
 shown bytes = map (λ b. if b == 32 || is_ascii_graphic b then b else 46) bytes
 
--- the position of the byte at fault, or the value's length if something is missing at its end
-abbrev pub fault_place : List ℕ → FieldError → ℕ
-fault_place value (NotUtf8 pos) = pos
-fault_place value (Invalid (InvalidToken pos byte)) = pos
-fault_place value error = length value
-
 -- a byte as a person reads it, and in hexadecimal; with a remark if it is `(`, which begins a comment in mail
 abbrev pub byte_text : ℕ → List ℕ
 byte_text b =
@@ -42,7 +36,7 @@ byte_text b =
 abbrev pub fault_rows : List ℕ → List ℕ → FieldError → List ℕ
 fault_rows label value error =
     row label (field_error_text error) ++ (row (codes "    ") (shown value) ++ (codes "    "
-    ++ (replicate (fault_place value error) 32 ++ row (codes "^") (unwrap_or (option_map byte_text (slice_get value (fault_place value error))) []))))
+    ++ (replicate (fault_position value error) 32 ++ row (codes "^") (unwrap_or (option_map byte_text (slice_get value (fault_position value error))) []))))
 
 -- ---- Content-Type
 

@@ -7,14 +7,14 @@ ghost use Rattle.mime_http.specs.Ranking.{IsRanking};
 ghost use Rattle.mime_io.specs.Lines.{row};
 ghost use Rattle.mime_headers.specs.Head.{bare_lines, heads_of};
 ghost use Rattle.mime_headers.specs.Inner.{asked_now, choice_now, state_now};
-ghost use Rattle.mime_headers.specs.Report.{AddsChoice, AddsEntry, AddsHead, AddsLines, AddsType, HasBoundary, IsAnswer, IsRead, IsReportOf, asked_after, best_row, byte_text, count_row, decider, fault_place, fault_rows, is_answer, is_cut, is_plain, lacks_text, last_choice, media_rows, missing, numbered, offer_row, offer_rows, range_row, row_if, shown, spaced_row, weighed_text, weight_text};
+ghost use Rattle.mime_headers.specs.Report.{AddsChoice, AddsEntry, AddsHead, AddsLines, AddsType, HasBoundary, IsAnswer, IsRead, IsReportOf, asked_after, best_row, byte_text, count_row, decider, fault_rows, is_answer, is_cut, is_plain, lacks_text, last_choice, media_rows, missing, numbered, offer_row, offer_rows, range_row, row_if, shown, spaced_row, weighed_text, weight_text};
 
 use crate::head::{
     Made, bare_lines, heads_of, is_interim, is_spaced, is_status_line, title_of, values_of,
 };
 use crate::shown::without_controls;
 use crate::verdict::Verdict;
-use mime::{Mime, ParseError};
+use mime::Mime;
 use mime_http::{
     FieldError, RankedOffer, boundary, content_type, first_entry, has_quoted_weight, has_weight,
     lacked, rank_offers, trimmed, unescape, weight_of,
@@ -314,7 +314,7 @@ fn push_fault(text: &mut Vec<u8>, label: &[u8], value: &[u8], error: FieldError)
     let said = format!(in *text.allocator(); "{error}")?;
     push(text, &[label, said.as_bytes(), b"\n"])?;
     push_shown(text, true, b"    ", value)?;
-    let at = fault_place(value, error);
+    let at = error.position(value);
     push(text, &[b"    "])?;
     for _ in 0..at {
         text.push(b' ')?;
@@ -323,17 +323,6 @@ fn push_fault(text: &mut Vec<u8>, label: &[u8], value: &[u8], error: FieldError)
     push_byte(text, byte_at(value, at))?;
     push(text, &[b"\n"])?;
     Ok(())
-}
-
-/// Returns the position of the byte at fault, or the value's length if something is missing at its end.
-fn fault_place(value: &[u8], error: FieldError) -> usize
-    ensures { result ≡ fault_place value.now error }
-{
-    match error {
-        FieldError::NotUtf8 { pos } => pos,
-        FieldError::Invalid(ParseError::InvalidToken { pos, .. }) => pos,
-        _ => value.len(),
-    }
 }
 
 /// Returns the byte at a position, or `None` if there is none.
