@@ -113,7 +113,7 @@ fn call(it: &Given, rounds: usize, call: impl Fn(&str, Slice, *mut usize) -> u32
 
 /// Room for what any call writes.
 fn room(it: &Given) -> Vec<u8> {
-    vec![0; 3 * it.texts.iter().map(|text| text.len()).max().unwrap_or(0) + 128]
+    vec![0; 3 * it.texts.iter().chain(&it.others).map(|text| text.len()).max().unwrap_or(0) + 256]
 }
 
 /// The sum of what an operation returns for each of these things, so many rounds.

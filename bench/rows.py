@@ -191,8 +191,8 @@ def calls():
     yield Row("mime_best, of an Accept header and four offers", "call_best", HEADERS, ", ".join(OFFERS))
     yield Row("mime_order, of the same", "call_order", HEADERS, ", ".join(OFFERS), differs=True)
     yield Row("mime_boundary", "call_boundary", TEXT)
-    for label, text, added, most in (("a charset", TEXT, "charset\nutf-8", None), ("a URL", "application/ld+json", f"profile\n{URL}", 1_450),
-                                     ("a file name", "application/pdf", f"name\n{NAME}", 1_290),
+    for label, text, added, most in (("a charset", TEXT, "charset\nutf-8", None), ("a URL", "application/ld+json", f"profile\n{URL}", 1_550),
+                                     ("a file name", "application/pdf", f"name\n{NAME}", 1_360),
                                      ("a boundary that ends in ?", "multipart/mixed", f"boundary\n{MARKED}", 1_460)):
         yield Row(f"mime_set_parameter, {label}", "call_set_parameter", text, added, most, differs=True)
 
