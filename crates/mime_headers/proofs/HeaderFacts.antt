@@ -1,8 +1,8 @@
 -- Heads, rows and verdicts for which each definition is true, and others for which it is false, so that a page that says less or more
 -- doesn't check.
-use Rattle.mime_headers.proofs.Common.{AreOffers, Bool, Err, FieldError, Global, Invalid, InvalidToken, IsAnswer, IsHttpMediaType, IsRead, IsReport, List, MediaType, MissingSubtype, None, NotUtf8, Ok, Some, String, Verdict, a_word, asked_after, bad_word, bare, bare_lines, begins, best_row, byte_text, codes, continued, control_len, count_row, cut_row, decider, empty_row, false, fault_rows, filter, flat_map, goes_on, heads_of, is_answer, is_cut, is_field, is_interim, is_request_line, is_status_line, last_choice, length, lines_of, map, mark_of, media_rows, missing, no_word, offer_row, offer_rows, range_row, refl, shown, spaced_row, string_bytes, text_of, title_row, trimmed, true, values_of, verdict_of, weight_text, with_entry, without_controls, [], ℕ, ◌++◌, ◌∷◌, ◌≡◌, ◌≢◌, digits, field_error_text, row, numbered, lacks_text, Option, RankedOffer, decimal}
+use Rattle.mime_headers.proofs.Common.{AreOffers, Bool, Err, FieldError, Global, Invalid, IsAnswer, IsHttpMediaType, IsRead, IsReport, List, MediaType, MissingSubtype, None, NotUtf8, Ok, Option, RankedOffer, Some, State, String, Verdict, [], a_word, arith, asked_by, asks_after, bad_word, bare, bare_lines, begins, best_row, byte_text, codes, continued, control_len, count_row, cut_row, decider, decimal, digits, empty_row, false, fault_rows, field_error_text, filter, flat_map, goes_on, heads_of, is_cut, is_field, is_interim, is_request_line, is_status_line, lacks_text, length, lines_of, map, mark_of, media_rows, missing, no_word, numbered, offer_row, offer_rows, range_row, refl, row, shown, spaced_row, string_bytes, text_of, title_row, trimmed, true, values_of, verdict_of, weight_text, with_entry, without_controls, ℕ, ◌++◌, ◌∷◌, ◌≡◌, ◌≢◌}
 use Rattle.mime.specs.Bytes.{is_token_byte}
-use Rattle.mime_headers.specs.{Head.is_code, Head.is_own, Head.is_start, Head.is_version, Report.is_plain}
+use Rattle.mime_headers.specs.{Head.is_code, Head.own_text, Head.is_start, Head.is_version, Report.is_plain}
 
 -- ---- lines
 
@@ -21,9 +21,10 @@ lines = (refl, refl, refl, refl)
 marks :
     (map mark_of (lines_of (codes "a> b\n \ta\n> > a\n <  a\n>a\n>\n\r a\n")) ≡ lines_of (codes "\n \t\n> \n < \n\n\n\n"))
     × (map text_of (lines_of (codes " a \n< a\n>\n")) ≡ lines_of (codes "a \na\n>\n"))
-    × (filter (is_own (codes "> ")) (lines_of (codes "> a\n> \n>\n< a\n > a\n\n>a\n")) ≡ lines_of (codes "> a\n> \n>\n"))
-    × (is_own [] (codes "a") ≡ true) × (is_own (codes "\t") [] ≡ false)
-unfolding is_own
+    × (map (own_text (codes "> ")) (lines_of (codes "> a\n> \n>\n< a\n > a\n>a\n"))
+    ≡ Some (codes "a") ∷ Some [] ∷ Some [] ∷ None ∷ None ∷ None ∷ [])
+    × (own_text [] (codes "a") ≡ Some (codes "a")) × (own_text (codes "\t") [] ≡ None)
+unfolding own_text
 marks = (refl, refl, refl, refl, refl)
 
 -- Start lines are request lines and status lines. A field begins with a token and a colon.
@@ -34,9 +35,9 @@ start_lines :
     ≡ lines_of (codes "HTTP/1.1 200 O\nHTTP/2 200 \nHTTP/2 200"))
     × (filter is_request_line (lines_of (codes "GET / HTTP/2\nGET  HTTP/2\n / HTTP/2\nG:T / HTTP/2\nGET / HTTP/2 \nGET / b HTTP/2\nGET /"))
     ≡ codes "GET / HTTP/2" ∷ [])
-    × (filter is_start (lines_of (codes " > GET / HTTP/2\n\tHTTP/2 200\na: b")) ≡ lines_of (codes " > GET / HTTP/2\n\tHTTP/2 200"))
+    × (filter is_start (lines_of (codes "GET / HTTP/2\nHTTP/2 200\n HTTP/2 200\na: b")) ≡ lines_of (codes "GET / HTTP/2\nHTTP/2 200"))
     × (filter is_field (lines_of (codes "a:\na b:\n:\na\na :")) ≡ codes "a:" ∷ [])
-unfolding is_code is_own is_start is_token_byte is_version
+unfolding is_code is_start is_token_byte is_version own_text
 start_lines = (refl, refl, refl, refl, refl)
 
 -- ---- heads
@@ -56,7 +57,7 @@ of_curl :
     × (heads false (codes "*   Trying 127.0.0.1:1...\n* connect to 127.0.0.1 port 1 failed: refused\n") ≡ [])
     × (heads false (codes "> GET / HTTP/2\n> \n\r  0 --:-- 0< HTTP/2 200 \r\n\r100 --:--\n< a: b\n")
     ≡ codes "GET / HTTP/2|\nHTTP/2 200 |a: b|\n")
-unfolding is_code is_own is_start is_token_byte is_version
+unfolding is_code is_start is_token_byte is_version own_text
 of_curl = (refl, refl, refl, refl, refl)
 
 -- What wget prints with -S and with -d, heads that are indented, and bodies. A body has a head only if it has a start line.
@@ -67,7 +68,7 @@ of_others :
     ≡ codes "GET / HTTP/1.1|A: b|\nHTTP/1.1 200 OK|\n")
     × (heads false (codes "\t> GET / HTTP/1.1\n\t> A: b\n\t>\n\t> C: d\n") ≡ codes "GET / HTTP/1.1|A: b|\n")
     × (heads false (codes "HTTP/1.1 200 OK\na:\n\nHTTP/1.1 is older.\nHTTP/1.1 404 \n") ≡ codes "HTTP/1.1 200 OK|a:|\nHTTP/1.1 404 |\n")
-unfolding is_code is_own is_start is_token_byte is_version
+unfolding is_code is_start is_token_byte is_version own_text
 of_others = (refl, refl, refl, refl)
 
 -- A head without a start line begins with the first field, before all start lines, and has one of the two fields: a mail, lines that grep
@@ -80,7 +81,7 @@ pasted :
     × (map (heads false) (codes "HTTP/2 200\n\nAccept: a\n" ∷ codes "From: b\n\nAccept: c\n" ∷ codes "a: b\nAccept : c\n"
     ∷ [] ∷ [])
     ≡ codes "HTTP/2 200|\n" ∷ [] ∷ [] ∷ [] ∷ [])
-unfolding is_code is_own is_start is_token_byte is_version
+unfolding is_code is_start is_token_byte is_version own_text
 pasted = (refl, refl, refl, refl, refl)
 
 -- In an input that is cut off a head counts only if a line before the last ends it.
@@ -90,7 +91,7 @@ cut_heads :
     × (map (heads true) (codes "HTTP/2 200\n\na" ∷ codes "HTTP/2 200\nHTTP/2 201\na" ∷ codes " HTTP/2 200\na\nb" ∷ [])
     ≡ codes "HTTP/2 200|\n" ∷ codes "HTTP/2 200|\n" ∷ codes "HTTP/2 200|\n" ∷ [])
     × (heads true (codes "Accept: a\n\nb") ≡ codes "Accept: a|\n")
-unfolding is_code is_own is_start is_token_byte is_version
+unfolding is_code is_start is_token_byte is_version own_text
 cut_heads = (refl, refl, refl)
 
 -- An input of one byte more than 1,048,576 is cut off.
@@ -151,7 +152,7 @@ faults = (refl, refl, refl, refl, refl)
 -- of a head among many, and white space before a colon.
 rows_of_heads :
     (map (missing (plain ∷ [])) (None ∷ Some false ∷ []) ≡ (codes "no Accept\n", codes "*/*" ∷ []) ∷ ([], []) ∷ [])
-    × (missing [] None ≡ ([], []))
+    × (missing {Choice = Bool} [] None ≡ ([], []))
     × (flat_map count_row ([] ∷ ([] ∷ []) ∷ ([] ∷ [] ∷ []) ∷ [])
     ≡ codes "no Content-Type\nseveral Content-Type lines (HTTP allows one)\n")
     × (map (empty_row (codes "a")) (codes "a" ∷ codes "ab" ∷ []) ≡ codes "empty Accept\n" ∷ [] ∷ [])
@@ -205,36 +206,38 @@ rows_of_offers :
     × (decider (plain ∷ []) (ranked 0 1 (Some 1)) ≡ None)
 rows_of_offers = (refl, refl, refl, refl, refl, refl)
 
+-- what is known after heads, of which the last choice is this one
+abbrev after : Bool → Option (List MediaType × Bool) → Bool → State
+after are_good choice asks = record { text = []; are_good = are_good; choice = choice; asks = asks }
+
 -- The best offer has a row, and one that isn't acceptable another. The verdict is that of all values and of the last choice.
 verdicts :
     (best_row (plain ∷ media ∷ []) (record { offer = 1; weight = 1; range = Some 0 } ∷ [])
     ≡ (codes "best a/b+c;p=\"x\\\"y\"\n", true))
     × (best_row (media ∷ []) (record { offer = 0; weight = 0; range = None } ∷ []) ≡ (codes "406 Not Acceptable\n", false))
     × (best_row [] [] ≡ ([], true))
-    × (map (verdict_of true) (Some true ∷ None ∷ Some false ∷ []) ≡ Verdict.Acceptable ∷ Verdict.Acceptable
-    ∷ Verdict.NotAcceptable ∷ [])
-    × (verdict_of false (Some true) ≡ Verdict.NotAcceptable)
-    × (map (last_choice (Some true)) (None ∷ Some ([], false) ∷ []) ≡ Some true ∷ Some false ∷ [])
-verdicts = (refl, refl, refl, refl, refl, refl)
+    × (map (λ choice. verdict_of (after true choice false)) (Some ([], true) ∷ None ∷ Some ([], false) ∷ [])
+    ≡ Verdict.Acceptable ∷ Verdict.Acceptable ∷ Verdict.NotAcceptable ∷ [])
+    × (verdict_of (after false (Some ([], true)) false) ≡ Verdict.NotAcceptable)
+verdicts = (refl, refl, refl, refl, refl)
 
 -- A response that isn't interim answers the last request, with one media type, and no later response does. A request begins anew.
 answers :
     (map is_interim (codes "HTTP/1.1 100 Continue" ∷ codes "HTTP/2 200 1" ∷ codes "HTTP/1.1 " ∷ []) ≡ true ∷ false ∷ false ∷ [])
-    × (map (λ title. is_answer title ([] ∷ [])) (codes "HTTP/2 200" ∷ codes "HTTP/2 103" ∷ codes "GET / HTTP/2" ∷ [])
-    ≡ true ∷ false ∷ false ∷ [])
-    × (map (is_answer (codes "HTTP/2 200")) ([] ∷ ([] ∷ [] ∷ []) ∷ []) ≡ false ∷ false ∷ [])
-    × (map (λ title. asked_after title (Some []) None) (codes "HTTP/2 200" ∷ codes "HTTP/2 103" ∷ codes "GET 1 HTTP/2" ∷ [])
-    ≡ None ∷ Some [] ∷ None ∷ [])
-    × (map (asked_after (codes "GET / HTTP/2") None) (Some (plain ∷ [], true) ∷ None ∷ []) ≡ Some (plain ∷ []) ∷ None ∷ [])
+    × (map (λ title. asked_by true (Some (plain ∷ [], true)) title ([] ∷ [])) (codes "HTTP/2 200" ∷ codes "HTTP/2 103" ∷ codes "GET / HTTP/2"
+    ∷ []) ≡ Some (plain ∷ []) ∷ None ∷ None ∷ [])
+    × (map (asked_by true (Some ([], true)) (codes "HTTP/2 200")) ([] ∷ ([] ∷ [] ∷ []) ∷ []) ≡ None ∷ None ∷ [])
+    × (asked_by false (Some ([], true)) (codes "HTTP/2 200") ([] ∷ []) ≡ None)
+    × (map (λ title. asks_after true title []) (codes "HTTP/2 200" ∷ codes "HTTP/2 103" ∷ codes "GET / HTTP/2" ∷ []) ≡ false ∷ true ∷ false ∷ [])
+    × (map (λ title. asks_after false title ([] ∷ [])) (codes "HTTP/2 103" ∷ codes "GET / HTTP/2" ∷ []) ≡ false ∷ true ∷ [])
+    × (asks_after true (codes "HTTP/2 103") ([] ∷ []) ≡ false)
 unfolding is_code is_version
-answers = (refl, refl, refl, refl, refl)
+answers = (refl, refl, refl, refl, refl, refl, refl)
 
--- Without a head the report is empty, and there is none if the input is cut off. Without a request a media type has no answer.
+-- Without a head there is no report. Without a request a media type has no answer.
 no_heads :
-    IsReport [] false [] [] Verdict.NoHead × ((text : List ℕ) (verdict : Verdict) → ¬ (IsReport [] true [] text verdict))
-    × ((text : List ℕ) (verdict : Verdict) → IsReport [] false [] text verdict → (text ≡ []) × (verdict ≡ Verdict.NoHead))
-    × ((answer : List ℕ) → IsAnswer None plain answer → answer ≡ [])
-no_heads = ((refl, refl, refl), λ text verdict is. absurd (cc), λ text verdict is. (is.1, is.2), λ answer is. is)
+    ((text : List ℕ) (verdict : Verdict) → ¬ (IsReport [] false [] text verdict)) × ((answer : List ℕ) → IsAnswer None plain answer → answer ≡ [])
+no_heads = (λ text verdict is. absurd (omega (arith, is.some)), λ answer is. is)
 
 -- Each word that is a media type names an offer, in its order.
 offers_of_words : (word other : List ℕ) (offer second : MediaType) → IsRead word (Ok offer) → IsRead other (Ok second)

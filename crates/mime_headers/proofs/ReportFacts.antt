@@ -1,5 +1,5 @@
 -- Heads and offers have one report, with one verdict, so that a page that says less doesn't check.
-use Rattle.mime_headers.proofs.Common.{utf8_valid_len-IsValidUpTo, nat_lt, length, AddsChoice, AddsEntry, AddsHead, AddsReading, AddsType, Bool, Err, FieldError, FoldsTo, HasBoundary, HttpExplains, Invalid, IsHttpMediaType, IsRead, IsReportOf, IsUtf8, List, MediaType, NoMemory, None, NotUtf8, Ok, Option, Result, Some, State, true, Verdict, [], ap, ap₂, arith, media_rows, no_fault, one_http_fault, one_printed_text, one_ranking, only_cut, refl, sym, trimmed, with_entry, ℕ, ◌++◌, ◌∙◌, ◌∷◌, ◌≡◌, ◌≢◌, IsAnswer, IsReport, bare_lines, codes, heads_of, is_cut, last_choice, offer_rows}
+use Rattle.mime_headers.proofs.Common.{AddsChoice, AddsEntry, AddsHead, AddsReading, AddsType, Bool, Err, FieldError, FoldsTo, HasBoundary, HttpExplains, Invalid, IsAnswer, IsHttpMediaType, IsRead, IsReport, IsReportOf, IsUtf8, List, MediaType, NoMemory, None, NotUtf8, Ok, Option, Result, Some, State, Verdict, [], ap, ap₂, arith, bare_lines, codes, false, heads_of, is_cut, length, media_rows, nat_lt, no_fault, offer_rows, one_http_fault, one_printed_text, one_ranking, only_cut, refl, sym, trimmed, true, utf8_valid_len-IsValidUpTo, with_entry, ℕ, ◌++◌, ◌∙◌, ◌∷◌, ◌≡◌, ◌≢◌}
 
 -- No value is both a media type and rejected.
 not_both : (value : List ℕ) (error : FieldError) → IsUtf8 value → IsHttpMediaType value → error ≢ NoMemory
@@ -75,8 +75,7 @@ one_type asked old value new other (one, is, adds) (two, too, more) =
     one_added asked old (trimmed value) two new other (rw (one_reading (trimmed value) one two is too) at adds) more
 
 -- Lines of `Accept` add one text and make one choice.
-one_choice : (offers : List MediaType) (lines : List (List ℕ)) (old : List ℕ) (new other : List ℕ
-    × Option (List MediaType × Bool))
+one_choice : (offers : List MediaType) (lines : List (List ℕ)) (old new other : State)
     → AddsChoice offers lines old new → AddsChoice offers lines old other → new ≡ other
 one_choice offers [] old new other one two = one.0 refl ∙ sym (two.0 refl)
 one_choice offers (line ∷ lines) old new other one two =
@@ -89,26 +88,19 @@ one_choice offers (line ∷ lines) old new other one two =
 
 -- A head adds one text.
 one_head : (offers : List MediaType) (many : Bool) (old : State) (head : List (List ℕ)) (new other : State)
-    → AddsHead offers many old head new
-    → AddsHead offers many old head other → new ≡ other
+    → AddsHead offers many old head new → AddsHead offers many old head other → new ≡ other
 one_head offers many old head new other one two =
-    let same = one_of_all _ (one_type _) _ _ _ _ one.types two.types in
-    let chosen = one_choice offers _ _ _ _ (rw (ap (λ it. it.0) same) at one.chosen) two.chosen in
-    let choice = ap (λ it. it.1) chosen in
-    let last = one.last ∙ ap (last_choice old.choice) choice ∙ sym two.last in
-    let asked : new.asked ≡ other.asked = cc (one.asked, two.asked, choice) in
-    λ i. record { text = (chosen i).0; are_good = (same i).1; choice = last i; asked = asked i }
+    one_choice offers _ _ _ _ (rw (one_of_all _ (one_type _) _ _ _ _ one.types two.types) at one.chosen) two.chosen
 
 -- Heads have one report.
 one_of_heads : (offers : List MediaType) (cut : Bool) (heads : List (List (List ℕ))) (text other : List ℕ) (verdict another : Verdict)
     → IsReport offers cut heads text verdict → IsReport offers cut heads other another → (text ≡ other) × (verdict ≡ another)
-one_of_heads offers cut [] text other verdict another one two = (one.1 ∙ sym two.1, one.2 ∙ sym two.2)
-one_of_heads offers cut (head ∷ heads) text other verdict another one two =
-    let many = nat_lt 1 (length (head ∷ heads)) in
-    let none : State = record { text = []; are_good = true; choice = None; asked = None } in
-    let same = one_of_all (AddsHead offers many) (one_head offers many) none (head ∷ heads) one.state two.state one.adds two.adds in
+one_of_heads offers cut heads text other verdict another one two =
+    let many = nat_lt 1 (length heads) in
+    let none : State = record { text = []; are_good = true; choice = None; asks = false } in
+    let same = one_of_all (AddsHead offers many) (one_head offers many) none heads one.state two.state one.adds two.adds in
     let last = one_choice offers _ _ _ _ (rw same at one.chosen) two.chosen in
-    (cc (one.is_text, two.is_text, last), cc (one.is_verdict, two.is_verdict, same, last))
+    (cc (one.is_text, two.is_text, last), cc (one.is_verdict, two.is_verdict, last))
 
 -- Bytes and offers have one report, with one verdict.
 one_report : (offers : List MediaType) (bytes text other : List ℕ) (verdict another : Verdict) → IsReportOf offers bytes text verdict

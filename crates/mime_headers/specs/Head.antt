@@ -1,6 +1,6 @@
 -- The heads of an input, and the values of a field there (RFC 9110, 5.5, 5.6.2 and 5.6.3; RFC 9112, 2 to 5).
-use Rattle.std.specs.Prelude.{ℕ, ◌-◌, Bool, List, [], ◌∷◌, ◌++◌, ◌==◌, ◌||◌, ◌&&◌, not, nat_le, nat_lt, map, filter, take, drop, length, if◌then◌else◌, codes}
-use Rattle.std.specs.{Char.is_ascii_digit, List.list_all, List.slice_index, List.before_first, List.after_first, Str.bytes_eq, Str.str_eq_ignore_ascii_case, Str.Lines.strip_carriage_return}
+use Rattle.std.specs.Prelude.{ℕ, ◌-◌, Bool, false, true, List, [], ◌∷◌, ◌++◌, ◌==◌, ◌||◌, ◌&&◌, not, nat_lt, map, filter, take, drop, length, if◌then◌else◌, codes, Option, Some, None, option_map, option_to_list, unwrap_or}
+use Rattle.std.specs.{Char.is_ascii_digit, List.list_all, List.list_any, List.slice_index, List.before_first, List.after_first, Str.bytes_eq, Str.str_eq_ignore_ascii_case, Str.Lines.strip_carriage_return}
 use Rattle.mime.specs.{Bytes.is_token_byte, Grammar.is_space}
 use Rattle.mime_http.specs.HttpList.{trim_start, trimmed}
 use Rattle.mime_io.specs.Lines.{lines_of}
@@ -73,50 +73,60 @@ abbrev pub is_interim : List ℕ → Bool
 is_interim text = slice_index (other_words text) 0 == 49
 
 unfoldable pub is_start : List ℕ → Bool
-is_start line = is_request_line (text_of line) || is_status_line (text_of line)
-
--- ---- heads
-
--- whether a line is of the head with a mark: it begins with the mark, or is the mark without the space at its end
-unfoldable pub is_own : List ℕ → List ℕ → Bool
-is_own mark line =
-    bytes_eq (take (length mark) line) mark
-    || (slice_index mark (length mark - 1) == 32 && bytes_eq (take (length mark - 1) mark) line)
-
--- whether a line ends a head: a start line, the mark alone, or, if the mark is an indent, a line that isn't the head's
-abbrev pub is_end : Bool → List ℕ → List ℕ → Bool
-is_end is_indent mark line = is_start line || (if is_own mark line then nat_le (length line) (length mark) else is_indent)
-
--- a line of the head without the mark, or none for any other line
-abbrev pub own_lines : List ℕ → List ℕ → List (List ℕ)
-own_lines mark line = if is_own mark line then drop (length mark) line ∷ [] else []
-
--- the rest of a head, of which there is none if only the end of an input that is cut off ends it, or one
-abbrev pub rest_of : Bool → List ℕ → List (List ℕ) → List (List (List ℕ))
-rest_of cut mark [] = if cut then [] else [] ∷ []
-rest_of cut mark (line ∷ lines) =
-    if is_end (length (trimmed mark) == 0) mark line then [] ∷ []
-    else map (λ rest. own_lines mark line ++ rest) (rest_of cut mark lines)
-
--- the head that the first of lines begins, of which there is none or one
-abbrev pub head_at : Bool → List (List ℕ) → List (List (List ℕ))
-head_at cut [] = []
-head_at cut (line ∷ lines) = map (λ rest. text_of line ∷ rest) (rest_of cut (mark_of line) lines)
-
--- the heads that begin with start lines
-abbrev pub started_heads : Bool → List (List ℕ) → List (List (List ℕ))
-started_heads cut [] = []
-started_heads cut (line ∷ lines) = (if is_start line then head_at cut (line ∷ lines) else []) ++ started_heads cut lines
+is_start text = is_request_line text || is_status_line text
 
 -- whether a text begins with a field's name and a colon (RFC 9112, 5)
 abbrev pub is_field : List ℕ → Bool
 is_field text =
     let name = before_first (λ b. b == 58) text in is_token name && nat_lt (length name) (length text)
 
--- the first line of a head, which is its title
+-- ---- heads
+
+-- what a line of the head with a mark has after the mark: nothing if it is the mark without the space at its end, and `None` for other lines
+unfoldable pub own_text : List ℕ → List ℕ → Option (List ℕ)
+own_text mark line =
+    if bytes_eq (take (length mark) line) mark then Some (drop (length mark) line)
+    else if slice_index mark (length mark - 1) == 32 && bytes_eq (take (length mark - 1) mark) line then Some []
+    else None
+
+-- whether a line ends a head: a start line, the mark alone, or, if the mark is an indent, a line that isn't the head's
+abbrev pub is_end : List ℕ → List ℕ → Bool
+is_end mark line =
+    is_start (text_of line) || unwrap_or (option_map (λ text. length text == 0) (own_text mark line)) (length (trimmed mark) == 0)
+
+-- the rest of a head, of which there is none if only the end of an input that is cut off ends it, or one
+abbrev pub rest_of : Bool → List ℕ → List (List ℕ) → List (List (List ℕ))
+rest_of cut mark [] = if cut then [] else [] ∷ []
+rest_of cut mark (line ∷ lines) =
+    if is_end mark line then [] ∷ [] else map (λ rest. option_to_list (own_text mark line) ++ rest) (rest_of cut mark lines)
+
+-- The head that the first of lines begins, of which there is none or one. Its first line is its title.
+abbrev pub head_at : Bool → List (List ℕ) → List (List (List ℕ))
+head_at cut [] = []
+head_at cut (line ∷ lines) = map (λ rest. text_of line ∷ rest) (rest_of cut (mark_of line) lines)
+
 abbrev pub title_of : List (List ℕ) → List ℕ
 title_of [] = []
 title_of (line ∷ lines) = line
+
+-- The heads that begin at each start line, and at the first line of a field if no start line is before it (`first`).
+abbrev pub begun_heads : Bool → Bool → List (List ℕ) → List (List (List ℕ))
+begun_heads cut first [] = []
+begun_heads cut first (line ∷ lines) =
+    if is_start (text_of line) || (first && is_field (text_of line))
+    then head_at cut (line ∷ lines) ++ begun_heads cut false lines
+    else begun_heads cut first lines
+
+-- whether a line begins one of the two fields
+abbrev pub is_one : List ℕ → Bool
+is_one line = begins (codes "content-type:") line || begins (codes "accept:") line
+
+-- whether a head counts: it has a start line, or one of the two fields
+abbrev pub counts : List (List ℕ) → Bool
+counts head = list_any is_one head || is_start (title_of head)
+
+abbrev pub heads_of : Bool → List (List ℕ) → List (List (List ℕ))
+heads_of cut lines = filter counts (begun_heads cut true lines)
 
 -- ---- fields
 
@@ -137,23 +147,7 @@ values_of label (line ∷ lines) =
     then (trimmed (drop (length label) line) ++ continued lines) ∷ values_of label lines
     else values_of label lines
 
--- whether a head has a `Content-Type` or an `Accept`
-abbrev pub has_field : List (List ℕ) → Bool
-has_field head = nat_lt 0 (length (values_of (codes "content-type:") head ++ values_of (codes "accept:") head))
-
 -- whether a line begins with a field's name, white space and a colon, which HTTP doesn't allow (RFC 9112, 5.1)
 abbrev pub is_spaced : List ℕ → List ℕ → Bool
 is_spaced name line =
     begins name line && (goes_on (drop (length name) line) && begins (codes ":") (trimmed (drop (length name) line)))
-
--- ---- all heads
-
--- the head without a start line: it begins with the first field before all start lines, and has a `Content-Type` or an `Accept`
-abbrev pub pasted_head : Bool → List (List ℕ) → List (List (List ℕ))
-pasted_head cut [] = []
-pasted_head cut (line ∷ lines) =
-    if is_start line then [] else
-    if is_field (text_of line) then filter has_field (head_at cut (line ∷ lines)) else pasted_head cut lines
-
-abbrev pub heads_of : Bool → List (List ℕ) → List (List (List ℕ))
-heads_of cut lines = pasted_head cut lines ++ started_heads cut lines

@@ -9,10 +9,6 @@ use Rattle.mime_headers.specs.declared.report.Report.{Report}
 abbrev pub lines_now : Vec (Bor (List ℕ)) Global → List (List ℕ)
 lines_now lines = map (λ line. line.now) (vec_items lines)
 
--- ranges as media types, if there are ranges
-abbrev pub asked_now : Option (Vec Mime Global) → Option (List MediaType)
-asked_now asked = option_map (λ ranges. map (λ range. range.media) (vec_items ranges)) asked
-
 -- a choice, with its ranges as media types
 abbrev pub choice_now : Option (Vec Mime Global × Bool) → Option (List MediaType × Bool)
 choice_now choice = option_map (λ choice. (map (λ range. range.media) (vec_items choice.0), choice.1)) choice
@@ -20,4 +16,4 @@ choice_now choice = option_map (λ choice. (map (λ range. range.media) (vec_ite
 -- what a report knows
 abbrev pub state_now : Report → State
 state_now report =
-    record { text = vec_items report.text; are_good = report.are_good; choice = report.choice; asked = asked_now report.asked }
+    record { text = vec_items report.text; are_good = report.are_good; choice = choice_now report.choice; asks = report.asks }

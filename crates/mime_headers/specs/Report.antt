@@ -1,6 +1,6 @@
 -- The report on heads and offers: the rows of each `Content-Type`, of `Accept`, and of each offer (RFC 9110, 8.3, 12.5.1 and 15.5.7).
 use Rattle.std.specs.Prelude.{◌≡◌, ◌≢◌, ◌<◌, ℕ, ◌+◌, ◌/◌, ◌%◌, Bool, true, false, List, [], ◌∷◌, ◌++◌, ◌==◌, ◌||◌, ◌&&◌, not, Option, Some, None, Result, Ok, Err, MatchOption, option_and_then, option_map, unwrap_or, map, flat_map, length, slice_get, replicate, nat_lt, if◌then◌else◌, codes}
-use Rattle.std.specs.{Char.is_ascii_graphic, Fmt.decimal, Fmt.digits, List.FoldsTo, List.enumerate_from, Option.option_or, Str.IsUtf8}
+use Rattle.std.specs.{Char.is_ascii_graphic, Fmt.decimal, Fmt.digits, List.FoldsTo, List.enumerate_from, Str.IsUtf8}
 use Rattle.mime.specs.{Values.MediaType, Values.suffix_of}
 use Rattle.mime_http.specs.{Boundary.IsBoundaryOf, HttpFaults.HttpExplains, HttpFaults.fault_position, HttpList.trimmed, HttpList.AreBetweenCommas, HttpList.IsPrinted, HttpList.IsPiece, HttpList.BeginsPiece, HttpMediaType.HttpReads, HttpPrinted.field_error_text, Lacks.is_quoted, Lacks.lacked, Ranges.weight_of, Ranges.first_value, Ranking.is_qvalue, Ranking.IsRanking, Unescaped.unescaped, declared.ranking.RankedOffer.RankedOffer, declared.value.FieldError.FieldError, declared.value.FieldError.TheVariants.NoMemory}
 use Rattle.mime_io.specs.{Lines.row, Stops.limit}
@@ -12,13 +12,13 @@ abbrev pub IsRead : List ℕ → Result MediaType FieldError → Type 0
 IsRead value (Ok media) = IsUtf8 value × HttpReads value media × IsPrinted value media
 IsRead value (Err error) = (error ≢ NoMemory) × HttpExplains value error
 
--- What is known after some heads: the report, whether each `Content-Type` is accepted, the last choice, if a head has an `Accept`, and the
--- ranges that the last request has, if it has an `Accept`. A choice is `true` if an offer is acceptable or there are no offers.
+-- What is known after some heads: the report, whether each `Content-Type` is accepted, the last choice, if a head has an `Accept`, and whether
+-- it is that of the last request. A choice has ranges, and is `true` if an offer is acceptable or there are no offers.
 pub record State : Type 0 where
   pub text : List ℕ
   pub are_good : Bool
-  pub choice : Option Bool
-  pub asked : Option (List MediaType)
+  pub choice : Option (List MediaType × Bool)
+  pub asks : Bool
 
 -- ---- a rejected value
 
@@ -167,19 +167,19 @@ abbrev pub empty_row : List ℕ → List ℕ → List ℕ
 empty_row old new = if length old == length new then codes "empty Accept\n" else []
 
 -- The lines of `Accept`, which are one list (RFC 9110, 5.3), and the offers add their rows to a report, and make a choice by their ranges.
-pub record IsChoice (offers : List MediaType) (lines : List (List ℕ)) (old : List ℕ) (new : List ℕ × Option (List MediaType × Bool)) : Type 0 where
+pub record IsChoice (offers : List MediaType) (lines : List (List ℕ)) (old new : State) : Type 0 where
   pub read : List ℕ × List MediaType
-  pub are_read : AddsLines lines (old, []) read
+  pub are_read : AddsLines lines (old.text, []) read
   pub ranking : List RankedOffer
   pub is_ranking : IsRanking read.1 offers ranking
-  pub is_new : new ≡ (
-    read.0 ++ (empty_row old read.0 ++ (offer_rows (codes "offer ") read.1 offers ranking ++ (best_row offers ranking).0)),
-    Some (read.1, (best_row offers ranking).1),
-  )
+  pub is_new : new ≡ record old {
+    text = read.0 ++ (empty_row old.text read.0 ++ (offer_rows (codes "offer ") read.1 offers ranking ++ (best_row offers ranking).0));
+    choice = Some (read.1, (best_row offers ranking).1);
+  }
 
 -- Without lines of `Accept`, nothing is added, and no choice is made.
-abbrev pub AddsChoice : List MediaType → List (List ℕ) → List ℕ → List ℕ × Option (List MediaType × Bool) → Type 0
-AddsChoice offers lines old new = (length lines ≡ 0 → new ≡ (old, None)) × (0 < length lines → IsChoice offers lines old new)
+abbrev pub AddsChoice : List MediaType → List (List ℕ) → State → State → Type 0
+AddsChoice offers lines old new = (length lines ≡ 0 → new ≡ old) × (0 < length lines → IsChoice offers lines old new)
 
 -- the row of a head's title, if there are several heads
 abbrev pub title_row : Bool → List (List ℕ) → List ℕ
@@ -190,59 +190,63 @@ abbrev pub spaced_row : List ℕ → List ℕ
 spaced_row line =
     if is_spaced (codes "content-type") line || is_spaced (codes "accept") line then row (codes "white space before the colon: ") (shown line) else []
 
--- what a choice says of the offers, or `last` if none is made
-abbrev pub last_choice : Option Bool → Option (List MediaType × Bool) → Option Bool
-last_choice last choice = option_or (option_map (λ choice. choice.1) choice) last
+-- the values of the two fields in a head
+abbrev pub types_in : List (List ℕ) → List (List ℕ)
+types_in head = values_of (codes "content-type:") head
 
--- whether a head of this title and with these values of `Content-Type` answers a request: a response that isn't interim, with one value
-abbrev pub is_answer : List ℕ → List (List ℕ) → Bool
-is_answer title values = is_status_line title && (not (is_interim title) && length values == 1)
+abbrev pub accepts_in : List (List ℕ) → List (List ℕ)
+accepts_in head = values_of (codes "accept:") head
 
--- the ranges that are left to weigh a later response by: a request's own, and those of the last request after an interim response
-abbrev pub asked_after : List ℕ → Option (List MediaType) → Option (List MediaType × Bool) → Option (List MediaType)
-asked_after title asked choice =
-    if is_status_line title then (if is_interim title then asked else None) else option_map (λ choice. choice.0) choice
+-- the ranges by which a head is weighed: those of the last choice, if it is that of a request (`asks`) and the head answers it. A head with
+-- this title and these values of `Content-Type` does so if it is a response that isn't interim, with one value.
+abbrev pub asked_by : Bool → Option (List MediaType × Bool) → List ℕ → List (List ℕ) → Option (List MediaType)
+asked_by asks choice title values =
+    if asks && (is_status_line title && (not (is_interim title) && length values == 1)) then option_map (λ choice. choice.0) choice else None
 
--- A head adds, in order: its title, its lines with white space before a colon, its values of `Content-Type`, `count_row`, and its choice. A
--- response that isn't interim answers the last request, and any head but a response is a request.
+-- whether the last choice is that of the last request after a head with this title: any head but a response is a request, and an interim
+-- response doesn't answer it
+abbrev pub asks_after : Bool → List ℕ → List (List ℕ) → Bool
+asks_after asks title accepts = if is_status_line title then asks && (is_interim title && length accepts == 0) else nat_lt 0 (length accepts)
+
+-- A head adds, in order: its title, its lines with white space before a colon, its values of `Content-Type`, `count_row`, and its choice.
 pub record AddsHead (offers : List MediaType) (many : Bool) (old : State) (head : List (List ℕ)) (new : State) : Type 0 where
-  pub between : List ℕ
-  pub choice : Option (List MediaType × Bool)
-  pub types : FoldsTo (AddsType (if is_answer (title_of head) (values_of (codes "content-type:") head) then old.asked else None))
-      (old.text ++ (title_row many head ++ flat_map spaced_row head), old.are_good) (values_of (codes "content-type:") head)
-      (between, new.are_good)
-  pub chosen : AddsChoice offers (values_of (codes "accept:") head) (between ++ count_row (values_of (codes "content-type:") head))
-      (new.text, choice)
-  pub last : new.choice ≡ last_choice old.choice choice
-  pub asked : new.asked ≡ asked_after (title_of head) old.asked choice
+  pub typed : List ℕ × Bool
+  pub types : FoldsTo (AddsType (asked_by old.asks old.choice (title_of head) (types_in head)))
+      (old.text ++ (title_row many head ++ flat_map spaced_row head), old.are_good) (types_in head) typed
+  pub chosen : AddsChoice offers (accepts_in head) (record {
+    text = typed.0 ++ count_row (types_in head);
+    are_good = typed.1;
+    choice = old.choice;
+    asks = asks_after old.asks (title_of head) (accepts_in head);
+  }) new
 
 -- if there are offers and no head has an `Accept`, the row which says so, and the line that is read in its place
-abbrev pub missing : List MediaType → Option Bool → List ℕ × List (List ℕ)
+abbrev pub missing : {Choice : Type 0} → List MediaType → Option Choice → List ℕ × List (List ℕ)
 missing (offer ∷ offers) None = (codes "no Accept\n", codes "*/*" ∷ [])
 missing offers choice = ([], [])
+
+abbrev pub AddsMissing : List MediaType → State → State → Type 0
+AddsMissing offers old new =
+    AddsChoice offers (missing offers old.choice).1 (record old { text = old.text ++ (missing offers old.choice).0 }) new
 
 -- the row which says that an input is cut off, if it is
 abbrev pub cut_row : Bool → List ℕ
 cut_row cut = if cut then codes "not read after 1048576 bytes\n" else []
 
 -- the verdict: acceptable if each `Content-Type` is accepted, and the last choice, if there is one, is `true`
-abbrev pub verdict_of : Bool → Option Bool → Verdict
-verdict_of are_good choice = if are_good && unwrap_or choice true then Verdict.Acceptable else Verdict.NotAcceptable
+abbrev pub verdict_of : State → Verdict
+verdict_of state =
+    if state.are_good && unwrap_or (option_map (λ choice. choice.1) state.choice) true then Verdict.Acceptable else Verdict.NotAcceptable
 
--- The text is the report on these heads and offers, without control characters. The verdict follows from each `Content-Type` and the last
--- choice.
-pub record IsReportOn (offers : List MediaType) (cut : Bool) (heads : List (List (List ℕ))) (text : List ℕ) (verdict : Verdict) : Type 0 where
+-- There are heads. The text is the report on them and on offers, without control characters, and the verdict is the report's.
+pub record IsReport (offers : List MediaType) (cut : Bool) (heads : List (List (List ℕ))) (text : List ℕ) (verdict : Verdict) : Type 0 where
+  pub some : 0 < length heads
   pub state : State
-  pub last : List ℕ × Option (List MediaType × Bool)
-  pub adds : FoldsTo (AddsHead offers (nat_lt 1 (length heads))) (record { text = []; are_good = true; choice = None; asked = None }) heads state
-  pub chosen : AddsChoice offers (missing offers state.choice).1 (state.text ++ (missing offers state.choice).0) last
-  pub is_text : text ≡ without_controls (last.0 ++ cut_row cut)
-  pub is_verdict : verdict ≡ verdict_of state.are_good (last_choice state.choice last.1)
-
--- Without a head there is no row, and an input that is cut off has no report then.
-abbrev pub IsReport : List MediaType → Bool → List (List (List ℕ)) → List ℕ → Verdict → Type 0
-IsReport offers cut [] text verdict = (cut ≡ false) × (text ≡ []) × (verdict ≡ Verdict.NoHead)
-IsReport offers cut (head ∷ heads) text verdict = IsReportOn offers cut (head ∷ heads) text verdict
+  pub adds : FoldsTo (AddsHead offers (nat_lt 1 (length heads))) (record { text = []; are_good = true; choice = None; asks = false }) heads state
+  pub last : State
+  pub chosen : AddsMissing offers state last
+  pub is_text : text ≡ without_controls (last.text ++ cut_row cut)
+  pub is_verdict : verdict ≡ verdict_of last
 
 -- whether an input is cut off: more bytes than the limit were read
 abbrev pub is_cut : List ℕ → Bool

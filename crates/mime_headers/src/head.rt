@@ -1,15 +1,16 @@
 //! The heads of an input, and the values of their fields.
 
-ghost use Rattle.std.specs.Prelude.{◌≡◌, ◌≤◌, ◌++◌, [], ◌==◌, length, map, option_map, option_to_list, IfOk};
+ghost use Rattle.std.specs.Prelude.{◌≡◌, ◌≤◌, ◌++◌, ◌==◌, ◌||◌, ◌&&◌, length, map, option_map, option_to_list, IfOk};
 ghost use Rattle.std.specs.List.{before_first, after_first, list_all};
 ghost use Rattle.std.specs.Vec.{vec_items};
 ghost use Rattle.mime.specs.Bytes.{is_token_byte};
 ghost use Rattle.mime_http.specs.HttpList.{trimmed};
-ghost use Rattle.mime_headers.specs.Head.{bare, bare_lines, begins, continued, from_angle, goes_on, has_field, head_at, heads_of, is_field, is_own, is_request_line, is_code, is_end, is_interim, is_spaced, is_start, is_status_line, is_token, is_version, own_lines, pasted_head, text_of, title_of, values_of};
+ghost use Rattle.mime_headers.specs.Head.{bare, bare_lines, begins, continued, counts, from_angle, goes_on, head_at, heads_of, is_field, is_request_line, is_code, is_end, is_interim, is_one, is_spaced, is_start, is_status_line, is_token, is_version, own_text, text_of, title_of, values_of};
 ghost use Rattle.mime_headers.specs.Inner.{lines_now};
 
 use mime_http::trimmed;
 use mime_io::first_line;
+use mime_search::{Class, first_stop};
 use std::alloc::{AllocError, Global};
 
 /// What is made, unless memory runs out.
@@ -40,10 +41,7 @@ fn from_angle(line: &[u8]) -> &[u8]
 fn bare(line: &[u8]) -> &[u8]
     ensures { result.now ≡ bare line.now }
 {
-    let line = match line.split_last() {
-        Some((b'\r', rest)) => rest,
-        _ => line,
-    };
+    let line = line.strip_suffix(b"\r").unwrap_or(line);
     if begins(b"\r", line) {
         return from_angle(line);
     }
@@ -91,12 +89,8 @@ fn cut(bytes: &[u8], mark: u8) -> (&[u8], &[u8])
     ensures before { result.0.now ≡ before_first (λ b. b == mark) bytes.now }
     ensures after { result.1.now ≡ after_first (λ b. b == mark) bytes.now }
 {
-    for (at, byte) in bytes.iter().enumerate() {
-        if *byte == mark {
-            return (&bytes[..at], &bytes[at + 1..]);
-        }
-    }
-    (bytes, &[])
+    let at = first_stop(bytes, 0, &Class::of(mark, mark));
+    (&bytes[..at], &bytes[(at + 1).min(bytes.len())..])
 }
 
 /// Returns `true` if all bytes may be in a token (RFC 9110, 5.6.2).
@@ -160,43 +154,47 @@ pub(crate) fn is_interim(text: &[u8]) -> bool
     matches!(rest, [b'1', ..])
 }
 
-/// Returns `true` if a line is a start line after its mark.
+/// Returns `true` if a text is a start line.
 #[tactic(auto, unfolding(crate::specs::Head::is_start))]
-fn is_start(line: &[u8]) -> bool
-    ensures { result ≡ is_start line.now }
+fn is_start(text: &[u8]) -> bool
+    ensures { result ≡ is_start text.now }
 {
-    let text = text_of(line);
     is_request_line(text) || is_status_line(text)
 }
 
-/// Returns `true` if a line is of the head with a mark: it begins with the mark, or is the mark without the space at its end.
-#[tactic(auto, unfolding(crate::specs::Head::is_own))]
-fn is_own(mark: &[u8], line: &[u8]) -> bool
-    ensures { result ≡ is_own mark.now line.now }
+/// Returns `true` if a text begins with a field's name and a colon.
+fn is_field(text: &[u8]) -> bool
+    ensures { result ≡ is_field text.now }
+{
+    let name = cut(text, b':').0;
+    is_token(name) && name.len() < text.len()
+}
+
+/// Returns `true` if a text begins a head. `first` says whether it may be a field's.
+fn begins_head(first: bool, text: &[u8]) -> bool
+    ensures { result ≡ (is_start text.now || (first && is_field text.now)) }
+{
+    is_start(text) || (first && is_field(text))
+}
+
+/// Returns what a line of the head with a mark has after the mark, or `None` for any other line. A mark may lack the space at its end.
+#[tactic(auto, unfolding(crate::specs::Head::own_text))]
+fn own_text<'a>(mark: &[u8], line: &'a [u8]) -> Option<&'a [u8]>
+    ensures { option_map (λ text. text.now) result ≡ own_text mark.now line.now }
 {
     let len = mark.len();
-    (line.len() >= len && &line[..len] == mark)
-        || (len > 0 && mark[len - 1] == b' ' && &mark[..len - 1] == line)
+    if line.len() >= len && &line[..len] == mark {
+        return Some(&line[len..]);
+    }
+    let is_bare = len > 0 && mark[len - 1] == b' ' && &mark[..len - 1] == line;
+    is_bare.then_some(&[])
 }
 
-/// Returns `true` if a line ends the head with a mark. `is_indent` says that the mark is white space alone.
-fn is_end(is_indent: bool, mark: &[u8], line: &[u8]) -> bool
-    ensures { result ≡ is_end is_indent mark.now line.now }
+/// Returns `true` if a line ends the head with a mark. `own` is what the line has of the head.
+fn is_end(mark: &[u8], line: &[u8], own: Option<&[u8]>) -> bool
+    ensures { option_map (λ text. text.now) own.entry ≡ own_text mark.now line.now → result ≡ is_end mark.now line.now }
 {
-    if is_start(line) {
-        return true;
-    }
-    if is_own(mark, line) {
-        return line.len() <= mark.len();
-    }
-    is_indent
-}
-
-/// Returns a line of the head with a mark without the mark, or `None` for any other line.
-fn own_line<'a>(mark: &[u8], line: &'a [u8]) -> Option<&'a [u8]>
-    ensures { own_lines mark.now line.now ≡ option_to_list (option_map (λ line. line.now) result) }
-{
-    is_own(mark, line).then(|| &line[mark.len().min(line.len())..])
+    is_start(text_of(line)) || own.map_or(trimmed(mark).is_empty(), |text| text.is_empty())
 }
 
 /// Returns the head that the first of lines begins, or `None` if only the end of an input that is cut off ends it.
@@ -208,77 +206,16 @@ fn head_at<'a>(alloc: Global, lines: &[&'a [u8]], is_cut: bool) -> Made<Option<H
     };
     let text = text_of(line);
     let mark = &line[..line.len() - text.len()];
-    let is_indent = trimmed(mark).is_empty();
     let mut head = Vec::new(alloc);
     head.push(text)?;
     for next in lines {
-        if is_end(is_indent, mark, next) {
+        let own = own_text(mark, next);
+        if is_end(mark, next, own) {
             return Ok(Some(head));
         }
-        let Some(text) = own_line(mark, next) else {
-            continue;
-        };
-        head.push(text)?;
+        head.extend_from_slice(own.as_slice())?;
     }
-    if !is_cut {
-        return Ok(Some(head));
-    }
-    Ok(None)
-}
-
-/// Returns `true` if a text begins with a field's name and a colon.
-fn is_field(text: &[u8]) -> bool
-    ensures { result ≡ is_field text.now }
-{
-    let name = cut(text, b':').0;
-    is_token(name) && name.len() < text.len()
-}
-
-/// Returns `true` if a head has a `Content-Type` or an `Accept`.
-fn has_field(alloc: Global, head: &[&[u8]]) -> Made<bool>
-    ensures { IfOk result (λ has. has ≡ has_field (map (λ line. line.now) head.now)) }
-{
-    let types = values_of(alloc, b"content-type:", head)?;
-    Ok(!types.is_empty() || !values_of(alloc, b"accept:", head)?.is_empty())
-}
-
-/// Returns the head without a start line, or `None` if there is none.
-fn pasted_head<'a>(alloc: Global, lines: &[&'a [u8]], is_cut: bool) -> Made<Option<Head<'a>>>
-    ensures { IfOk result (λ head. pasted_head is_cut (map (λ line. line.now) lines.now) ≡ option_to_list (option_map lines_now head)) }
-{
-    for (at, line) in lines.iter().enumerate() {
-        if is_start(line) {
-            return Ok(None);
-        }
-        if is_field(text_of(line)) {
-            let Some(head) = head_at(alloc, &lines[at..], is_cut)? else {
-                return Ok(None);
-            };
-            let has_field = has_field(alloc, &head)?;
-            return Ok(has_field.then_some(head));
-        }
-    }
-    Ok(None)
-}
-
-/// Returns the heads of an input's lines. In an input that is cut off, a head counts only if one of the lines ends it.
-pub(crate) fn heads_of<'a>(alloc: Global, lines: &[&'a [u8]], is_cut: bool) -> Made<Vec<Head<'a>>>
-    ensures { IfOk result (λ heads. map lines_now (vec_items heads) ≡ heads_of is_cut (map (λ line. line.now) lines.now)) }
-{
-    let mut heads = Vec::new(alloc);
-    if let Some(head) = pasted_head(alloc, lines, is_cut)? {
-        heads.push(head)?;
-    }
-    for (at, line) in lines.iter().enumerate() {
-        if !is_start(line) {
-            continue;
-        }
-        let Some(head) = head_at(alloc, &lines[at..], is_cut)? else {
-            continue;
-        };
-        heads.push(head)?;
-    }
-    Ok(heads)
+    Ok((!is_cut).then_some(head))
 }
 
 /// Returns the first line of a head, which is its title, or an empty slice if it has no line.
@@ -289,6 +226,46 @@ pub(crate) fn title_of<'a>(head: &[&'a [u8]]) -> &'a [u8]
         [title, ..] => title,
         [] => &[],
     }
+}
+
+/// Returns `true` if a line begins a `Content-Type` or an `Accept`.
+fn is_one(line: &[u8]) -> bool
+    ensures { result ≡ is_one line.now }
+{
+    begins(b"content-type:", line) || begins(b"accept:", line)
+}
+
+/// Returns `true` if a head counts: it has a start line, a `Content-Type` or an `Accept`.
+fn counts(head: &[&[u8]]) -> bool
+    ensures { result ≡ counts (map (λ line. line.now) head.now) }
+{
+    for line in head {
+        if is_one(line) {
+            return true;
+        }
+    }
+    is_start(title_of(head))
+}
+
+/// Returns the heads of an input's lines. In an input that is cut off, a head counts only if one of the lines ends it.
+pub(crate) fn heads_of<'a>(alloc: Global, lines: &[&'a [u8]], is_cut: bool) -> Made<Vec<Head<'a>>>
+    ensures { IfOk result (λ heads. map lines_now (vec_items heads) ≡ heads_of is_cut (map (λ line. line.now) lines.now)) }
+{
+    let mut heads = Vec::new(alloc);
+    let mut first = true;
+    for (at, line) in lines.iter().enumerate() {
+        if !begins_head(first, text_of(line)) {
+            continue;
+        }
+        first = false;
+        let Some(head) = head_at(alloc, &lines[at..], is_cut)? else {
+            continue;
+        };
+        if counts(&head) {
+            heads.push(head)?;
+        }
+    }
+    Ok(heads)
 }
 
 /// Returns `true` if a line begins with white space, and so continues a field.

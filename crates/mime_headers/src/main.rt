@@ -88,13 +88,11 @@ fn device<T>(inner: T) -> Device<T> {
 fn status(rt: &impl Eprint, outcome: Result<Verdict, RunError>) -> ExitCode
     ensures acceptable { outcome ≡ Ok Verdict.Acceptable → exit_status result ≡ 0 }
     ensures not_acceptable { outcome ≡ Ok Verdict.NotAcceptable → exit_status result ≡ 1 }
-    ensures no_head { outcome ≡ Ok Verdict.NoHead → exit_status result ≡ 2 }
     ensures stopped { OnErr outcome (exit_status result ≡ 2) }
 {
     match outcome {
         Ok(Verdict::Acceptable) => ExitCode::SUCCESS,
         Ok(Verdict::NotAcceptable) => ExitCode::FAILURE,
-        Ok(Verdict::NoHead) => stopped(rt, &"no head"),
         Err(error) => stopped(rt, &error),
     }
 }

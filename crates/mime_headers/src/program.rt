@@ -1,6 +1,6 @@
 //! One run of the program, from a source to a sink.
 
-ghost use Rattle.std.specs.Prelude.{◌≡◌, ◌≢◌, ℕ, List, ◌≤◌, ◌+◌, [], length, map, true, OnOk, IfOk, IfErr};
+ghost use Rattle.std.specs.Prelude.{◌≡◌, ◌≢◌, ℕ, List, ◌≤◌, ◌+◌, [], length, map, false, true, OnOk, IfOk, IfErr};
 ghost use Rattle.std.specs.Io.KnownBytes.{Consumes, Appends, IsAtEnd};
 ghost use Rattle.mime_io.specs.Stops.{limit};
 ghost use Rattle.mime_headers.specs.Head.{bare_lines, heads_of};
@@ -9,16 +9,16 @@ ghost use Rattle.mime_headers.specs.Report.{IsReportOf};
 use crate::report::report_of;
 use crate::verdict::Verdict;
 use mime::Mime;
-use mime_io::{RunError, Sink, Source, read_past_limit, write_report};
+use mime_io::{LIMIT, RunError, Sink, Source, read_past_limit, write_report};
 use std::alloc::{AllocError, Global};
 
 /// Reads a source to its end, or to one byte past the limit. Then writes the report on the source's heads and on the offers to a sink, and
-/// returns the verdict. Without a head the report is empty.
+/// returns the verdict.
 ///
 /// # Errors
-/// Returns `Read` if the source fails, and `Write` if the sink fails. A call that failed isn't repeated. Returns `TooLong` if the source
-/// has more than 1,048,576 bytes and no head ends within the first 1,048,576, and `NoMemory` if memory runs out. A part of the report may
-/// have been written only if the error is `Write`.
+/// Returns `Read` if the source fails, and `Write` if the sink fails. A call that failed isn't repeated. Returns `NoHead` if the source has no
+/// head, `TooLong` if it has more than 1,048,576 bytes and no head ends within the first 1,048,576, and `NoMemory` if memory runs out. A part
+/// of the report may have been written only if the error is `Write`.
 pub fn run<S: Source, T: Sink>(
     alloc: Global,
     source: &mut S,
@@ -37,6 +37,9 @@ pub fn run<S: Source, T: Sink>(
     ensures write { result ≡ Err RunError.Write → T.has_failed sink.new ≡ true }
     ensures source_unfailed { result ≢ Err RunError.Read → S.has_failed source.new ≡ S.has_failed source.old }
     ensures sink_unfailed { result ≢ Err RunError.Write → T.has_failed sink.new ≡ T.has_failed sink.old }
+    // If the result is `NoHead`, the run has read all bytes, and they have no head.
+    ensures no_head { result ≡ Err RunError.NoHead → (bytes : List ℕ) × Consumes (S.left source.old) (S.left source.new) bytes
+        × (length bytes ≤ limit) × IsAtEnd (S.left source.new) × (heads_of false (bare_lines false bytes) ≡ []) }
     // If the result is `TooLong`, the run has read one byte more than the limit, and no head ends within the limit.
     ensures too_long { result ≡ Err RunError.TooLong → (bytes : List ℕ) × Consumes (S.left source.old) (S.left source.new) bytes
         × (length bytes ≡ limit + 1) × (heads_of true (bare_lines true bytes) ≡ []) }
@@ -46,7 +49,8 @@ pub fn run<S: Source, T: Sink>(
     let input = read_past_limit(alloc, source)?;
     let (report, verdict) = match report_of(alloc, input.as_slice(), offers) {
         Ok(Some(answer)) => answer,
-        Ok(None) => return Err(RunError::TooLong),
+        Ok(None) if input.len() > LIMIT => return Err(RunError::TooLong),
+        Ok(None) => return Err(RunError::NoHead),
         Err(AllocError) => return Err(RunError::NoMemory),
     };
     write_report(sink, report.as_slice())?;

@@ -1,13 +1,13 @@
 //! The report on heads.
 
-ghost use Rattle.std.specs.Prelude.{◌≡◌, ◌<◌, ◌^◌, ◌++◌, ℕ, false, None, List, [], Err, Ok, Option, length, map, flat_map, slice_get, true, if◌then◌else◌, OnOk, IfOk, IfSome, MatchOption, option_map, unwrap_or};
+ghost use Rattle.std.specs.Prelude.{◌≡◌, ◌++◌, ℕ, false, List, [], Err, Ok, Option, map, flat_map, true, if◌then◌else◌, OnOk, IfOk, MatchOption, option_map, slice_get, unwrap_or};
 ghost use Rattle.std.specs.List.{FoldsTo, enumerate_from};
 ghost use Rattle.std.specs.Vec.{vec_items};
 ghost use Rattle.mime_http.specs.Ranking.{IsRanking};
 ghost use Rattle.mime_io.specs.Lines.{row};
 ghost use Rattle.mime_headers.specs.Head.{bare_lines, heads_of};
-ghost use Rattle.mime_headers.specs.Inner.{asked_now, choice_now, state_now};
-ghost use Rattle.mime_headers.specs.Report.{AddsChoice, AddsEntry, AddsHead, AddsLines, AddsType, HasBoundary, IsAnswer, IsRead, IsReportOf, asked_after, best_row, byte_text, count_row, decider, fault_rows, is_answer, is_cut, is_plain, lacks_text, last_choice, media_rows, missing, numbered, offer_row, offer_rows, range_row, row_if, shown, spaced_row, weighed_text, weight_text};
+ghost use Rattle.mime_headers.specs.Inner.{choice_now, state_now};
+ghost use Rattle.mime_headers.specs.Report.{AddsChoice, AddsEntry, AddsHead, AddsLines, AddsMissing, AddsType, HasBoundary, IsAnswer, IsRead, IsReportOf, asked_by, asks_after, best_row, byte_text, count_row, decider, fault_rows, is_cut, is_plain, lacks_text, media_rows, numbered, offer_row, offer_rows, range_row, row_if, shown, spaced_row, verdict_of, weighed_text, weight_text};
 
 use crate::head::{
     Made, bare_lines, heads_of, is_interim, is_spaced, is_status_line, title_of, values_of,
@@ -25,7 +25,7 @@ use std::alloc::{AllocError, Global};
 /// A report's text and its verdict.
 pub(crate) type Answer = (Vec<u8>, Verdict);
 
-/// The ranges of lines of `Accept`, and whether an offer is acceptable or there are no offers. `None` if there are no lines.
+/// The ranges of lines of `Accept`, and whether an offer is acceptable or there are no offers. `None` if no head has an `Accept`.
 type Choice = Option<(Vec<Mime>, bool)>;
 
 type Ranking = Vec<RankedOffer>;
@@ -39,45 +39,53 @@ struct Report {
     text: Vec<u8>,
     /// Whether each `Content-Type` is accepted.
     are_good: bool,
-    /// Whether the last `Accept` has an acceptable offer or there are no offers, or `None` if no head has an `Accept`.
-    choice: Option<bool>,
-    /// The ranges of the last request, if it has an `Accept`.
-    asked: Option<Vec<Mime>>,
+    /// The last choice.
+    choice: Choice,
+    /// Whether `choice` is that of the last request, which no response has answered.
+    asks: bool,
 }
 
-/// Returns the text and the verdict of the report on the heads of an input and on offers, or `None` if the input is cut off and has no head
-/// that ends.
+/// Returns the text and the verdict of the report on the heads of an input and on offers, or `None` if the input has no head.
 pub(crate) fn report_of(alloc: Global, input: &[u8], offers: &[Mime]) -> Made<Option<Answer>>
-    ensures { IfOk result (λ answer. MatchOption answer ((is_cut input.now ≡ true) × (heads_of true (bare_lines true input.now) ≡ []))
+    ensures { IfOk result (λ answer. MatchOption answer (heads_of (is_cut input.now) (bare_lines (is_cut input.now) input.now) ≡ [])
         (λ answer. IsReportOf (map (λ offer. offer.media) offers.now) input.now (vec_items answer.0) answer.1)) }
 {
     let is_cut = input.len() > LIMIT;
     let lines = bare_lines(alloc, input, is_cut)?;
     let heads = heads_of(alloc, &lines, is_cut)?;
     if heads.is_empty() {
-        return Ok((!is_cut).then_some((Vec::new(alloc), Verdict::NoHead)));
+        return Ok(None);
     }
     let mut report = Report {
         text: Vec::new(alloc),
         are_good: true,
         choice: None,
-        asked: None,
+        asks: false,
     };
     let many = heads.len() > 1;
     for head in &heads {
         push_head(&mut report, offers, many, head.as_slice())?;
     }
-    let text = &mut report.text;
-    let any = push_missing(text, offers, report.choice)?;
-    let last = push_choice(text, offers, &any)?;
-    push_shown(text, is_cut, b"not read after ", b"1048576 bytes")?;
-    let choice = last_choice(report.choice, &last);
-    let verdict = if report.are_good && choice.unwrap_or(true) {
-        Verdict::Acceptable
-    } else {
-        Verdict::NotAcceptable
-    };
+    push_missing(&mut report, offers)?;
+    push_shown(
+        &mut report.text,
+        is_cut,
+        b"not read after ",
+        b"1048576 bytes",
+    )?;
+    let verdict = verdict_of(&report);
     Ok(Some((without_controls(alloc, report.text)?, verdict)))
+}
+
+/// Returns the verdict of a report.
+fn verdict_of(report: &Report) -> Verdict
+    ensures { result ≡ verdict_of (state_now report.now) }
+{
+    match report.choice {
+        _ if !report.are_good => Verdict::NotAcceptable,
+        Some((_, false)) => Verdict::NotAcceptable,
+        _ => Verdict::Acceptable,
+    }
 }
 
 /// Adds the rows of a head. `many` says whether there are several heads.
@@ -87,81 +95,66 @@ fn push_head(report: &mut Report, offers: &[Mime], many: bool, head: &[&[u8]]) -
 {
     let alloc = *report.text.allocator();
     let title = title_of(head);
+    let types = values_of(alloc, b"content-type:", head)?;
+    let accepts = values_of(alloc, b"accept:", head)?;
     let text = &mut report.text;
     push_shown(text, many, b"head ", title)?;
     push_spaced(text, head)?;
-    let types = values_of(alloc, b"content-type:", head)?;
-    let asked = asked_by(&report.asked, is_answer(title, &types));
+    let asked = asked_by(&report.choice, report.asks, title, &types);
     push_types(text, &mut report.are_good, asked, &types)?;
     push(text, &[count_row(&types)])?;
-    let accepts = values_of(alloc, b"accept:", head)?;
-    let chosen = push_choice(text, offers, &accepts)?;
-    report.choice = last_choice(report.choice, &chosen);
-    keep_asked(&mut report.asked, title, chosen);
+    report.asks = asks_after(report.asks, title, &accepts);
+    push_choice(report, offers, &accepts)?;
     Ok(())
 }
 
-/// Returns `true` if a head answers a request: it is a response that isn't interim (RFC 9110, 15.2), with one `Content-Type`. So each
+/// Returns the ranges by which a head is weighed if it is a response that isn't interim (RFC 9110, 15.2), with one `Content-Type`. So each
 /// `Accept` weighs at most one media type.
-fn is_answer(title: &[u8], types: &[Vec<u8>]) -> bool
-    ensures { result ≡ is_answer title.now (map vec_items types.now) }
+fn asked_by<'a>(choice: &'a Choice, asks: bool, title: &[u8], types: &[Vec<u8>]) -> Asked<'a>
+    ensures { option_map (λ ranges. map (λ range. range.media) ranges.now) result
+        ≡ asked_by asks (choice_now choice.now) title.now (map vec_items types.now) }
 {
-    is_status_line(title) && (!is_interim(title) && types.len() == 1)
-}
-
-/// Returns the ranges by which a head is weighed: those of the last request if the head is an answer.
-fn asked_by(asked: &Option<Vec<Mime>>, is_answer: bool) -> Asked<'_>
-    ensures { option_map (λ ranges. map (λ range. range.media) ranges.now) result ≡ (if is_answer then asked_now asked.now else None) }
-{
-    match asked {
-        Some(ranges) if is_answer => Some(ranges),
+    match choice {
+        Some((ranges, _))
+            if asks && is_status_line(title) && !is_interim(title) && types.len() == 1 => {
+            Some(ranges)
+        }
         _ => None,
     }
 }
 
-/// Keeps the ranges by which a later response is weighed: those of a request's choice, and after an interim response those in `asked`.
-fn keep_asked(asked: &mut Option<Vec<Mime>>, title: &[u8], choice: Choice)
-    ensures { asked_now asked.new ≡ asked_after title.now (asked_now asked.old) (choice_now choice) }
+/// Returns `true` if the last choice is that of the last request, which is still without an answer after a head.
+fn asks_after(asks: bool, title: &[u8], accepts: &[Vec<u8>]) -> bool
+    ensures { result ≡ asks_after asks title.now (map vec_items accepts.now) }
 {
     if is_status_line(title) {
-        if !is_interim(title) {
-            *asked = None;
-        }
-        return;
+        asks && (is_interim(title) && accepts.is_empty())
+    } else {
+        !accepts.is_empty()
     }
-    *asked = choice.map(|choice| choice.0);
 }
 
-/// Adds `no Accept` if there are offers and `choice` is `None`, and returns the line that is read then (RFC 9110, 12.5.1).
-fn push_missing(text: &mut Vec<u8>, offers: &[Mime], choice: Option<bool>) -> Made<Vec<Vec<u8>>>
-    ensures row { OnOk result (vec_items text.new ≡ vec_items text.old ++ (missing (map (λ offer. offer.media) offers.now) choice).0) }
-    ensures lines { IfOk result (λ lines. map vec_items (vec_items lines) ≡ (missing (map (λ offer. offer.media) offers.now) choice).1) }
+/// Adds `no Accept`, and the rows of the offers, if there are offers and no head has an `Accept` (RFC 9110, 12.5.1).
+fn push_missing(report: &mut Report, offers: &[Mime]) -> Made<()>
+    ensures { OnOk result (AddsMissing (map (λ offer. offer.media) offers.now) (state_now report.old) (state_now report.new)) }
 {
-    if offers.is_empty() || choice.is_some() {
-        return Ok(Vec::new(*text.allocator()));
+    if offers.is_empty() || report.choice.is_some() {
+        return Ok(());
     }
-    push(text, &[b"no Accept\n"])?;
-    values_of(*text.allocator(), b"accept:", &[b"accept:*/*"])
-}
-
-/// Returns what a choice says of the offers, or `last` if none is made.
-fn last_choice(last: Option<bool>, choice: &Choice) -> Option<bool>
-    ensures { result ≡ last_choice last (choice_now choice.now) }
-{
-    match choice {
-        Some((_, is_acceptable)) => Some(*is_acceptable),
-        None => last,
-    }
+    push(&mut report.text, &[b"no Accept\n"])?;
+    let any = values_of(*report.text.allocator(), b"accept:", &[b"accept:*/*"])?;
+    push_choice(report, offers, &any)
 }
 
 /// Adds the rows of the lines of `Accept` and of the offers, or nothing if there are no lines.
-fn push_choice(text: &mut Vec<u8>, offers: &[Mime], lines: &[Vec<u8>]) -> Made<Choice>
-    ensures { IfOk result (λ choice. AddsChoice (map (λ offer. offer.media) offers.now) (map vec_items lines.now) (vec_items text.old)
-        (vec_items text.new, choice_now choice)) }
+fn push_choice(report: &mut Report, offers: &[Mime], lines: &[Vec<u8>]) -> Made<()>
+    ensures { OnOk result (AddsChoice (map (λ offer. offer.media) offers.now) (map vec_items lines.now) (state_now report.old)
+        (state_now report.new)) }
 {
     if lines.is_empty() {
-        return Ok(None);
+        return Ok(());
     }
+    let text = &mut report.text;
     let before = text.len();
     let mut ranges = Vec::new(*text.allocator());
     push_lines(text, &mut ranges, lines)?;
@@ -169,7 +162,8 @@ fn push_choice(text: &mut Vec<u8>, offers: &[Mime], lines: &[Vec<u8>]) -> Made<C
     push_shown(text, is_empty, b"empty Accept", b"")?;
     let ranking = push_offers(text, b"offer ", &ranges, offers)?;
     let is_acceptable = push_best(text, offers, &ranking)?;
-    Ok(Some((ranges, is_acceptable)))
+    report.choice = Some((ranges, is_acceptable));
+    Ok(())
 }
 
 /// Adds the rows of offers, the best first, and returns the ranking.
@@ -329,11 +323,7 @@ fn push_fault(text: &mut Vec<u8>, label: &[u8], value: &[u8], error: FieldError)
 fn byte_at(value: &[u8], at: usize) -> Option<u8>
     ensures { result ≡ slice_get value.now at }
 {
-    if at < value.len() {
-        Some(value[at])
-    } else {
-        None
-    }
+    value.get(at).copied()
 }
 
 /// Adds a byte, if there is one, as a person reads it, and in hexadecimal. Adds a remark if it is `(`, which begins a comment in mail.
@@ -465,8 +455,7 @@ fn push_offer(
 
 /// Returns the range that decides the weight of an offer, with its position, or `None` if none does.
 fn decider<'r>(ranges: &'r [Mime], one: &RankedOffer) -> Option<(usize, &'r Mime)>
-    ensures item { option_map (λ item. (item.0, item.1.now.media)) result ≡ decider (map (λ range. range.media) ranges.now) one.now }
-    ensures within { IfSome result (λ item. item.0 < length ranges.now) }
+    ensures { option_map (λ item. (item.0, item.1.now.media)) result ≡ decider (map (λ range. range.media) ranges.now) one.now }
 {
     let at = one.range?;
     Some((at, nth(ranges, at)?))
@@ -497,18 +486,16 @@ fn push_lacked(
 
 /// Returns the media type at a position, or `None` if there is none.
 fn nth(mimes: &[Mime], at: usize) -> Option<&Mime>
-    ensures found { option_map (λ mime. mime.now.media) result ≡ slice_get (map (λ mime. mime.media) mimes.now) at }
-    ensures within { IfSome result (λ _. at < length mimes.now) }
+    ensures { option_map (λ mime. mime.now.media) result ≡ slice_get (map (λ mime. mime.media) mimes.now) at }
 {
     mimes.get(at)
 }
 
 /// Adds the number (from 1) and the text of the range at position `at`.
 fn push_numbered(text: &mut Vec<u8>, at: usize, range: &Mime) -> Made<()>
-    requires { at < 2 ^ 63 }
     ensures { OnOk result (vec_items text.new ≡ vec_items text.old ++ numbered (at, range.now.media)) }
 {
-    let number = format!(in *text.allocator(); "{}", at + 1)?;
+    let number = format!(in *text.allocator(); "{}", at as u128 + 1)?;
     push(text, &[number.as_bytes(), b" ", range.as_str().as_bytes()])
 }
 

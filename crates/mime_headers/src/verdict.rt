@@ -8,6 +8,4 @@ pub enum Verdict {
     /// A `Content-Type` is rejected, or there are offers and each weighs 0. In the latter case, a server may reply with 406 (RFC 9110,
     /// 15.5.7).
     NotAcceptable,
-    /// The input has no head.
-    NoHead,
 }

@@ -14,6 +14,8 @@ pub enum RunError {
     Write,
     /// The source has more than 1,048,576 bytes.
     TooLong,
+    /// The input has no head of a request or a response.
+    NoHead,
     /// Memory ran out.
     NoMemory,
 }
@@ -27,6 +29,7 @@ impl RunError {
             RunError::Read => "read",
             RunError::Write => "write",
             RunError::TooLong => "too long",
+            RunError::NoHead => "no head",
             RunError::NoMemory => "no memory",
         }
     }
