@@ -122,6 +122,9 @@ fn is_request_line(text: &[u8]) -> bool
     ensures { result ≡ is_request_line text.now }
 {
     let (method, rest) = cut(text, b' ');
+    if rest.is_empty() {
+        return false;
+    }
     let (target, version) = cut(rest, b' ');
     is_token(method) && (!target.is_empty() && is_version(version))
 }
@@ -142,8 +145,7 @@ pub(crate) fn is_status_line(text: &[u8]) -> bool
     ensures { result ≡ is_status_line text.now }
 {
     let (version, rest) = cut(text, b' ');
-    let (code, _) = cut(rest, b' ');
-    is_version(version) && is_code(code)
+    is_version(version) && is_code(cut(rest, b' ').0)
 }
 
 /// Returns `true` if a status line is that of an interim response, such as `HTTP/1.1 100 Continue`.
