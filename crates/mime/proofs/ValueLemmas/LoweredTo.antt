@@ -1,8 +1,8 @@
 -- A text lowercased from its start on, range by range and pair by pair.
 use Rattle.std.proofs.{lemmas.Grind.common_steps, lemmas.Bool.cond_both, lemmas.List.take_at, lemmas.List.drop_at, lemmas.List.drop-drop, lemmas.List.drop_all, lemmas.List.take-append-drop, lemmas.List.take_rest, lemmas.List.length-take-le, Math.Seq.take-add}
-use Rattle.std.proofs.Common.{◌≡◌, ℕ, suc, ◌+◌, ◌-◌, ◌<◌, ◌≤◌, Bool, true, false, cond, List, [], ◌++◌, length, drop, refl, sym, ap, ◌∙◌, arith, append-nil, append_assoc, length-append, take, slice_range, length-drop}
-use Rattle.mime.specs.{Values.lowered, Values.lowered_value, Values.is_charset, Inner.KeptText.with_pairs_lowered, Inner.Pairs.cut_of, Inner.Pairs.lowered_within, Inner.Pairs.lowered_first}
-use Rattle.mime.proofs.{ValueLemmas.Pairs.lowered_within-first, ValueLemmas.Pairs.LiesIn, ValueLemmas.Pairs.cut_of-lies, ValueLemmas.Pairs.cut_of-within, ValueLemmas.Pairs.first_lowered, ValueLemmas.Pairs.lowered_first-joined, LowercaseLemmas.lowered-append, LowercaseLemmas.lowered-lowered}
+use Rattle.std.proofs.Common.{◌≡◌, ℕ, zero, suc, ◌+◌, ◌-◌, ◌<◌, ◌≤◌, Bool, true, false, cond, List, [], ◌++◌, length, drop, refl, sym, ap, ◌∙◌, arith, append-nil, append_assoc, length-append, take, slice_range, length-drop}
+use Rattle.mime.specs.{Values.lowered, Values.lowered_value, Values.is_charset, Inner.KeptText.with_pairs_lowered, Inner.Pairs.PairCut, Inner.Pairs.cut_before, Inner.Pairs.lowered_within}
+use Rattle.mime.proofs.{ValueLemmas.Pairs.lowered_within-first, ValueLemmas.Pairs.LiesIn, ValueLemmas.Pairs.cut_before-lies, ValueLemmas.Pairs.cut-within, ValueLemmas.Pairs.first_lowered, LowercaseLemmas.lowered-append, LowercaseLemmas.lowered-lowered}
 use Rattle.mime_search.proofs.IgnoringCase.{length-lowered}
 use borrow.Rule.Slice.PartMut.{put_mid}
 
@@ -66,33 +66,27 @@ lowered_part : (list prefix back : List ℕ) (k : ℕ) → list ≡ prefix ++ ba
 lowered_part list prefix back k parts size = grind (arith, common_steps)
 
 -- a first value ends within a list
-pub low_within : (list value : List ℕ) (start low : ℕ) (charset : Bool) → start ≡ (cut_of list).value_start
-    → value ≡ (cut_of list).value
-    → low ≡ cond charset (length value) 0 → start + low ≤ length list
-low_within list value start low charset starts values is =
+pub low_within : (list value : List ℕ) (cut : PairCut) (start low : ℕ) (charset : Bool) → LiesIn list cut → start ≡ cut.value_start
+    → value ≡ cut.value → low ≡ cond charset (length value) 0 → start + low ≤ length list
+low_within list value cut start low charset lies starts values is =
     let short : low ≤ length value =
     rw is (cond_both charset (length value) 0 (λ n. n ≤ length value) (λ _. omega arith) (λ _. omega arith)) in
-    omega (arith, starts, short, ap length values, cut_of-within list)
+    omega (arith, starts, short, ap length values, cut-within list cut lies)
 
 -- a list is lowercased up to its first value, and with it under `charset`
-pub lowered_first-start : (list : List ℕ) (low : ℕ) → low ≡ cond (is_charset (cut_of list).name) (length (cut_of list).value) 0
-    → let k = (cut_of list).value_start + low in lowered (take k list) ++ drop k list ≡ lowered_first list
-lowered_first-start list low is = go (cut_of-lies list) (is_charset (cut_of list).name) refl low is
-  where
-    go : LiesIn list (cut_of list) → (charset : Bool) → is_charset (cut_of list).name ≡ charset → (low : ℕ)
-        → low ≡ cond charset (length (cut_of list).value) 0
-        → let k = (cut_of list).value_start + low in lowered (take k list) ++ drop k list ≡ lowered_first list
-    go lies true named low is =
-        let cut = cut_of list in
-        let lowercase : lowered_value cut.name cut.value ≡ lowered cut.value = rw named refl in
-        lowered_part list (lies.prefix ++ cut.value) (lies.middle ++ cut.rest) _ (lies.parts ∙ simp append_assoc)
-        (omega (arith, is, lies.value_start, length-append lies.prefix cut.value))
-        ∙ rw (lowered-append lies.prefix cut.value) (sym (lowered_first-joined list lies ∙ rw lowercase (simp append_assoc)))
-    go lies false other low is =
-        let cut = cut_of list in
-        let as_is : lowered_value cut.name cut.value ≡ cut.value = rw other refl in
-        lowered_part list lies.prefix (cut.value ++ (lies.middle ++ cut.rest)) _ lies.parts (omega (arith, is, lies.value_start))
-        ∙ sym (lowered_first-joined list lies ∙ rw as_is (simp append_assoc))
+pub lowered_first-start : (list : List ℕ) (cut : PairCut) (lies : LiesIn list cut) (low : ℕ)
+    → low ≡ cond (is_charset cut.name) (length cut.value) 0
+    → let k = cut.value_start + low in lowered (take k list) ++ drop k list ≡ first_lowered list cut lies ++ cut.rest
+lowered_first-start list cut lies low =
+    elim (is_charset cut.name) as (λ charset. low ≡ cond charset (length cut.value) 0
+        → let k = cut.value_start + low in lowered (take k list) ++ drop k list
+        ≡ (lowered lies.prefix ++ (cond charset (lowered cut.value) cut.value ++ lies.middle)) ++ cut.rest) [
+      | true ↦ λ is. lowered_part list (lies.prefix ++ cut.value) (lies.middle ++ cut.rest) _ (lies.parts ∙ simp append_assoc)
+          (omega (arith, is, lies.value_start, length-append lies.prefix cut.value))
+          ∙ rw (lowered-append lies.prefix cut.value) (simp append_assoc)
+      | false ↦ λ is. lowered_part list lies.prefix (cut.value ++ (lies.middle ++ cut.rest)) _ lies.parts
+          (omega (arith, is, lies.value_start)) ∙ simp append_assoc
+    ]
 
 -- the bytes are those that are done, those that are lowercased with the next pair, and the list that is left; with `count`
 -- pairs of the list lowercased they are the whole
@@ -150,23 +144,23 @@ part_put bytes left part from count whole so_far =
 
 -- the next pair is lowercased, and what is before it
 pub lowered_to-more : (bytes left part rest : List ℕ) (from low count next : ℕ) (whole : List ℕ)
-    (so_far : IsLoweredTo bytes left from count whole)
-    → count ≡ suc next → low ≡ cond (is_charset (cut_of left).name) (length (cut_of left).value) 0
+    (so_far : IsLoweredTo bytes left from count whole) → count ≡ suc next → let cut = cut_before next left in
+    low ≡ cond (is_charset cut.name) (length cut.value) 0
     → let P = take (length bytes - from) (drop from bytes) in
-    let n = length bytes - length left - from + ((cut_of left).value_start + low) in
-    part ≡ lowered (take n P) ++ drop n P → rest ≡ (cut_of left).rest
+    let n = length bytes - length left - from + (cut.value_start + low) in
+    part ≡ lowered (take n P) ++ drop n P → rest ≡ cut.rest
     → let new = put_mid from (length bytes - from) bytes part in IsLoweredTo new rest (length new - length rest) next whole
 lowered_to-more bytes left part rest from low count next whole so_far counts low_is lowers rests =
-    let lies = cut_of-lies left in
-    let first = first_lowered left lies in
+    let cut = cut_before next left in
+    let lies = cut_before-lies next left in
+    let first = first_lowered left cut lies in
     let done = so_far.done in
     let between = so_far.between in
     let new = put_mid from (length bytes - from) bytes part in
     let written : part ≡ lowered between ++ (first ++ rest) =
-    part_written bytes left part from count _ ((cut_of left).value_start + low) whole so_far
+    part_written bytes left part from count _ (cut.value_start + low) whole so_far
     (omega (arith, lowered_to-sizes bytes left from count whole so_far)) lowers
-    ∙ ap (λ x. lowered between ++ x) (lowered_first-start left low low_is ∙ lowered_first-joined left lies
-    ∙ ap (λ x. first ++ x) (sym rests)) in
+    ∙ ap (λ x. lowered between ++ x) (lowered_first-start left cut lies low low_is ∙ ap (λ x. first ++ x) (sym rests)) in
     let parts : new ≡ (done ++ (lowered between ++ first)) ++ rest =
     part_put bytes left part from count whole so_far ∙ rw written (simp append_assoc) in
     record {
@@ -183,13 +177,8 @@ lowered_to-more bytes left part rest from low count next whole so_far counts low
       none = λ _. refl;
     }
 
--- The last pair is lowercased, and what is before it, up to a position of the list after which nothing changes.
-pub lowered_to-last : (bytes left part : List ℕ) (from count n k : ℕ) (whole : List ℕ) → IsLoweredTo bytes left from count whole
-    → n + from ≡ length bytes - length left + k → lowered (take k left) ++ drop k left ≡ lowered_within count left
-    → let P = take (length bytes - from) (drop from bytes) in part ≡ lowered (take n P) ++ drop n P
-    → put_mid from (length bytes - from) bytes part ≡ whole
-lowered_to-last bytes left part from count n k whole so_far there last lowers =
-    let sizes = lowered_to-sizes bytes left from count whole so_far in
-    let written = part_written bytes left part from count n k whole so_far (omega (arith, sizes, there)) lowers in
-    part_put bytes left part from count whole so_far
-    ∙ ap (λ x. so_far.done ++ x) (written ∙ ap (λ x. lowered so_far.between ++ x) last) ∙ so_far.comes
+-- All pairs are lowercased.
+pub lowered_to-all : (bytes left : List ℕ) (from count : ℕ) (whole : List ℕ) → IsLoweredTo bytes left from count whole → count ≡ 0
+    → bytes ≡ whole
+lowered_to-all bytes left from zero whole so_far is = (rw (so_far.none refl) at so_far.parts) ∙ (rw (so_far.none refl) at so_far.comes)
+lowered_to-all bytes left from (suc count) whole so_far is = absurd cc
