@@ -203,7 +203,7 @@ lowered_value-around : (name prefix value back : List ℕ) → lowered prefix �
     → lowered_value name (prefix ++ (value ++ back)) ≡ prefix ++ (lowered_value name value ++ back)
 lowered_value-around name prefix value back before after =
     elim (is_charset name) as (λ charset. cond charset (lowered (prefix ++ (value ++ back))) (prefix ++ (value ++ back))
-        ≡ prefix ++ (cond charset (lowered value) value ++ back)) [
+    ≡ prefix ++ (cond charset (lowered value) value ++ back)) [
       | true ↦ rw (lowered-append prefix (value ++ back), lowered-append value back, before, after) refl
       | false ↦ refl
     ]

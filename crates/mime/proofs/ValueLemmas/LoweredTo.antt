@@ -1,7 +1,7 @@
 -- A text lowercased from its start on, range by range and pair by pair.
 use Rattle.std.proofs.{lemmas.Grind.common_steps, lemmas.Bool.cond_both, lemmas.List.take_at, lemmas.List.drop_at, lemmas.List.drop-drop, lemmas.List.drop_all, lemmas.List.take-append-drop, lemmas.List.take_rest, lemmas.List.length-take-le, Math.Seq.take-add}
 use Rattle.std.proofs.Common.{◌≡◌, ℕ, zero, suc, ◌+◌, ◌-◌, ◌<◌, ◌≤◌, Bool, true, false, cond, List, [], ◌++◌, length, drop, refl, sym, ap, ◌∙◌, arith, append-nil, append_assoc, length-append, take, slice_range, length-drop}
-use Rattle.mime.specs.{Values.lowered, Values.lowered_value, Values.is_charset, Inner.KeptText.with_pairs_lowered, Inner.Pairs.PairCut, Inner.Pairs.cut_before, Inner.Pairs.lowered_within}
+use Rattle.mime.specs.{Values.lowered, Values.is_charset, Inner.KeptText.with_pairs_lowered, Inner.Pairs.PairCut, Inner.Pairs.cut_before, Inner.Pairs.lowered_within}
 use Rattle.mime.proofs.{ValueLemmas.Pairs.lowered_within-first, ValueLemmas.Pairs.LiesIn, ValueLemmas.Pairs.cut_before-lies, ValueLemmas.Pairs.cut-within, ValueLemmas.Pairs.first_lowered, LowercaseLemmas.lowered-append, LowercaseLemmas.lowered-lowered}
 use Rattle.mime_search.proofs.IgnoringCase.{length-lowered}
 use borrow.Rule.Slice.PartMut.{put_mid}
@@ -79,8 +79,8 @@ pub lowered_first-start : (list : List ℕ) (cut : PairCut) (lies : LiesIn list 
     → let k = cut.value_start + low in lowered (take k list) ++ drop k list ≡ first_lowered list cut lies ++ cut.rest
 lowered_first-start list cut lies low =
     elim (is_charset cut.name) as (λ charset. low ≡ cond charset (length cut.value) 0
-        → let k = cut.value_start + low in lowered (take k list) ++ drop k list
-        ≡ (lowered lies.prefix ++ (cond charset (lowered cut.value) cut.value ++ lies.middle)) ++ cut.rest) [
+    → let k = cut.value_start + low in lowered (take k list) ++ drop k list
+    ≡ (lowered lies.prefix ++ (cond charset (lowered cut.value) cut.value ++ lies.middle)) ++ cut.rest) [
       | true ↦ λ is. lowered_part list (lies.prefix ++ cut.value) (lies.middle ++ cut.rest) _ (lies.parts ∙ simp append_assoc)
           (omega (arith, is, lies.value_start, length-append lies.prefix cut.value))
           ∙ rw (lowered-append lies.prefix cut.value) (simp append_assoc)

@@ -2,7 +2,7 @@
 use Rattle.std.proofs.Common.{ℕ, List, ◌∷◌, [], None, Some, refl, sym, ap, ◌∙◌, arith, ne_eqb}
 use Rattle.std.proofs.lemmas.Bool.{cond-false}
 use Rattle.mime.specs.{Bytes.quote_byte, Bytes.equals_byte, Grammar.Parameter}
-use Rattle.mime.proofs.{GrammarLemmas.Begun.in_value, ScanLemmas.Passing.given_less, ScanLemmas.Verdicts.ListReaches, ScanLemmas.Verdicts.list_run, ScanLemmas.Verdicts.list_byte, ScanLemmas.Verdicts.list_scans_at, ScanLemmas.Lists.one_pair_more, ScanLemmas.Lists.spaces_walked, ScanLemmas.Lists.name_walked, ScanLemmas.Lists.equals_walked, ScanLemmas.Lists.quotes_walked, ScanLemmas.Lists.Valued, ScanLemmas.Lists.valued_token, ScanLemmas.Lists.valued_quotes, scan.parameters.Goals.In-Some-eq61, scan.parameters.Goals.Joined-first-eq34, scan.parameters.Goals.then-first-eq34+in-Some-eq34, scan.parameters.Goals.else-first-eq34+then-is_token}
+use Rattle.mime.proofs.{GrammarLemmas.Begun.in_value, ScanLemmas.Passing.given_less, ScanLemmas.Verdicts.ListLeads, ScanLemmas.Verdicts.list_run, ScanLemmas.Verdicts.list_byte, ScanLemmas.Verdicts.list_scans_at, ScanLemmas.Lists.one_pair_more, ScanLemmas.Lists.spaces_walked, ScanLemmas.Lists.name_walked, ScanLemmas.Lists.equals_walked, ScanLemmas.Lists.quotes_walked, ScanLemmas.Lists.Valued, ScanLemmas.Lists.valued_token, ScanLemmas.Lists.valued_quotes, scan.parameters.Goals.In-Some-eq61, scan.parameters.Goals.Joined-first-eq34, scan.parameters.Goals.then-first-eq34+in-Some-eq34, scan.parameters.Goals.else-first-eq34+then-is_token}
 use Rattle.mime.proofs.scan.parameters.Goals as goal
 
 pub returns-in_default : goal.returns-in_default
@@ -29,7 +29,7 @@ returns-in-Some-token c =
     (cond-false _ _ _ c.in-Some-token.ensures.stopped ∙ cond-false _ _ _ (ne_eqb _ equals_byte c.in-Some-token.byte-test.1)) refl
 
 -- a parameter's name and its equals sign
-named : (c : In-Some-eq61) → ListReaches c.args.reader.now c.token.new.reader None (record {
+named : (c : In-Some-eq61) → ListLeads c.args.reader.now c.token.new.reader None (record {
   closed = c.loop-first.invariant.closed;
   position = in_value c.in-Some.ensures.run (c.in-Some.first ∷ c.in-Some-eq61.ensures.run) [];
 })
@@ -63,7 +63,7 @@ returns-else-is_token c =
 
 -- a parameter's value
 valued : {closed : List (List ℕ × Parameter)} {spaces name : List ℕ} (c : Joined-first-eq34)
-    → ListReaches c.args.reader.now c.token.new.reader None (record { closed = closed; position = in_value spaces name [] })
+    → ListLeads c.args.reader.now c.token.new.reader None (record { closed = closed; position = in_value spaces name [] })
     → Valued closed spaces c.args.reader.now c.token.new.reader c.if-first-eq34.reader c.if-first-eq34.stop
 valued c name =
     elim c.if-first-eq34.branch [

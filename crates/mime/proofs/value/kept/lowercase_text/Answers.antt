@@ -1,5 +1,5 @@
 -- Each turn lowercases the first pair of what is left, with what is before it.
-use Rattle.std.proofs.Common.{◌≡◌, ◌≤◌, ◌+◌, ◌-◌, drop, length, length-drop, refl, lit<, ap, subst, ◌∙◌, arith, ◌++◌, take, append-nil}
+use Rattle.std.proofs.Common.{◌≡◌, ◌-◌, drop, length, length-drop, refl, lit<, ap, subst, ◌∙◌, arith, ◌++◌, take, append-nil}
 use Rattle.std.proofs.lemmas.List.{take_all, drop_all, take_rest}
 use borrow.Rule.Slice.PartMut.{put_mid}
 use Rattle.mime.specs.{Inner.KeptText.with_pairs_lowered, Values.lowered, Inner.ComparedText.IsLoneCharset}
