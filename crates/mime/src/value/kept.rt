@@ -25,14 +25,6 @@ pub(crate) fn has_capital(bytes: &[u8]) -> bool
     found
 }
 
-/// Returns `true` if a parameter's name is `charset`, ignoring ASCII case.
-#[inline]
-fn names_charset(name: &str) -> bool
-    ensures { result ≡ is_charset name.now }
-{
-    eq_ignore_ascii_case(name.as_bytes(), CHARSET.text.as_bytes())
-}
-
 /// Lowercases `bytes[from..to]`.
 #[inline]
 fn lowercase_range(bytes: &mut [u8], from: usize, to: usize)
@@ -59,12 +51,16 @@ fn lowercase_start(bytes: &mut [u8], len: usize)
 }
 
 /// Returns how many of the `len` bytes of a parameter's value are lowercased: all if the parameter's name is `charset`,
-/// else none.
+/// ignoring ASCII case, else none.
 #[inline(always)]
 fn low_len(name: &str, len: usize) -> usize
     ensures { result ≡ if is_charset name.now then len else 0 }
 {
-    if names_charset(name) { len } else { 0 }
+    if eq_ignore_ascii_case(name.as_bytes(), CHARSET.text.as_bytes()) {
+        len
+    } else {
+        0
+    }
 }
 
 /// Lowercases everything up to position `semicolon`, the names of the `count` pairs, and the values of `charset`. `bytes`

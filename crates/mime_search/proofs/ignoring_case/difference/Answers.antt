@@ -9,6 +9,7 @@ use Rattle.mime_search.specs.Differences.{difference_bit}
 use Rattle.mime_search.proofs.{IgnoringCase.at_byte, ignoring_case.difference.Goals.then-is_ascii_lowercase, ignoring_case.difference.Goals.else-is_ascii_lowercase}
 use Rattle.mime_search.proofs.ignoring_case.difference.Goals as goal
 
+-- A byte is a letter if it is a lowercase one with the bit set.
 letter : ℕ → Bool
 letter b = is_ascii_lowercase (bit_or b 32)
 
