@@ -3,7 +3,7 @@ use Rattle.std.proofs.Common.{◌≡◌, ℕ, ◌+◌, true, List, [], ◌∷◌
 use Rattle.std.specs.Prelude.{IsFalse, Bool, if◌then◌else◌, ◌==◌}
 use Rattle.std.specs.Option.{option_to_list}
 use Rattle.std.proofs.lemmas.Bool.{and_from, cond-true, cond-false}
-use Rattle.mime.specs.{Bytes.is_token_byte, Bytes.equals_byte, Bytes.quote_byte, Bytes.semicolon_byte, Values.last_plus, Inner.Remaining.Remaining, declared.scan.Positions.Positions, declared.scan.Scanned.Scanned, Inner.Scanning.Given, Inner.Scanning.GivesFirst, Inner.Scanning.Passes, Inner.Scanning.positions_of, Inner.Scanning.before_list, Inner.Scanning.ScansList, Inner.Scanning.Scans, Inner.Scanning.PassesContent, Grammar.is_space, Grammar.Parameter, Grammar.plain, Grammar.quoted, Inner.Quoted.continues}
+use Rattle.mime.specs.{Bytes.is_token_byte, Bytes.quote_byte, Bytes.semicolon_byte, Values.last_plus, Inner.Remaining.Remaining, declared.scan.Positions.Positions, declared.scan.Scanned.Scanned, Inner.Scanning.Given, Inner.Scanning.GivesFirst, Inner.Scanning.Passes, Inner.Scanning.positions_of, Inner.Scanning.before_list, Inner.Scanning.ScansList, Inner.Scanning.Scans, Inner.Scanning.PassesContent, Grammar.is_space, Grammar.Parameter, Grammar.plain, Grammar.quoted, Inner.Quoted.continues}
 use Rattle.mime.proofs.{GrammarLemmas.Begun.in_type, GrammarLemmas.Begun.in_subtype, GrammarLemmas.Begun.in_list, GrammarLemmas.Begun.begun_list, GrammarLemmas.Begun.walk-type, GrammarLemmas.Begun.walk_from-subtype, GrammarLemmas.Begun.ListState, GrammarLemmas.Begun.in_spaces, GrammarLemmas.Begun.in_name, GrammarLemmas.Begun.in_value, GrammarLemmas.Begun.in_quotes, GrammarLemmas.Begun.after_quotes, GrammarLemmas.Begun.BegunList, GrammarLemmas.Begun.grow_state, GrammarLemmas.Begun.grow_list, GrammarLemmas.Begun.close, GrammarLemmas.Begun.walk_by-step, GrammarLemmas.Begun.walk_list-spaces, GrammarLemmas.Begun.walk_list-name, GrammarLemmas.Begun.walk_list-value, GrammarLemmas.Begun.walk_list-open, GrammarLemmas.Begun.walk_list-after_quotes, ScanLemmas.Passing.given_then, ScanLemmas.Passing.given_whole, ScanLemmas.Passing.given_sum, GrammarLemmas.Spelling.walk_from-lengthens, ScanLemmas.Verdicts.Leads, ScanLemmas.Verdicts.reaches_run, ScanLemmas.Verdicts.positions_of_list, ScanLemmas.Verdicts.ListLeads, ScanLemmas.Verdicts.list_run, ScanLemmas.Verdicts.list_byte, BytesLemmas.quote_is_no_token, BytesLemmas.semicolon_is_no_token}
 
 -- nothing was walked yet
@@ -81,13 +81,6 @@ name_walked {b = b} t p f q =
     list_run (list_byte (spaces_walked t p) first) q.given
     (sym (walk_by-step grow_list (record { closed = t.closed; position = in_spaces p.run }) _ b q.run first)
     ∙ walk_list-name t.closed p.run (b ∷ q.run) (and_from _ _ f q.of_class))
-
--- a parameter's equals sign was walked
-pub equals_walked : {closed : List (List ℕ × Parameter)} {spaces name : List ℕ} {old now : Remaining} {b : ℕ}
-    → ListLeads old now (Some b) (record { closed = closed; position = in_name spaces name }) → IsFalse (is_token_byte b)
-    → b ≡ equals_byte
-    → ListLeads old now None (record { closed = closed; position = in_value spaces name [] })
-equals_walked {b = b} r f e = list_byte r (cond-false (is_token_byte b) _ _ f ∙ cond-true _ _ _ (eq-eqb b equals_byte e))
 
 -- a parameter's quoted content was walked
 pub quotes_walked : {closed : List (List ℕ × Parameter)} {spaces name : List ℕ} {old mid from new : Remaining} {b : ℕ}

@@ -133,12 +133,6 @@ positions_of_list-tree top sub list = at_end (list_at_end list.position)
         ap (λ n. Some (record (positions_of (before_list top sub)) { pair_count = n }))
         (omega (arith, length-with_closed list.closed rest))
 
--- a byte that leads nowhere in a list leads nowhere
-stopped_in_list : (top sub left : List ℕ) (list : BegunList) (stop : Option ℕ)
-    → MatchOption stop (left ≡ []) (λ b. grow_list list b ≡ None)
-    → MatchOption stop (left ≡ []) (λ b. grow (in_list top sub list) b ≡ None)
-stopped_in_list top sub left list stop end = search rules
-
 -- the scanner's answer on a list where it stops
 pub list_scans_at : {before : Positions} {old new : Remaining} {stop : Option ℕ} {list : BegunList} (positions : Option Positions)
     → ListLeads old new stop list → MatchOption stop (new.left ≡ []) (λ b. grow_list list b ≡ None)
@@ -149,5 +143,5 @@ list_scans_at {new = new} {stop = stop} {list = list} positions r stopped e = λ
       given = given;
       walked = walk-head top sub [] top_token sub_token;
     } in
-    scans_at positions (reaches_run before (r top sub).given (r top sub).walked) (stopped_in_list top sub new.left list stop stopped)
+    scans_at positions (reaches_run before (r top sub).given (r top sub).walked) (search rules)
     (e ∙ ap (λ h. positions_of_list h list) head_is ∙ positions_of_list-tree top sub list)

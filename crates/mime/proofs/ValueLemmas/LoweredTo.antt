@@ -6,13 +6,10 @@ use Rattle.mime.proofs.{ValueLemmas.Pairs.lowered_within-first, ValueLemmas.Pair
 use Rattle.mime_search.proofs.IgnoringCase.{length-lowered, lowered-take, lowered-drop}
 use borrow.Rule.Slice.PartMut.{put_mid}
 
--- the bytes with those between two positions lowercased
-abbrev lowered_range : ℕ → ℕ → List ℕ → List ℕ
-lowered_range from to bytes = take from bytes ++ (lowered (slice_range bytes from to) ++ drop to bytes)
-
 -- the bytes before a position are lowercased, and then a range that begins there, or earlier
 pub lowered_start-more : (bytes text : List ℕ) (done from to : ℕ) → bytes ≡ lowered (take done text) ++ drop done text
-    → from ≤ done → done ≤ to → to ≤ length text → lowered_range from to bytes ≡ lowered (take to text) ++ drop to text
+    → from ≤ done → done ≤ to → to ≤ length text
+    → take from bytes ++ (lowered (slice_range bytes from to) ++ drop to bytes) ≡ lowered (take to text) ++ drop to text
 lowered_start-more bytes text done from to so_far before after within =
     let size = length-lowered (take done text) ∙ length-take-le done text (omega (arith, after, within)) in
     let all : lowered bytes ≡ lowered text =
@@ -34,12 +31,6 @@ lowered_start-more bytes text done from to so_far before after within =
     ap (λ n. take n text) (omega (arith, before, after)) ∙ take-add from (to - from) text in
     (λ i. start i ++ (middle i ++ end i)) ∙ sym (append_assoc (lowered (take from text)) _ (drop to text))
     ∙ ap (λ x. x ++ drop to text) (sym (ap lowered whole ∙ lowered-append (take from text) (slice_range text from to)))
-
--- what is lowercased up to a position of a list that ends a text
-pub lowered_start-end : (text list : List ℕ) (at k : ℕ) → list ≡ drop at text
-    → lowered (take (at + k) text) ++ drop (at + k) text ≡ lowered (take at text) ++ (lowered (take k list) ++ drop k list)
-lowered_start-end text list at k end =
-    rw (end, take-add at k text, ← drop-drop k at text, lowered-append (take at text) (take k (drop at text))) (simp append_assoc)
 
 -- a list is lowercased up to where its first part ends
 lowered_part : (list prefix back : List ℕ) (k : ℕ) → list ≡ prefix ++ back → length prefix ≡ k
@@ -123,9 +114,15 @@ lowered_to-more bytes left part rest from low count next whole so_far counts low
     let after = drop_all (length bytes - from) (drop from bytes) (omega (arith, length-drop from bytes)) in
     let written : part ≡ lowered between ++ (first ++ rest) =
     lowers ∙ (λ i. lowered (take (there i) (behind i)) ++ drop (there i) (behind i))
-    ∙ lowered_start-end (between ++ left) left (length between) k (sym (drop_at between left (length between) refl))
-    ∙ rw (take_at between left (length between) refl)
-    (ap (λ x. lowered between ++ x) (lowered_first-start left cut lies low low_is ∙ ap (λ x. first ++ x) (sym rests))) in
+    ∙ rw (
+      take-add (length between) k (between ++ left),
+      ← drop-drop k (length between) (between ++ left),
+      take_at between left (length between) refl,
+      drop_at between left (length between) refl,
+      lowered-append between (take k left),
+    )
+    (append_assoc (lowered between) _ (drop k left)
+    ∙ ap (λ x. lowered between ++ x) (lowered_first-start left cut lies low low_is ∙ ap (λ x. first ++ x) (sym rests))) in
     let parts : new ≡ (done ++ (lowered between ++ first)) ++ rest =
     rw (before, after) (ap (λ x. done ++ x) (append-nil part) ∙ rw written (simp append_assoc)) in
     record {

@@ -56,14 +56,6 @@ len_from-le awaiting (b ∷ text) =
 
 -- ---- the first quote
 
--- a byte before the first quote is no backslash, so none is awaited after it
-awaits_next-not_backslash : (awaiting : Bool) (b : ℕ) → b ≢ backslash_byte → awaits_next awaiting b ≡ false
-awaits_next-not_backslash awaiting b other = search rules
-
--- a byte that is no quote closes nothing
-closes-not_at_other : (awaiting : Bool) (b : ℕ) → b == quote_byte ≡ false → not awaiting && b == quote_byte ≡ false
-closes-not_at_other awaiting b other = search rules
-
 -- the first quote closes, if no byte is awaited at it: if no backslash precedes it
 first_quote : (awaiting : Bool) (text : List ℕ) (n : ℕ) → n ≡ position_or_len (λ b. b == quote_byte) text
     → (n ≡ 0 → awaiting ≡ false)
@@ -74,9 +66,9 @@ first_quote awaiting (b ∷ text) n e free before = ⊎_elim
     (λ (other : b == quote_byte ≡ false).
     let on : n ≡ 1 + position_or_len (λ b. b == quote_byte) text = e ∙ rw other refl in
     let rest = first_quote (awaits_next awaiting b) text (n - 1) (omega (arith, on))
-    (λ none. awaits_next-not_backslash awaiting b (before 0 (omega (arith, none, on))))
+    (λ none. let is_none = before 0 (omega (arith, none, on)) in search rules)
     (λ m same. before (suc m) (omega (arith, same))) in
-    cond-false (not awaiting && b == quote_byte) _ _ (closes-not_at_other awaiting b other) ∙ omega (arith, rest, on))
+    cond-false (not awaiting && b == quote_byte) _ _ (search rules) ∙ omega (arith, rest, on))
     (cases_Bool (b == quote_byte))
 
 -- content ends at the first quote, if no backslash precedes it
@@ -158,10 +150,6 @@ before_rest list cut lies = lies.prefix ++ (cut.value ++ lies.middle)
 abbrev pub first_lowered : (list : List ℕ) (cut : PairCut) → LiesIn list cut → List ℕ
 first_lowered list cut lies = lowered lies.prefix ++ (lowered_value cut.name cut.value ++ lies.middle)
 
--- the list is that and the rest
-before_rest-joined : (list : List ℕ) (cut : PairCut) (lies : LiesIn list cut) → before_rest list cut lies ++ cut.rest ≡ list
-before_rest-joined list cut lies = sym (lies.parts ∙ simp append_assoc)
-
 -- a list with its first pair lowercased is that pair lowercased, and the rest
 pub lowered_first-joined : (list : List ℕ) (cut : PairCut) (lies : LiesIn list cut)
     → lowered_first cut list ≡ first_lowered list cut lies ++ cut.rest
@@ -181,20 +169,16 @@ first_lowered-in_part list cut lies =
     (in_parts _ _ _ _ (lowered_value-either (IsLoweredInPart cut.value) cut.name cut.value (same cut.value) (lowercase cut.value))
     (same lies.middle))
 
--- lowercasing the first pair keeps the position of the rest
-length-first_lowered : (list : List ℕ) (cut : PairCut) (lies : LiesIn list cut)
-    → length (first_lowered list cut lies) + length cut.rest ≡ length list
-length-first_lowered list cut lies = grind (arith, common_steps)
-
 -- the list with its first pairs lowercased: the first, and then the others
 pub lowered_within-first : (count : ℕ) (list : List ℕ) (lies : LiesIn list (cut_before count list)) → let cut = cut_before count list in
     lowered_within (suc count) list ≡ first_lowered list cut lies ++ lowered_within count cut.rest
 lowered_within-first count list lies =
     let cut = cut_before count list in
     let size = length list - length cut.rest in
+    let whole : length (first_lowered list cut lies) + length cut.rest ≡ length list = grind (arith, common_steps) in
     ap (λ x. x ++ lowered_within count cut.rest)
     (ap (take size) (lowered_first-joined list cut lies)
-    ∙ take_at (first_lowered list cut lies) cut.rest size (omega (arith, length-first_lowered list cut lies)))
+    ∙ take_at (first_lowered list cut lies) cut.rest size (omega (arith, whole)))
 
 -- the pairs of any list, lowercased, are the list with some parts lowercased
 pub lowered_within-in_part : (count : ℕ) (list : List ℕ) → IsLoweredInPart list (lowered_within count list)
@@ -202,8 +186,9 @@ lowered_within-in_part zero list = same list
 lowered_within-in_part (suc count) list =
     let cut = cut_before count list in
     let lies = cut_before-lies count list in
+    let whole : before_rest list cut lies ++ cut.rest ≡ list = sym (lies.parts ∙ simp append_assoc) in
     let parts = in_parts _ _ _ _ (first_lowered-in_part list cut lies) (lowered_within-in_part count cut.rest) in
-    subst (λ x. IsLoweredInPart x (lowered_within (suc count) list)) (before_rest-joined list cut lies)
+    subst (λ x. IsLoweredInPart x (lowered_within (suc count) list)) whole
     (subst (IsLoweredInPart (before_rest list cut lies ++ cut.rest)) (sym (lowered_within-first count list lies)) parts)
 
 -- ---- the pairs that are left, and what is looked up in them
@@ -212,10 +197,6 @@ lowered_within-in_part (suc count) list =
 pub pairs_within-first : (count : ℕ) (list : List ℕ) → count ≢ 0
     → pairs_within count list ≡ ((cut_of list).name, (cut_of list).value) ∷ pairs_within (count - 1) (cut_of list).rest
 pairs_within-first count list some = search rules
-
--- a cut keeps the name before the equals sign
-pub cut_after_equals-name : (size : ℕ) (name text : List ℕ) → (cut_after_equals size name text).name ≡ name
-cut_after_equals-name size name text = search rules
 
 -- a part of a cut by the name and what follows the equals sign is that of the whole cut
 pub cut_of-part : {X : Type 0} (part : PairCut → X) (list name back : List ℕ) (size : ℕ) (x : X) → size ≡ length list
@@ -228,7 +209,11 @@ cut_of-part part list name back size x size_is name_is back_is is =
 -- the cut of a list has the name before its first equals sign
 pub cut_of-name : (list name : List ℕ) → name ≡ before_byte equals_byte (without_spaces list) → name ≡ (cut_of list).name
 unfolding cut_of
-cut_of-name list name is = is ∙ sym (cut_after_equals-name (length list) _ (after_byte equals_byte (without_spaces list)))
+cut_of-name list name is =
+    let after = after_byte equals_byte (without_spaces list) in
+    let named : (cut_after_equals (length list) (before_byte equals_byte (without_spaces list)) after).name
+    ≡ before_byte equals_byte (without_spaces list) = search rules in
+    is ∙ sym named
 
 -- what is found in a list: the first value, if its name is accepted
 pub found-first : (Accepts : List ℕ → Bool → Type 0) (count : ℕ) (list value : List ℕ) (flag : Bool) → count ≢ 0

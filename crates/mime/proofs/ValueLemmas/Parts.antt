@@ -37,10 +37,6 @@ last_plus-is_last text below from (b ∷ bytes) above view =
         (λ beyond. none position beyond there)
         (cases_lt position (from + 1)))
 
--- a byte after the first of a list
-slice_get-drop : (bytes : List ℕ) (i : ℕ) → slice_get bytes (suc i) ≡ slice_get (drop 1 bytes) i
-slice_get-drop bytes i = search rules
-
 -- the plus of a value is the last one
 pub plus_is_last : PlusIsLast
 plus_is_last text value reads =
@@ -49,7 +45,7 @@ plus_is_last text value reads =
     let slash = length reads.tree.top in
     let view : (i : ℕ) → slice_get (top ++ (slash_byte ∷ sub)) (slash + 2 + i) ≡ slice_get (drop 1 sub) i =
     λ i. slice_get-after top (slash_byte ∷ sub) (suc (suc i)) _ (omega (arith, length-lowered reads.tree.top))
-    ∙ slice_get-drop sub i in
+    ∙ search rules in
     subst (λ (v : MediaType). IsLastPlus v.essence (v.slash + 1) (v.slash + 2) v.plus) reads.valued
     (last_plus-is_last (top ++ (slash_byte ∷ sub)) (slash + 1) (slash + 2) (drop 1 sub) (omega arith) view)
 
