@@ -4,7 +4,7 @@ use Rattle.std.specs.Prelude.{IsFalse, Bool, if◌then◌else◌, ◌==◌}
 use Rattle.std.specs.Option.{option_to_list}
 use Rattle.std.proofs.lemmas.Bool.{and_from, cond-true, cond-false}
 use Rattle.mime.specs.{Bytes.is_token_byte, Bytes.quote_byte, Bytes.semicolon_byte, Values.last_plus, Inner.Remaining.Remaining, declared.scan.Positions.Positions, declared.scan.Scanned.Scanned, Inner.Scanning.Given, Inner.Scanning.GivesFirst, Inner.Scanning.Passes, Inner.Scanning.positions_of, Inner.Scanning.before_list, Inner.Scanning.ScansList, Inner.Scanning.Scans, Inner.Scanning.PassesContent, Grammar.is_space, Grammar.Parameter, Grammar.plain, Grammar.quoted, Inner.Quoted.continues}
-use Rattle.mime.proofs.{GrammarLemmas.Begun.in_type, GrammarLemmas.Begun.in_subtype, GrammarLemmas.Begun.in_list, GrammarLemmas.Begun.begun_list, GrammarLemmas.Begun.walk-type, GrammarLemmas.Begun.walk_from-subtype, GrammarLemmas.Begun.ListState, GrammarLemmas.Begun.in_spaces, GrammarLemmas.Begun.in_name, GrammarLemmas.Begun.in_value, GrammarLemmas.Begun.in_quotes, GrammarLemmas.Begun.after_quotes, GrammarLemmas.Begun.BegunList, GrammarLemmas.Begun.grow_state, GrammarLemmas.Begun.grow_list, GrammarLemmas.Begun.close, GrammarLemmas.Begun.walk_by-step, GrammarLemmas.Begun.walk_list-spaces, GrammarLemmas.Begun.walk_list-name, GrammarLemmas.Begun.walk_list-value, GrammarLemmas.Begun.walk_list-open, GrammarLemmas.Begun.walk_list-after_quotes, ScanLemmas.Passing.given_then, ScanLemmas.Passing.given_whole, ScanLemmas.Passing.given_sum, GrammarLemmas.Spelling.walk_from-lengthens, ScanLemmas.Verdicts.Leads, ScanLemmas.Verdicts.reaches_run, ScanLemmas.Verdicts.positions_of_list, ScanLemmas.Verdicts.ListLeads, ScanLemmas.Verdicts.list_run, ScanLemmas.Verdicts.list_byte, BytesLemmas.quote_is_no_token, BytesLemmas.semicolon_is_no_token}
+use Rattle.mime.proofs.{GrammarLemmas.Begun.in_type, GrammarLemmas.Begun.in_subtype, GrammarLemmas.Begun.in_list, GrammarLemmas.Begun.begun_list, GrammarLemmas.Begun.walk-type, GrammarLemmas.Begun.ListState, GrammarLemmas.Begun.in_spaces, GrammarLemmas.Begun.in_name, GrammarLemmas.Begun.in_value, GrammarLemmas.Begun.in_quotes, GrammarLemmas.Begun.after_quotes, GrammarLemmas.Begun.BegunList, GrammarLemmas.Begun.grow_state, GrammarLemmas.Begun.grow_list, GrammarLemmas.Begun.close, GrammarLemmas.Begun.walk_by-step, GrammarLemmas.Begun.walk_list-spaces, GrammarLemmas.Begun.walk_list-name, GrammarLemmas.Begun.walk_list-value, GrammarLemmas.Begun.walk_list-open, GrammarLemmas.Begun.walk_list-after_quotes, ScanLemmas.Passing.given_then, ScanLemmas.Passing.given_whole, ScanLemmas.Passing.given_sum, GrammarLemmas.Spelling.walk_from-lengthens, ScanLemmas.Verdicts.Leads, ScanLemmas.Verdicts.positions_of_list, ScanLemmas.Verdicts.ListLeads, ScanLemmas.Verdicts.list_run, ScanLemmas.Verdicts.list_byte, BytesLemmas.quote_is_no_token, BytesLemmas.semicolon_is_no_token}
 
 -- nothing was walked yet
 pub none_walked : {old new : Remaining} {first : Option ℕ} → GivesFirst old new first
@@ -19,13 +19,6 @@ type_walked {b = b} g f q = record {
   given = given_then (given_whole g.0) q.given;
   walked = walk-type (b ∷ q.run) (and_from _ _ f q.of_class);
 }
-
--- a subtype was walked after the slash
-pub subtype_walked : {old mid from new : Remaining} {top : List ℕ} {b : ℕ} {stop : Option ℕ}
-    → Leads (in_type []) old mid None (in_subtype top []) → GivesFirst mid from (Some b) → is_token_byte b ≡ true
-    → (q : Passes is_token_byte from new stop) → Leads (in_type []) old new stop (in_subtype top (b ∷ q.run))
-subtype_walked {top = top} {b = b} r g f q =
-    reaches_run r (given_then (given_whole g.0) q.given) (walk_from-subtype top (b ∷ q.run) (and_from _ _ f q.of_class))
 
 -- the subtype was passed, with the byte after it, if any
 pub record Subtyped (top : List ℕ) (b : ℕ) (plus : Option ℕ) (old now : Remaining) (stop : Option ℕ) : Type 0 where

@@ -5,7 +5,7 @@ use Rattle.std.specs.Prelude.{◌==◌}
 use Rattle.std.specs.{List.list_all, List.prefix_len, Char.to_ascii_lowercase}
 use Rattle.mime.specs.{Bytes.is_token_byte, Bytes.semicolon_byte, Bytes.equals_byte, Bytes.quote_byte, Grammar.Parameter, Grammar.plain, Grammar.quoted, Grammar.Parameters, Grammar.blank, Grammar.final, Grammar.more, Grammar.text_of_list, Grammar.text_of_parameter, Grammar.is_space, Grammar.AreSpaces, Grammar.AreTokenBytes, Grammar.IsToken, Grammar.IsContent, Grammar.AreParameters, Grammar.IsParameter, Values.lowered, Values.lowered_value, Values.is_charset, Values.lowered_parameter, Values.lowered_list, Values.pair_of, Values.pairs_of_list, Inner.Quoted.content_len, Inner.Quoted.content_of, Inner.Quoted.after_content, Inner.Pairs.PairCut, Inner.Pairs.cut_after_equals, Inner.Pairs.leading_spaces, Inner.Pairs.without_spaces, Inner.Pairs.cut_of, Inner.Pairs.last_cut, Inner.Pairs.pairs_within, Inner.Pairs.lowered_within, Inner.ComparedText.IsLoneCharset, Inner.KeptText.with_pairs_lowered}
 use Rattle.mime_search.specs.Rests.{before_byte, after_byte}
-use Rattle.mime.proofs.{ValueLemmas.Pairs.content_len-content, ValueLemmas.Pairs.last_cut-lies, ValueLemmas.Pairs.cut_of-name, ValueLemmas.Pairs.lowered_within-first, BytesLemmas.semicolon_is_no_token, BytesLemmas.quote_is_no_token, BytesLemmas.token_byte-not_space, BytesLemmas.is_other, BytesLemmas.are_other-token, BytesLemmas.are_other, BytesLemmas.AreTokenBytes-from_token, LowercaseLemmas.lowered-append}
+use Rattle.mime.proofs.{GrammarLemmas.Content.content-taken, GrammarLemmas.Content.content-awaits, ValueLemmas.Pairs.len_from-run, ValueLemmas.Pairs.last_cut-lies, ValueLemmas.Pairs.cut_of-name, ValueLemmas.Pairs.lowered_within-first, BytesLemmas.semicolon_is_no_token, BytesLemmas.quote_is_no_token, BytesLemmas.token_byte-not_space, BytesLemmas.is_other, BytesLemmas.are_other-token, BytesLemmas.are_other, BytesLemmas.AreTokenBytes-from_token, LowercaseLemmas.lowered-append}
 
 -- what may follow a run: nothing, or the byte and the rest
 pub data IsFollow (byte : ℕ) : List ℕ → List ℕ → Type 0 where
@@ -73,7 +73,7 @@ cut_value-quoted : (whole : ℕ) (name content n follow rest : List ℕ) → IsC
     ≡ record { name = name; value_start = whole - length (content ++ (quote_byte ∷ (n ++ follow))); value = content; rest = rest }
 cut_value-quoted whole name content n follow rest is white follows =
     let bytes : List ℕ = content ++ (quote_byte ∷ (n ++ follow)) in
-    let position = content_len-content content (n ++ follow) is in
+    let position = len_from-run false content (n ++ follow) (content-taken content is) (content-awaits content is) in
     let value : content_of bytes ≡ content = take_at content (quote_byte ∷ (n ++ follow)) (content_len bytes) (sym position) in
     let after_quote : after_content bytes ≡ n ++ follow = drop_past quote_byte content _ _ (content_len bytes) (ended _) (sym position) in
     let after : after_byte semicolon_byte (after_content bytes) ≡ rest =

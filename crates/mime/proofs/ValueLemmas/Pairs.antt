@@ -1,11 +1,11 @@
 -- What a cut of a list is, and where its quoted content ends.
 use Rattle.std.proofs.{lemmas.Grind.common_steps, lemmas.Str.IsCharBoundary-start, lemmas.Str.IsCharBoundary-after_ascii, lemmas.Bool.Decides.nat_tests, lemmas.List.Sums.prefix_len_passes, lemmas.List.Sums.prefix_len-le-length, lemmas.List.take_at, lemmas.List.drop_at, lemmas.List.drop-drop, lemmas.List.take-append-drop, lemmas.Bool.and_parts, lemmas.Bool.cases_Bool, lemmas.Bool.cond-false, lemmas.Bool.eqb-true, lemmas.Bool.true≢false, lemmas.Bool.cond_both}
 use Rattle.std.proofs.Common.{⊎_elim, ◌≡◌, ◌≢◌, ℕ, zero, suc, ◌+◌, ◌<◌, ◌≤◌, Bool, true, false, List, [], ◌∷◌, ◌++◌, length, get_or, drop, refl, sym, ap, ◌∙◌, arith, ◌-◌, take, subst, append-nil, append_assoc, length-append, rules}
-use Rattle.std.specs.Prelude.{IsTrue, ◌==◌, ◌&&◌, not, Option, Some, codes}
-use Rattle.std.specs.{List.position_or_len, Str.IsUtf8, Str.IsCharBoundary, Str.bytes_eq}
-use Rattle.mime.specs.{Bytes.quote_byte, Bytes.backslash_byte, Bytes.equals_byte, Grammar.IsContent, Grammar.is_space, Inner.Quoted.awaits_next, Inner.Quoted.takes, Inner.Quoted.takes_all, Inner.Quoted.awaits_after, Inner.Quoted.len_from, Inner.Quoted.content_len, Values.lowered, Values.lowered_value, Inner.Pairs.PairCut, Inner.Pairs.cut_after_equals, Inner.Pairs.leading_spaces, Inner.Pairs.without_spaces, Inner.Pairs.cut_of, Inner.Pairs.last_cut, Inner.Pairs.cut_before, Inner.Pairs.pairs_within, Inner.Pairs.lowered_first, Inner.Pairs.lowered_within, Items.items_of, Items.IsFirstAccepted}
+use Rattle.std.specs.Prelude.{IsTrue, ◌==◌, ◌&&◌, not, Option}
+use Rattle.std.specs.{List.position_or_len, Str.IsUtf8, Str.IsCharBoundary}
+use Rattle.mime.specs.{Bytes.quote_byte, Bytes.backslash_byte, Bytes.equals_byte, Grammar.is_space, Inner.Quoted.awaits_next, Inner.Quoted.takes, Inner.Quoted.takes_all, Inner.Quoted.awaits_after, Inner.Quoted.len_from, Inner.Quoted.content_len, Values.lowered, Values.lowered_value, Inner.Pairs.PairCut, Inner.Pairs.cut_after_equals, Inner.Pairs.leading_spaces, Inner.Pairs.without_spaces, Inner.Pairs.cut_of, Inner.Pairs.last_cut, Inner.Pairs.cut_before, Inner.Pairs.pairs_within, Inner.Pairs.lowered_first, Inner.Pairs.lowered_within, Items.items_of, Items.IsFirstAccepted}
 use Rattle.mime_search.specs.Rests.{first_position, before_byte, after_byte}
-use Rattle.mime.proofs.{GrammarLemmas.Content.taken-closes_not, GrammarLemmas.Content.content-taken, GrammarLemmas.Content.content-awaits, LowercaseLemmas.lowered_value-either, ValueLemmas.Utf8.IsLoweredInPart, ValueLemmas.Utf8.same, ValueLemmas.Utf8.lowercase, ValueLemmas.Utf8.in_parts}
+use Rattle.mime.proofs.{GrammarLemmas.Content.taken-closes_not, LowercaseLemmas.lowered_value-either, ValueLemmas.Utf8.IsLoweredInPart, ValueLemmas.Utf8.same, ValueLemmas.Utf8.lowercase, ValueLemmas.Utf8.in_parts}
 
 -- ---- the spaces with which a list begins
 
@@ -24,7 +24,7 @@ spaces_border list utf8 = go (leading_spaces list) refl
 -- ---- the length of content
 
 -- the quote that closes is found
-len_from-run : (awaiting : Bool) (run after : List ℕ) → IsTrue (takes_all awaiting run) → awaits_after awaiting run ≡ false
+pub len_from-run : (awaiting : Bool) (run after : List ℕ) → IsTrue (takes_all awaiting run) → awaits_after awaiting run ≡ false
     → len_from awaiting (run ++ quote_byte ∷ after) ≡ length run
 len_from-run true [] after all done = absurd (true≢false done)
 len_from-run false [] after all done = refl
@@ -32,11 +32,6 @@ len_from-run awaiting (b ∷ run) after all done =
     let parts = and_parts (takes awaiting b) (takes_all (awaits_next awaiting b) run) all in
     cond-false (not awaiting && b == quote_byte) _ _ (taken-closes_not awaiting b parts.0)
     ∙ omega (arith, len_from-run (awaits_next awaiting b) run after parts.1 done)
-
--- content that a quote follows ends at that quote
-pub content_len-content : (content after : List ℕ) → IsContent content
-    → content_len (content ++ quote_byte ∷ after) ≡ length content
-content_len-content content after is = len_from-run false content after (content-taken content is) (content-awaits content is)
 
 -- at the length of the content that a text begins with there is a quote, or the text ends
 pub quote_at_len : (awaiting : Bool) (text : List ℕ) → len_from awaiting text < length text
@@ -214,13 +209,6 @@ cut_of-name list name is =
     let named : (cut_after_equals (length list) (before_byte equals_byte (without_spaces list)) after).name
     ≡ before_byte equals_byte (without_spaces list) = search rules in
     is ∙ sym named
-
--- what is found in a list: the first value, if its name is accepted
-pub found-first : (Accepts : List ℕ → Bool → Type 0) (count : ℕ) (list value : List ℕ) (flag : Bool) → count ≢ 0
-    → Accepts (cut_of list).name true → value ≡ (cut_of list).value → flag ≡ bytes_eq (cut_of list).name (codes "charset")
-    → IsFirstAccepted Accepts (items_of (pairs_within count list)) (Some (value, flag))
-found-first Accepts count list value flag some accepted valued flagged =
-    rw (pairs_within-first count list some) (λ _. cc (valued, flagged), λ other. absurd (other accepted))
 
 -- if the first name isn't accepted, what is found in a list is what is found in the rest
 pub found-next : (Accepts : List ℕ → Bool → Type 0) (count : ℕ) (list : List ℕ) (found : Option (List ℕ × Bool))

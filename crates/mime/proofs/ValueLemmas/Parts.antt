@@ -4,7 +4,7 @@ use Rattle.std.specs.Prelude.{slice_get, MatchOption, if◌then◌else◌, ◌==
 use Rattle.std.specs.{Option.option_or, List.AllByRecursion, Str.IsCharBoundary, Str.bytes_eq}
 use Rattle.std.proofs.{lemmas.Bool.cond_both, lemmas.Bool.cases_lt, lemmas.Bool.eqb-true, lemmas.Bool.eqb-false, lemmas.Option.same_Some, lemmas.Option.none-some, lemmas.Option.slice_get_within, lemmas.Option.get_or_from_slice_get, lemmas.Option.MatchOption-at_some, lemmas.Str.IsCharBoundary-end, lemmas.Str.IsCharBoundary-before_ascii}
 use Rattle.mime.specs.{Bytes.slash_byte, Bytes.plus_byte, Bytes.equals_byte, Values.lowered, Values.last_plus, Values.MediaType, Values.Reads, Laws.HasNoPlusFrom, Laws.PlusIsLast, Inner.Pairs.PairCut, Inner.Pairs.cut_of, Inner.Pairs.cut_after_equals, Inner.Pairs.without_spaces, Inner.Pairs.pairs_within, Items.items_of, Items.IsLowItem, Items.IsLowIf, Items.IsFirstAccepted, Inner.KeptText.lowered_pair, Inner.KeptText.AreLowPairs, Inner.KeptText.media_of, Inner.KeptText.IsKept, Comparison.Same, declared.scan.Positions.Positions}
-use Rattle.mime.proofs.{BytesLemmas.slice_get-after, BytesLemmas.slice_get-prefix, BytesLemmas.boundary_after, LowercaseLemmas.lowered-lowered, LowercaseLemmas.lowered-append, LowercaseLemmas.lowered_value-lowered, LowercaseLemmas.low_pair-parts, LowercaseLemmas.length-tail_lowered, LowercaseLemmas.pairs_of_tail-lowered, ValueLemmas.KeptText.media_of-kept, ValueLemmas.KeptText.reads-from_kept, ValueLemmas.Pairs.pairs_within-first, ValueLemmas.Pairs.cut_of-part, ValueLemmas.Pairs.cut_of-name, ValueLemmas.Pairs.found-first, GrammarLemmas.Readings.one_reading}
+use Rattle.mime.proofs.{BytesLemmas.slice_get-after, BytesLemmas.slice_get-prefix, BytesLemmas.boundary_after, LowercaseLemmas.lowered-lowered, LowercaseLemmas.lowered-append, LowercaseLemmas.lowered_value-lowered, LowercaseLemmas.low_pair-parts, LowercaseLemmas.length-tail_lowered, LowercaseLemmas.pairs_of_tail-lowered, ValueLemmas.KeptText.media_of-kept, ValueLemmas.KeptText.reads-from_kept, ValueLemmas.Pairs.pairs_within-first, ValueLemmas.Pairs.cut_of-part, ValueLemmas.Pairs.cut_of-name, GrammarLemmas.Readings.one_reading}
 use Rattle.mime_search.proofs.IgnoringCase.{length-lowered, lowered-drop}
 use Rattle.mime_search.specs.Rests.{before_byte, after_byte}
 
@@ -139,7 +139,8 @@ first_value-found Accepts count list name back value flag some low name_is back_
     let flagged : flag ≡ bytes_eq cut.name (codes "charset") = flag_is ∙ ap (λ n. bytes_eq n (codes "charset")) named in
     let items = items_of-low ((cut.name, cut.value) ∷ pairs_within (count - 1) cut.rest)
     (subst AreLowPairs (pairs_within-first count list some) low) in (
-      found-first Accepts count list value flag some (subst (λ n. Accepts n true) named accepted) valued flagged,
+      rw (pairs_within-first count list some)
+          (λ _. cc (valued, flagged), λ other. absurd (other (subst (λ n. Accepts n true) named accepted))),
       rw (valued, flagged) items.0.1,
     )
 

@@ -1,8 +1,8 @@
 -- Each way out of the scanner, after the first byte.
 use Rattle.std.proofs.Common.{◌≡◌, ℕ, sym, ap, refl, ◌∙◌, ◌∷◌, [], length, Some, None, arith, ne_eqb, eq-eqb}
-use Rattle.std.proofs.lemmas.Bool.{cond-true, cond-false}
+use Rattle.std.proofs.lemmas.Bool.{and_from, cond-true, cond-false}
 use Rattle.mime.specs.{Bytes.slash_byte, Bytes.semicolon_byte, Values.last_plus, declared.scan.Positions.Positions, Inner.Remaining.Remaining, Inner.Scanning.positions_of, Inner.Scanning.before_list, Inner.Scanning.GivesFirst}
-use Rattle.mime.proofs.{GrammarLemmas.Begun.in_type, GrammarLemmas.Begun.in_subtype, ScanLemmas.Verdicts.Leads, ScanLemmas.Verdicts.reaches_run, ScanLemmas.Verdicts.reaches_byte, ScanLemmas.Verdicts.scans_at, ScanLemmas.Lists.none_walked, ScanLemmas.Lists.type_walked, ScanLemmas.Lists.subtype_walked, ScanLemmas.Lists.Subtyped, ScanLemmas.Lists.essence_is, ScanLemmas.Lists.scans_list, scan.scan_after.Goals.After-position-slash, scan.scan_after.Goals.After-subtype-plus}
+use Rattle.mime.proofs.{GrammarLemmas.Begun.walk_from-subtype, ScanLemmas.Passing.given_then, ScanLemmas.Passing.given_whole, GrammarLemmas.Begun.in_type, GrammarLemmas.Begun.in_subtype, ScanLemmas.Verdicts.Leads, ScanLemmas.Verdicts.reaches_run, ScanLemmas.Verdicts.reaches_byte, ScanLemmas.Verdicts.scans_at, ScanLemmas.Lists.none_walked, ScanLemmas.Lists.type_walked, ScanLemmas.Lists.Subtyped, ScanLemmas.Lists.essence_is, ScanLemmas.Lists.scans_list, scan.scan_after.Goals.After-position-slash, scan.scan_after.Goals.After-subtype-plus}
 use Rattle.mime.proofs.scan.scan_after.Goals as goal
 
 pub returns-then-not-is_token : goal.returns-then-not-is_token
@@ -66,8 +66,9 @@ subtyped c start gives slash =
     record {
       others = c.subtype-plus.ensures.passes.run;
       walked =
-          subtype_walked slash c.in-Some-next.ensures (sym c.is_token-2.ensures
-          ∙ c.if-not-is_token-2.false) c.subtype-plus.ensures.passes;
+          reaches_run slash (given_then (given_whole c.in-Some-next.ensures.0) c.subtype-plus.ensures.passes.given)
+          (walk_from-subtype _ _ (and_from _ _ (sym c.is_token-2.ensures ∙ c.if-not-is_token-2.false)
+          c.subtype-plus.ensures.passes.of_class));
       stopped = c.subtype-plus.ensures.passes.stopped;
       plussed =
           c.subtype-plus.ensures.plus
