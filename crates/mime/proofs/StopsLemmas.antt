@@ -4,8 +4,8 @@ use Rattle.std.specs.Prelude.{◌||◌, nat_lt}
 use Rattle.std.specs.{List.list_all, List.range_with_len, Int.Bits.bit_or}
 use Rattle.std.proofs.{lemmas.Bool.lt-ltb, lemmas.Bool.cases_lt, lemmas.Bool.not-true, lemmas.Bool.true≢false, Math.Bool.or-true, lemmas.Nat.le_or_l}
 use Rattle.mime_search.proofs.IgnoringCase.{at_byte}
-use Rattle.mime.specs.{Bytes.is_token_byte, Bytes.is_quoted_byte, Bytes.is_quoted_text_byte, Inner.ByteClasses.is_token_except_plus, declared.scan.runs.TheConstants.TOKEN_STOPS, declared.scan.runs.TheConstants.QUOTED_TEXT_STOPS}
-use Rattle.mime_search.specs.{Classes.is_outside_range, Classes.is_outside, Classes.is_stop, declared.class.Class.Class, declared.class.Range.Range}
+use Rattle.mime.specs.{Bytes.is_token_byte, Bytes.is_quoted_byte, Bytes.is_quoted_text_byte, Inner.ByteClasses.is_token_except_plus}
+use Rattle.mime_search.specs.{Classes.is_outside_range, Classes.is_outside, Classes.is_stop, declared.class.Class.Class, declared.class.Range.Range, declared.class.TheConstants.TOKEN_STOPS, declared.class.TheConstants.TEXT_STOPS}
 
 -- what is past all ranges is outside
 past_range : (range : Range) (b : ℕ) → range.1 < b → is_outside_range range b ≡ true
@@ -33,6 +33,6 @@ are_token_bytes b go =
     in_ranges TOKEN_STOPS is_token_except_plus (omega arith) (omega arith) (omega arith) refl b (not-true _ go)
 
 -- a search for the end of quoted text passes only bytes of quoted text
-pub are_quoted_text : (b : ℕ) → not (is_stop QUOTED_TEXT_STOPS b) ≡ true → is_quoted_text_byte b ≡ true
+pub are_quoted_text : (b : ℕ) → not (is_stop TEXT_STOPS b) ≡ true → is_quoted_text_byte b ≡ true
 unfolding is_quoted_byte
-are_quoted_text b go = in_ranges QUOTED_TEXT_STOPS is_quoted_text_byte (omega arith) (omega arith) (omega arith) refl b (not-true _ go)
+are_quoted_text b go = in_ranges TEXT_STOPS is_quoted_text_byte (omega arith) (omega arith) (omega arith) refl b (not-true _ go)

@@ -4,7 +4,6 @@ pub mod Pairs
 pub mod KnownNames
 pub mod ListText
 pub mod LoweredTo
-pub mod LastPair
 pub mod KeptText
 pub mod Parts
 pub mod Places

@@ -11,7 +11,6 @@ ghost use Rattle.mime.specs.Inner.Scanning.{Passes, PassesContent, PassesSubtype
 
 mod fault;
 mod reader;
-mod runs;
 
 use crate::bytes::{
     is_in_token, is_quoted_byte, is_quoted_text_byte, is_separator, is_space, is_token,

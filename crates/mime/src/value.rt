@@ -153,6 +153,9 @@ impl Mime {
         ensures explained { IfErr result (λ error. Explains s.now error) }
         ensures star { s.now ≡ codes "*/*" → IfOk result (λ mime. mime.fixed ≡ true) }
     {
+        if s == "*/*" {
+            return Ok(Mime::star());
+        }
         if kept_len(s, positions) <= SHORT {
             if positions.pair_count == 0 {
                 return Ok(Mime::of_short(s, positions, ShortText::essence(s, positions)));

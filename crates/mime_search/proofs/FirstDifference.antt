@@ -51,7 +51,7 @@ module _ (a b : List ℕ) (at : ℕ) (room : at + 16 ≤ length a) (other_room :
   pub in_word : lane_mask % 2 ^ 64 ≡ lane_mask
   in_word = mask_l-mod (map (top 7) lanes) 64 (omega (arith, length-map lanes (top 7), count))
 
-  -- without a bit all bytes are the same
+  -- All bytes are the same if the mask has no bit.
   pub none_differs : lane_mask ≡ 0 → (k : ℕ) → at ≤ k → k < at + 16 → get_or a k 0 ≡ get_or b k 0
   none_differs none k least lt =
       let back : at + (k - at) ≡ k = omega (arith, least) in

@@ -66,7 +66,7 @@ one_more f a b bits n room other_room within so_far =
     ∙ zip2_push f (take n a) (take n b) (get_or a n 0) (get_or b n 0)
     (omega (arith, length-take-le n a, length-take-le n b, room, other_room)))
 
--- up to the first bit
+-- The texts are the same up to the first bit, ignoring ASCII case.
 equal_to_bit : (xs ys : List ℕ)
     → take (first_bit_of (zip2 difference_bit xs ys)) (lowered xs) ≡ take (first_bit_of (zip2 difference_bit xs ys)) (lowered ys)
 equal_to_bit [] ys = refl

@@ -71,7 +71,7 @@ search_past_pair text position whole e within backslash =
     let next : position + 1 + 1 ≡ position + 2 = omega arith in
     omega (arith, e, at, ap (len_from true) (drop_more text (position + 1) 0 within), ap (λ n. len_from false (drop n text)) next)
 
--- in that search three pairs are passed at once
+-- Three pairs are passed at once in that search.
 pub search_past_three : (text : List ℕ) (position whole : ℕ) → position + len_from false (drop position text) ≡ whole
     → position + 6 < length text → get_or text position 0 ≡ backslash → get_or text (position + 2) 0 ≡ backslash
     → get_or text (position + 4) 0 ≡ backslash → position + 6 + len_from false (drop (position + 6) text) ≡ whole
@@ -105,7 +105,7 @@ module _ (text : List ℕ) (at n found : ℕ) (room : at + n ≤ length text) (f
         mark = mark_there text at _ there (omega (arith, within, room));
       }
 
-  -- without a bit all are passed
+  -- All bytes are passed if the mask has no bit.
   pub no_mark : found ≡ 0 → at + n + len_from false (drop (at + n) text) ≡ at + len_from false (drop at text)
   no_mark none =
       let stop = at + plain_len (drop at text) in

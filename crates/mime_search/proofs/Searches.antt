@@ -73,7 +73,7 @@ module _ (p : ℕ → Bool) (text : List ℕ) (at n found : ℕ) (room : at + n 
       ap run (sym (take-append-drop n (drop at text)))
       ∙ prefix_len-append (λ b. not (p b)) (take n (drop at text)) (drop n (drop at text))
 
-  -- without a bit they are passed
+  -- All bytes are passed if the mask has no bit.
   pub no_stop : found ≡ 0 → at + n + run (drop (at + n) text) ≡ at + run (drop at text)
   no_stop none =
       let all = eq-eqb _ _ (leading_from_mask_l p (take n (drop at text)) (sym is ∙ none)) in

@@ -24,6 +24,24 @@ pub struct Class {
     pub inside: bool,
 }
 
+/// All bytes except those that most tokens consist of: letters, digits, hyphens and dots.
+pub static TOKEN_STOPS: Class = Class {
+    fold: 0x20,
+    folded: Range(b'a', b'z'),
+    second: Range(b'0', b'9'),
+    third: Range(b'-', b'.'),
+    inside: false,
+};
+
+/// All bytes except the printable ASCII bytes of quoted text. So the tab is in the class, though quoted text may have it.
+pub static TEXT_STOPS: Class = Class {
+    fold: 0,
+    folded: Range(b'#', b'['),
+    second: Range(b']', b'~'),
+    third: Range(b' ', b'!'),
+    inside: false,
+};
+
 impl Class {
     /// Returns the class of two bytes.
     #[inline(always)]

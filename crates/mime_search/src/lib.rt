@@ -11,7 +11,7 @@ mod rest;
 mod search;
 mod start;
 
-pub use crate::class::{BLOCK, Class, Range};
+pub use crate::class::{BLOCK, Class, Range, TEXT_STOPS, TOKEN_STOPS};
 pub use crate::copy::copy_bytes;
 pub use crate::differing::difference_from;
 pub use crate::ignoring_case::{eq_ignore_ascii_case, first_difference_ignoring_case};

@@ -8,7 +8,7 @@ use Rattle.mime.proofs.{LowercaseLemmas.lowered-lowered, LowercaseLemmas.last_pl
 use Rattle.mime_search.proofs.IgnoringCase.{length-lowered, lowered-drop}
 
 -- a text up to the semicolon after its essence: a type, a slash and a subtype, with the positions of a value
-record Begun (text : List ℕ) (value : MediaType) : Type 0 where
+record BeginsAs (text : List ℕ) (value : MediaType) : Type 0 where
   top : List ℕ
   sub : List ℕ
   is_top : IsToken top
@@ -24,7 +24,7 @@ same_length : (one other : List ℕ) → lowered one ≡ lowered other → lengt
 same_length one other is = sym (length-lowered one) ∙ ap length is ∙ length-lowered other
 
 -- If a value's essence begins a text, ignoring case, the text begins as the kept text does.
-begun : (kept text : List ℕ) (value : MediaType) → Reads kept value → StartsWithEssence value.essence text → Begun text value
+begun : (kept text : List ℕ) (value : MediaType) → Reads kept value → StartsWithEssence value.essence text → BeginsAs text value
 begun kept text value reads (there, same) =
     let tree = reads.tree in
     let end = length value.essence in

@@ -65,12 +65,6 @@ accepted_at text value reads some =
     listed_at n no_list is = absurd (some (sym is))
     listed_at n (listed list) is = refl
 
--- the same position and the same number, written differently
-IsAcceptedAt-same : (text : List ℕ) {end also count number : ℕ} → end ≡ also → count ≡ number → IsAcceptedAt text end count
-    → IsAcceptedAt text also number
-IsAcceptedAt-same text {end} {also} {count} {number} ends counts is =
-    subst (λ n. IsAcceptedAt text n number) ends (subst (IsAcceptedAt text end) counts is)
-
 -- ---- a text against a value with pairs
 
 -- what a text has that is equal to a value with pairs
@@ -86,8 +80,9 @@ text_is-by_parts kept text value reads some =
     let low = read-low_essence kept value reads in (
       λ is.
           let at : IsAcceptedAt text (length value.essence) (length value.pairs) =
-          IsAcceptedAt-same text (ap length (sym is.same.0)) (ap length (sym is.same.1))
-          (accepted_at text is.read is.reads (λ none. some (is.same.1 ∙ none))) in
+          subst (λ n. IsAcceptedAt text n (length value.pairs)) (ap length (sym is.same.0))
+          (subst (IsAcceptedAt text (length is.read.essence)) (ap length (sym is.same.1))
+          (accepted_at text is.read is.reads (λ none. some (is.same.1 ∙ none)))) in
           let read = read_at text (length value.essence) (length value.pairs) at in
           let one : is.read ≡ read.value = one_reading text is.read read.value is.reads read.reads in
           record {
@@ -107,16 +102,6 @@ text_is-by_parts kept text value reads some =
             bare = λ none. absurd (some none);
           },
     )
-
--- a text that differs from the kept text only in case is accepted
-pub accepted_at-case : (kept text : List ℕ) (value : MediaType) → Reads kept value → value.pairs ≢ []
-    → lowered kept ≡ lowered text
-    → IsAcceptedAt text (length value.essence) (length value.pairs)
-accepted_at-case kept text value reads some is =
-    let found = case_read text kept value reads (sym is) in
-    let counted = case_read-count text value found in
-    IsAcceptedAt-same text (ap length (sym found.essence)) (sym counted)
-    (accepted_at text found.read found.reads (λ none. some (nil_from_length value.pairs (counted ∙ ap length none))))
 
 -- a text that differs from the kept text only in case is equal to the value, if the only parameter is a charset
 pub text_is-lone_charset : (kept text : List ℕ) (value : MediaType) → Reads kept value → value.pairs ≢ []
@@ -156,10 +141,6 @@ HasNoSemicolon-lowered : (text : List ℕ)
     → list_all (λ b. not (b == semicolon_byte)) (lowered text) ≡ list_all (λ b. not (b == semicolon_byte)) text
 HasNoSemicolon-lowered = list_all-lowered (λ b. not (b == semicolon_byte)) (λ b. grind (arith, nat_tests))
 
--- an accepted text without a semicolon is an essence
-text_of-bare : (tree : SyntaxTree) → HasNoSemicolon (text_of tree) → text_of tree ≡ essence_of tree
-text_of-bare tree bare = grind (arith, common_steps)
-
 -- a text that, lowercased, is the essence of a value without pairs is equal to the value
 pub text_is-from_lowered : (text kept : List ℕ) (value : MediaType) → Reads kept value → value.pairs ≡ []
     → lowered text ≡ value.essence
@@ -188,7 +169,9 @@ text_is-bare kept value reads none text =
       λ is.
           let tree = is.reads.tree in
           let spelled = is.reads.spelled in
-          ap lowered (sym spelled ∙ text_of-bare tree (subst HasNoSemicolon (sym spelled) (is.bare none)))
+          let bare = subst HasNoSemicolon (sym spelled) (is.bare none) in
+          let whole : text_of tree ≡ essence_of tree = grind (arith, common_steps) in
+          ap lowered (sym spelled ∙ whole)
           ∙ sym (essence-lowered tree) ∙ ap (λ (v : MediaType). v.essence) is.reads.valued ∙ sym is.same.0,
       λ low. text_is-from_lowered text kept value reads none low,
     )

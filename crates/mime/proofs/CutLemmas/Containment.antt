@@ -1,7 +1,7 @@
 -- A comma ends whatever precedes it, and leaves what follows it as it is.
 use Rattle.std.proofs.Common.{◌≡◌, ℕ, suc, ◌≤◌, List, [], ◌∷◌, ◌++◌, length, take, drop, Some, None, refl, sym, ap, ◌∙◌, subst, arith, inl, inr, append_assoc, length-append, rules}
-use Rattle.std.proofs.{lemmas.List.take-append-le, lemmas.List.take-append-drop, lemmas.List.take-take, lemmas.Bool.and_parts, lemmas.Bool.cond-false, lemmas.Bool.Decides.nat_tests}
-use Rattle.mime.proofs.{GrammarLemmas.Begun.Begun, GrammarLemmas.Begun.in_type, GrammarLemmas.Begun.grow, GrammarLemmas.Begun.walk, GrammarLemmas.Characters.following-low, GrammarLemmas.Characters.foreign-from_high, GrammarLemmas.Characters.IsForeign, GrammarLemmas.Characters.IsOpen, GrammarLemmas.Characters.grow-foreign, CutLemmas.Cuts.Following, CutLemmas.Cuts.following_of, CutLemmas.Cuts.split-size, CutLemmas.Cuts.split-from_dead, CutLemmas.Cuts.items-from_rejected, CutLemmas.Cuts.split_inv, CutLemmas.Cuts.split-piece, CutLemmas.Cuts.empty-rejected, CutLemmas.Cuts.empty-cut, CutLemmas.Cuts.has_cut, CutLemmas.Cuts.cut_unique, CutLemmas.Cuts.takes_unique, ValueLemmas.KeptText.kept_is_read, GrammarLemmas.Viability.empty_is_viable, GrammarLemmas.Viability.walk-from_viable, GrammarLemmas.Viability.lacks-from_walk, GrammarLemmas.Viability.accepted_is_viable, GrammarLemmas.Viability.prefix_of_viable_is_viable, GrammarLemmas.Faults.completed_is_rejected}
+use Rattle.std.proofs.{Math.Seq.take-append_seam, lemmas.List.take-append-le, lemmas.List.take-append-drop, lemmas.List.take-take, lemmas.Bool.and_parts, lemmas.Bool.cond-false, lemmas.Bool.Decides.nat_tests}
+use Rattle.mime.proofs.{GrammarLemmas.Begun.Begun, GrammarLemmas.Begun.in_type, GrammarLemmas.Begun.grow, GrammarLemmas.Begun.walk, GrammarLemmas.Characters.following-low, GrammarLemmas.Characters.foreign-from_high, GrammarLemmas.Characters.IsForeign, GrammarLemmas.Characters.IsOpen, GrammarLemmas.Characters.grow-foreign, CutLemmas.Cuts.Following, CutLemmas.Cuts.following_of, CutLemmas.Cuts.split-size, CutLemmas.Cuts.split-from_dead, CutLemmas.Cuts.items-from_rejected, CutLemmas.Cuts.split_inv, CutLemmas.Cuts.empty-rejected, CutLemmas.Cuts.empty-cut, CutLemmas.Cuts.has_cut, CutLemmas.Cuts.cut_unique, CutLemmas.Cuts.takes_unique, ValueLemmas.KeptText.kept_is_read, GrammarLemmas.Viability.empty_is_viable, GrammarLemmas.Viability.walk-from_viable, GrammarLemmas.Viability.lacks-from_walk, GrammarLemmas.Viability.accepted_is_viable, GrammarLemmas.Viability.prefix_of_viable_is_viable, GrammarLemmas.Faults.completed_is_rejected}
 use Rattle.std.specs.Prelude.{IsTrue, map, MatchOption}
 use Rattle.std.specs.List.{list_all, AllByRecursion}
 use Rattle.mime.specs.{Bytes.is_token_byte, Bytes.comma_byte, Bytes.space_byte, Values.MediaType, Values.IsAccepted, Faults.IsViable, Faults.IsUnclosed, declared.scan.fault.ParseError.TheVariants.MissingQuote, Cut.is_following_byte, Cut.BeginsCharacter, Cut.IsCharacter, Cut.IsSplit, Cut.CutItem, Cut.good, Cut.ItemsOf, Cut.is_read, Cut.is_empty, Cut.Cut, Cut.whole, Cut.unfinished, Cut.goes_on, Cut.last, Cut.next, Cut.steps_of, Cut.TakesSteps, CutLaws.OneCut, CutLaws.CutWritesText, CutLaws.IsItem, CutLaws.CutHasItems, CutLaws.OneCount, CutLaws.items_of_rest, CutLaws.CommaContains, CutLaws.joined, CutLaws.IsRead, CutLaws.kept_item, CutLaws.JoinedComesBack, CutLaws.is_separator, CutLaws.IsHttpList, CutLaws.no_element, CutLaws.separated, CutLaws.one_element, CutLaws.more_elements, CutLaws.HttpListIsCut}
@@ -27,7 +27,7 @@ pub cut_has_items : CutHasItems
 cut_has_items text items rest (whole t value reads) = ((reads, tt), empty_is_viable, empty-rejected)
 cut_has_items text items rest (unfinished t viable is) = (tt, viable, is)
 cut_has_items text items rest (goes_on t p c l first others r split of_piece cut) =
-    let viable = subst IsViable (split-piece t p c l split) split.prefix.viable in
+    let viable = subst IsViable (ap (take (length p)) split.spelled ∙ take-append_seam p (c ++ l)) split.prefix.viable in
     let more = cut_has_items l others r cut in
     (are_items-append first others (are_items-of p first viable of_piece) more.0, more.1, more.2)
 

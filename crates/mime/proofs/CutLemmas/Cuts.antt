@@ -75,10 +75,6 @@ pub split-size : (text p c l : List ℕ) → IsSplit text p c l
     → (length text ≡ length p + (length c + length l)) × (0 < length c)
 split-size text p c l split = grind (arith, common_steps)
 
--- a split text begins with its piece
-pub split-piece : (text p c l : List ℕ) → IsSplit text p c l → take (length p) text ≡ p
-split-piece text p c l split = ap (take (length p)) split.spelled ∙ take-append_seam p (c ++ l)
-
 -- what is split isn't viable
 pub split-not_viable : (text p c l : List ℕ) → IsSplit text p c l → IsViable text → ⊥
 split-not_viable text p c l split viable =

@@ -16,7 +16,7 @@ IsAfterCharacter text left = (character : List ℕ) × (text ≡ character ++ le
 not_following : (b : ℕ) (bytes : List ℕ) → IsCharBoundary (b ∷ bytes) 0 → IsFalse (is_following_byte b)
 not_following b bytes border = search rules
 
--- up to the first position where a text may be cut all bytes follow
+-- All bytes follow up to the first position where a text may be cut.
 follow_to : (bytes : List ℕ) (n : ℕ) → IsCharBoundary bytes n → ((j : ℕ) → j < n → ¬ (IsCharBoundary bytes j))
     → IsTrue (list_all is_following_byte (take n bytes)) × BeginsCharacter (drop n bytes)
 follow_to [] zero border none = (refl, tt)

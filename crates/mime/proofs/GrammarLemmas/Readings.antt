@@ -109,11 +109,6 @@ walk-head top sub rest top_token sub_token =
     (walk_from-subtype top sub sub_token)
     ∙ walk_by-step grow (in_subtype top sub) (in_list top sub begun_list) semicolon_byte rest (grow-semicolon top sub sub_token)
 
--- a text may end in its subtype
-tree_of-subtype : (top sub : List ℕ) → IsToken sub
-    → tree_of (in_subtype top sub) ≡ Some (record { top = top; sub = sub; tail = no_list })
-tree_of-subtype top sub token = search rules
-
 -- the text of a well-formed tree is walked to that tree
 walk-text_of : (tree : SyntaxTree) → IsWellFormed tree
     → (begun : Begun) × ((walk (text_of tree) ≡ Some begun) × (tree_of begun ≡ Some tree))
@@ -127,7 +122,7 @@ walk-text_of tree well_formed = with_tail tree.tail well_formed.2
       (
         ap (λ sub. walk (tree.top ++ (slash_byte ∷ sub))) (append-nil tree.sub)
             ∙ walk-slash tree.top tree.sub well_formed.0 ∙ walk_from-subtype tree.top tree.sub well_formed.1,
-        tree_of-subtype tree.top tree.sub well_formed.1,
+        search rules,
       ),
     )
     with_tail (listed list) fine = (

@@ -3,34 +3,27 @@ use Rattle.std.proofs.Common.{◌≡◌, ℕ, ◌+◌, true, List, [], ◌∷◌
 use Rattle.std.specs.Prelude.{IsFalse, Bool, if◌then◌else◌, ◌==◌}
 use Rattle.std.specs.Option.{option_to_list}
 use Rattle.std.proofs.lemmas.Bool.{and_from, cond-true, cond-false}
-use Rattle.mime.specs.{Bytes.is_token_byte, Bytes.equals_byte, Bytes.quote_byte, Bytes.semicolon_byte, Values.last_plus, Inner.Remaining.Remaining, declared.scan.Positions.Positions, declared.scan.Scanned.Scanned, Inner.Scanning.Given, Inner.Scanning.GivesFirst, Inner.Scanning.Passes, Inner.Scanning.positions_of, Inner.Scanning.before_list, Inner.Scanning.ScansList, Inner.Scanning.Scans, Inner.Scanning.PassesContent, Grammar.is_space, Grammar.Parameter, Grammar.plain, Grammar.quoted, Inner.Quoted.continues}
-use Rattle.mime.proofs.{GrammarLemmas.Begun.in_type, GrammarLemmas.Begun.in_subtype, GrammarLemmas.Begun.in_list, GrammarLemmas.Begun.begun_list, GrammarLemmas.Begun.walk-type, GrammarLemmas.Begun.walk_from-subtype, GrammarLemmas.Begun.ListState, GrammarLemmas.Begun.in_spaces, GrammarLemmas.Begun.in_name, GrammarLemmas.Begun.in_value, GrammarLemmas.Begun.in_quotes, GrammarLemmas.Begun.after_quotes, GrammarLemmas.Begun.BegunList, GrammarLemmas.Begun.grow_state, GrammarLemmas.Begun.grow_list, GrammarLemmas.Begun.close, GrammarLemmas.Begun.walk_by-step, GrammarLemmas.Begun.walk_list-spaces, GrammarLemmas.Begun.walk_list-name, GrammarLemmas.Begun.walk_list-value, GrammarLemmas.Begun.walk_list-open, GrammarLemmas.Begun.walk_list-after_quotes, ScanLemmas.Passing.given_then, ScanLemmas.Passing.given_whole, ScanLemmas.Passing.given_sum, GrammarLemmas.Spelling.walk_from-lengthens, ScanLemmas.Verdicts.Reaches, ScanLemmas.Verdicts.reaches_run, ScanLemmas.Verdicts.positions_of_list, ScanLemmas.Verdicts.ListReaches, ScanLemmas.Verdicts.list_run, ScanLemmas.Verdicts.list_byte, BytesLemmas.quote_is_no_token, BytesLemmas.semicolon_is_no_token}
+use Rattle.mime.specs.{Bytes.is_token_byte, Bytes.quote_byte, Bytes.semicolon_byte, Values.last_plus, Inner.Remaining.Remaining, declared.scan.Positions.Positions, declared.scan.Scanned.Scanned, Inner.Scanning.Given, Inner.Scanning.GivesFirst, Inner.Scanning.Passes, Inner.Scanning.positions_of, Inner.Scanning.before_list, Inner.Scanning.ScansList, Inner.Scanning.Scans, Inner.Scanning.PassesContent, Grammar.is_space, Grammar.Parameter, Grammar.plain, Grammar.quoted, Inner.Quoted.continues}
+use Rattle.mime.proofs.{GrammarLemmas.Begun.in_type, GrammarLemmas.Begun.in_subtype, GrammarLemmas.Begun.in_list, GrammarLemmas.Begun.begun_list, GrammarLemmas.Begun.walk-type, GrammarLemmas.Begun.ListState, GrammarLemmas.Begun.in_spaces, GrammarLemmas.Begun.in_name, GrammarLemmas.Begun.in_value, GrammarLemmas.Begun.in_quotes, GrammarLemmas.Begun.after_quotes, GrammarLemmas.Begun.BegunList, GrammarLemmas.Begun.grow_state, GrammarLemmas.Begun.grow_list, GrammarLemmas.Begun.close, GrammarLemmas.Begun.walk_by-step, GrammarLemmas.Begun.walk_list-spaces, GrammarLemmas.Begun.walk_list-name, GrammarLemmas.Begun.walk_list-value, GrammarLemmas.Begun.walk_list-open, GrammarLemmas.Begun.walk_list-after_quotes, ScanLemmas.Passing.given_then, ScanLemmas.Passing.given_whole, ScanLemmas.Passing.given_sum, GrammarLemmas.Spelling.walk_from-lengthens, ScanLemmas.Verdicts.Leads, ScanLemmas.Verdicts.positions_of_list, ScanLemmas.Verdicts.ListLeads, ScanLemmas.Verdicts.list_run, ScanLemmas.Verdicts.list_byte, BytesLemmas.quote_is_no_token, BytesLemmas.semicolon_is_no_token}
 
 -- nothing was walked yet
 pub none_walked : {old new : Remaining} {first : Option ℕ} → GivesFirst old new first
-    → Reaches (in_type []) old new first (in_type [])
+    → Leads (in_type []) old new first (in_type [])
 none_walked g = record { run = []; given = g.0; walked = refl }
 
 -- a type was walked
 pub type_walked : {old mid new : Remaining} {b : ℕ} {stop : Option ℕ} → GivesFirst old mid (Some b) → is_token_byte b ≡ true
-    → (q : Passes is_token_byte mid new stop) → Reaches (in_type []) old new stop (in_type (b ∷ q.run))
+    → (q : Passes is_token_byte mid new stop) → Leads (in_type []) old new stop (in_type (b ∷ q.run))
 type_walked {b = b} g f q = record {
   run = b ∷ q.run;
   given = given_then (given_whole g.0) q.given;
   walked = walk-type (b ∷ q.run) (and_from _ _ f q.of_class);
 }
 
--- a subtype was walked after the slash
-pub subtype_walked : {old mid from new : Remaining} {top : List ℕ} {b : ℕ} {stop : Option ℕ}
-    → Reaches (in_type []) old mid None (in_subtype top []) → GivesFirst mid from (Some b) → is_token_byte b ≡ true
-    → (q : Passes is_token_byte from new stop) → Reaches (in_type []) old new stop (in_subtype top (b ∷ q.run))
-subtype_walked {top = top} {b = b} r g f q =
-    reaches_run r (given_then (given_whole g.0) q.given) (walk_from-subtype top (b ∷ q.run) (and_from _ _ f q.of_class))
-
 -- the subtype was passed, with the byte after it, if any
 pub record Subtyped (top : List ℕ) (b : ℕ) (plus : Option ℕ) (old now : Remaining) (stop : Option ℕ) : Type 0 where
   pub others : List ℕ
-  pub walked : Reaches (in_type []) old now stop (in_subtype top (b ∷ others))
+  pub walked : Leads (in_type []) old now stop (in_subtype top (b ∷ others))
   pub stopped : MatchOption stop (now.left ≡ []) (λ c. IsFalse (is_token_byte c))
   pub plussed : plus ≡ last_plus (length top + 2) others
   pub counted : now.count ≡ old.count + (length top + 2 + length others + length (option_to_list stop))
@@ -47,7 +40,7 @@ essence_is slash plus top others e f = rw (e, f)
 
 -- the answer on the list is the answer on the text
 pub scans_list : {old mid new : Remaining} {top sub : List ℕ} {before : Positions} {verdict : Scanned}
-    → Reaches (in_type []) old mid None (in_list top sub begun_list) → before ≡ positions_of (before_list top sub)
+    → Leads (in_type []) old mid None (in_list top sub begun_list) → before ≡ positions_of (before_list top sub)
     → ScansList before mid new verdict → Scans old new verdict
 scans_list {old} {mid} {top = top} {sub = sub} r e scans =
     let found = walk_from-lengthens (in_type []) r.run (in_list top sub begun_list) refl r.walked in
@@ -56,7 +49,7 @@ scans_list {old} {mid} {top = top} {sub = sub} r e scans =
 -- the loop before a parameter: some are closed, and each took a byte of those that were left
 pub record Turn (before positions : Positions) (old now : Remaining) : Type 0 where
   pub closed : List (List ℕ × Parameter)
-  pub walked : ListReaches old now None (record { closed = closed; position = in_spaces [] })
+  pub walked : ListLeads old now None (record { closed = closed; position = in_spaces [] })
   pub same_positions : positions ≡ record before { pair_count = before.pair_count + (length closed + 0) }
   pub room : length closed + length now.left ≤ length old.left
 
@@ -68,33 +61,26 @@ one_pair_more before positions n e = rw e (ap (λ (count : ℕ). record before {
 -- the spaces before a parameter were walked
 pub spaces_walked : {before positions : Positions} {old mid new : Remaining} {stop : Option ℕ}
     → (t : Turn before positions old mid) → (p : Passes is_space mid new stop)
-    → ListReaches old new stop (record { closed = t.closed; position = in_spaces p.run })
+    → ListLeads old new stop (record { closed = t.closed; position = in_spaces p.run })
 spaces_walked t p = list_run t.walked p.given (walk_list-spaces t.closed [] p.run p.of_class)
 
 -- a parameter's name was walked
 pub name_walked : {before positions : Positions} {old mid from new : Remaining} {b : ℕ} {stop : Option ℕ}
     → (t : Turn before positions old mid) → (p : Passes is_space mid from (Some b)) → is_token_byte b ≡ true
     → (q : Passes is_token_byte from new stop)
-    → ListReaches old new stop (record { closed = t.closed; position = in_name p.run (b ∷ q.run) })
+    → ListLeads old new stop (record { closed = t.closed; position = in_name p.run (b ∷ q.run) })
 name_walked {b = b} t p f q =
     let first = cond-false (is_space b) _ _ p.stopped ∙ cond-true (is_token_byte b) _ _ f in
     list_run (list_byte (spaces_walked t p) first) q.given
     (sym (walk_by-step grow_list (record { closed = t.closed; position = in_spaces p.run }) _ b q.run first)
     ∙ walk_list-name t.closed p.run (b ∷ q.run) (and_from _ _ f q.of_class))
 
--- a parameter's equals sign was walked
-pub equals_walked : {closed : List (List ℕ × Parameter)} {spaces name : List ℕ} {old now : Remaining} {b : ℕ}
-    → ListReaches old now (Some b) (record { closed = closed; position = in_name spaces name }) → IsFalse (is_token_byte b)
-    → b ≡ equals_byte
-    → ListReaches old now None (record { closed = closed; position = in_value spaces name [] })
-equals_walked {b = b} r f e = list_byte r (cond-false (is_token_byte b) _ _ f ∙ cond-true _ _ _ (eq-eqb b equals_byte e))
-
 -- a parameter's quoted content was walked
 pub quotes_walked : {closed : List (List ℕ × Parameter)} {spaces name : List ℕ} {old mid from new : Remaining} {b : ℕ}
     {stop : Option ℕ}
-    → ListReaches old mid None (record { closed = closed; position = in_value spaces name [] }) → GivesFirst mid from (Some b)
+    → ListLeads old mid None (record { closed = closed; position = in_value spaces name [] }) → GivesFirst mid from (Some b)
     → b ≡ quote_byte
-    → (q : PassesContent from new stop) → ListReaches old new stop (record { closed = closed; position = in_quotes spaces name q.run })
+    → (q : PassesContent from new stop) → ListLeads old new stop (record { closed = closed; position = in_quotes spaces name q.run })
 quotes_walked {closed} {spaces} {name} {b = b} r g e q =
     list_run
     (list_byte (list_run r g.0 refl)
@@ -105,7 +91,7 @@ quotes_walked {closed} {spaces} {name} {b = b} r g e q =
 pub record Valued (closed : List (List ℕ × Parameter)) (spaces : List ℕ) (old mid now : Remaining) (stop : Option ℕ) : Type 0 where
   pub parameter : Parameter
   pub position : ListState
-  pub walked : ListReaches old now stop (record { closed = closed; position = position })
+  pub walked : ListLeads old now stop (record { closed = closed; position = position })
   pub counted : (before : Positions) → positions_of_list before (record { closed = closed; position = position })
       ≡ Some (record before { pair_count = before.pair_count + (length closed + 1) })
   pub closing : grow_state closed position semicolon_byte ≡ close closed spaces parameter
@@ -122,7 +108,7 @@ only_semicolon class left stop go closed s = search rules
 -- a plain value was walked
 pub valued_token : {closed : List (List ℕ × Parameter)} {spaces name : List ℕ} {old mid from new : Remaining} {b : ℕ}
     {stop : Option ℕ}
-    → ListReaches old mid None (record { closed = closed; position = in_value spaces name [] }) → GivesFirst mid from (Some b)
+    → ListLeads old mid None (record { closed = closed; position = in_value spaces name [] }) → GivesFirst mid from (Some b)
     → is_token_byte b ≡ true → Passes is_token_byte from new stop → Valued closed spaces old mid new stop
 valued_token {closed} {spaces} {name} {new = new} {b = b} {stop = stop} r g f q = record {
   parameter = plain name (b ∷ q.run);
@@ -137,7 +123,7 @@ valued_token {closed} {spaces} {name} {new = new} {b = b} {stop = stop} r g f q 
 -- a quoted value and the spaces after it were walked
 pub valued_quotes : {closed : List (List ℕ × Parameter)} {spaces name : List ℕ} {old mid from to new : Remaining} {b c : ℕ}
     {stop : Option ℕ}
-    → ListReaches old mid None (record { closed = closed; position = in_value spaces name [] }) → GivesFirst mid from (Some b)
+    → ListLeads old mid None (record { closed = closed; position = in_value spaces name [] }) → GivesFirst mid from (Some b)
     → b ≡ quote_byte → PassesContent from to (Some c) → c ≡ quote_byte → Passes is_space to new stop
     → Valued closed spaces old mid new stop
 valued_quotes {closed} {spaces} {name} {new = new} {c = c} {stop = stop} r g e q h p = record {

@@ -15,16 +15,11 @@ given_then {new} {xs} {ys} {stop} g h = grind (arith, common_steps)
 pub given_whole : {old new : Remaining} {xs : List ℕ} {b : ℕ} → Given old new xs (Some b) → Given old new (xs ++ b ∷ []) None
 given_whole {new} {xs} {b} g = grind (arith, common_steps)
 
--- a run, and the byte that ended it, or the end of the text
-given_stop : {old mid new : Remaining} {xs : List ℕ} {stop : Option ℕ} → Given old mid xs None → GivesFirst mid new stop
-    → Given old new xs stop
-given_stop {xs = xs} g first = rw (sym (append-nil xs)) (given_then g first.0)
-
 -- a run of a class, and the next byte or the end
 pub reaches_next : {class : ℕ → Bool} {old mid new : Remaining} {stop : Option ℕ} → Passing class old mid
     → GivesFirst mid new stop
     → Reaches class old new stop
-reaches_next p first = record { run = p.run; of_class = p.of_class; given = given_stop p.given first }
+reaches_next p first = record { run = p.run; of_class = p.of_class; given = rw (sym (append-nil p.run)) (given_then p.given first.0) }
 
 -- what is counted and what is left make one sum
 pub given_sum : {old new : Remaining} {xs : List ℕ} {stop : Option ℕ} → Given old new xs stop
@@ -80,13 +75,6 @@ gives_at text at before room =
       tt,
     )
 
--- the byte after the bytes that were skipped is given
-pub reaches_skip : (class : ℕ → Bool) (text : List ℕ) (at to before : ℕ) → to < length text → at ≤ to
-    → to ≤ at + prefix_len class (drop at text)
-    → Reaches class (reader_at text at before) (reader_at text (to + 1) before) (Some (get_or text to 0))
-reaches_skip class text at to before room least most =
-    reaches_next (passing_skip class text at to before (omega (arith, room, least)) least most) (gives_at text to before room)
-
 -- nothing was skipped
 pub passing_none : (class : ℕ → Bool) (now : Remaining) → Passing class now now
 passing_none class now = record { run = []; of_class = refl; given = record { bytes = refl; counted = omega arith } }
@@ -128,12 +116,6 @@ reached q = record { run = q.run; of_class = q.of_class; given = q.given }
 abbrev passes_from : {class : ℕ → Bool} {old new : Remaining} {stop : Option ℕ} → Reaches class old new stop
     → MatchOption stop (new.left ≡ []) (λ b. IsFalse (class b)) → Passes class old new stop
 passes_from q stopped = record { run = q.run; of_class = q.of_class; given = q.given; stopped = stopped }
-
--- a run, and then the longest one
-pub passes_then : {class : ℕ → Bool} {old mid new : Remaining} {stop : Option ℕ} → Passing class old mid
-    → Passes class mid new stop
-    → Passes class old new stop
-passes_then p q = passes_from (reaches_then p (reached q)) q.stopped
 
 -- a run, and then one that a byte of the class ends
 abbrev pub passing_with : {class within : ℕ → Bool} {old mid new : Remaining} {b : ℕ}

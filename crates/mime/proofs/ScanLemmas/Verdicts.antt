@@ -8,15 +8,15 @@ use Rattle.mime.proofs.{GrammarLemmas.Begun.Begun, GrammarLemmas.Begun.in_type, 
 -- ---- what was walked
 
 -- the bytes given lead from one begun tree to another; one byte more may have been given
-pub record Reaches (start : Begun) (old now : Remaining) (stop : Option ℕ) (begun : Begun) : Type 0 where
+pub record Leads (start : Begun) (old now : Remaining) (stop : Option ℕ) (begun : Begun) : Type 0 where
   pub run : List ℕ
   pub given : Given old now run stop
   pub walked : walk_from start run ≡ Some begun
 
 -- one more run was given
 pub reaches_run : {start begun next : Begun} {old mid new : Remaining} {stop : Option ℕ} {run : List ℕ}
-    → Reaches start old mid None begun → Given mid new run stop → walk_from begun run ≡ Some next
-    → Reaches start old new stop next
+    → Leads start old mid None begun → Given mid new run stop → walk_from begun run ≡ Some next
+    → Leads start old new stop next
 reaches_run {start} {begun} {run = run} r g e = record {
   run = r.run ++ run;
   given = given_then r.given g;
@@ -25,7 +25,7 @@ reaches_run {start} {begun} {run = run} r g e = record {
 
 -- the byte after a run was given
 pub reaches_byte : {start begun next : Begun} {old now : Remaining} {b : ℕ}
-    → Reaches start old now (Some b) begun → grow begun b ≡ Some next → Reaches start old now None next
+    → Leads start old now (Some b) begun → grow begun b ≡ Some next → Leads start old now None next
 reaches_byte {start} {begun} {b = b} r e = record {
   run = r.run ++ b ∷ [];
   given = given_whole r.given;
@@ -33,18 +33,18 @@ reaches_byte {start} {begun} {b = b} r e = record {
 }
 
 -- the bytes given lead from the start of a list to a begun list, after any type and subtype
-abbrev pub ListReaches : Remaining → Remaining → Option ℕ → BegunList → Type 0
-ListReaches old now stop list = (top sub : List ℕ) → Reaches (in_list top sub begun_list) old now stop (in_list top sub list)
+abbrev pub ListLeads : Remaining → Remaining → Option ℕ → BegunList → Type 0
+ListLeads old now stop list = (top sub : List ℕ) → Leads (in_list top sub begun_list) old now stop (in_list top sub list)
 
 -- one more run in a list was given
 pub list_run : {list next : BegunList} {old mid new : Remaining} {stop : Option ℕ} {run : List ℕ}
-    → ListReaches old mid None list → Given mid new run stop → walk_list list run ≡ Some next → ListReaches old new stop next
+    → ListLeads old mid None list → Given mid new run stop → walk_list list run ≡ Some next → ListLeads old new stop next
 list_run {list} {run = run} r g e = λ top sub.
     reaches_run (r top sub) g (walk_from-in_list top sub list run ∙ ap (option_map (in_list top sub)) e)
 
 -- the byte after a run in a list was given
 pub list_byte : {list next : BegunList} {old now : Remaining} {b : ℕ}
-    → ListReaches old now (Some b) list → grow_list list b ≡ Some next → ListReaches old now None next
+    → ListLeads old now (Some b) list → grow_list list b ≡ Some next → ListLeads old now None next
 list_byte r e = λ top sub. reaches_byte (r top sub) (ap (option_map (in_list top sub)) e)
 
 -- ---- a text that ends at a begun tree
@@ -82,7 +82,7 @@ judged_before text begun (Some tree) w e = has_positions text begun tree w e
 
 -- the scanner's answer where it stops, at the end or at a byte that leads nowhere
 pub scans_at : {old now : Remaining} {stop : Option ℕ} {begun : Begun} (positions : Option Positions)
-    → Reaches (in_type []) old now stop begun
+    → Leads (in_type []) old now stop begun
     → MatchOption stop (now.left ≡ []) (λ b. grow begun b ≡ None) → positions ≡ option_map positions_of (tree_of begun)
     → Scans old now (verdict_at stop positions (lacking begun))
 scans_at {old} {now} {stop = None} {begun} positions r end e =
@@ -133,21 +133,15 @@ positions_of_list-tree top sub list = at_end (list_at_end list.position)
         ap (λ n. Some (record (positions_of (before_list top sub)) { pair_count = n }))
         (omega (arith, length-with_closed list.closed rest))
 
--- a byte that leads nowhere in a list leads nowhere
-stopped_in_list : (top sub left : List ℕ) (list : BegunList) (stop : Option ℕ)
-    → MatchOption stop (left ≡ []) (λ b. grow_list list b ≡ None)
-    → MatchOption stop (left ≡ []) (λ b. grow (in_list top sub list) b ≡ None)
-stopped_in_list top sub left list stop end = search rules
-
 -- the scanner's answer on a list where it stops
 pub list_scans_at : {before : Positions} {old new : Remaining} {stop : Option ℕ} {list : BegunList} (positions : Option Positions)
-    → ListReaches old new stop list → MatchOption stop (new.left ≡ []) (λ b. grow_list list b ≡ None)
+    → ListLeads old new stop list → MatchOption stop (new.left ≡ []) (λ b. grow_list list b ≡ None)
     → positions ≡ positions_of_list before list → ScansList before old new (verdict_at stop positions (lacking_list list.position))
 list_scans_at {new = new} {stop = stop} {list = list} positions r stopped e = λ start top sub top_token sub_token head_is given.
-    let before : Reaches (in_type []) start _ None (in_list top sub begun_list) = record {
+    let before : Leads (in_type []) start _ None (in_list top sub begun_list) = record {
       run = text_of (before_list top sub);
       given = given;
       walked = walk-head top sub [] top_token sub_token;
     } in
-    scans_at positions (reaches_run before (r top sub).given (r top sub).walked) (stopped_in_list top sub new.left list stop stopped)
+    scans_at positions (reaches_run before (r top sub).given (r top sub).walked) (search rules)
     (e ∙ ap (λ h. positions_of_list h list) head_is ∙ positions_of_list-tree top sub list)

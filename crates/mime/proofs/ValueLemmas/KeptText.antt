@@ -2,7 +2,7 @@
 use Rattle.std.proofs.Common.{◌≡◌, ◌≢◌, ℕ, zero, suc, ◌+◌, List, [], ◌∷◌, ◌++◌, length, take, drop, Option, None, Some, refl, sym, ap, ◌∙◌, subst, arith, append-nil, append_assoc, length-append}
 use Rattle.std.specs.Prelude.{slice_get}
 use Rattle.std.proofs.lemmas.List.{take_at, drop_at, take_all, take-append-drop}
-use Rattle.mime.specs.{Bytes.slash_byte, Bytes.semicolon_byte, Grammar.Parameters, Grammar.blank, Grammar.final, Grammar.more, Grammar.Tail, Grammar.no_list, Grammar.listed, Grammar.SyntaxTree, Grammar.text_of, Grammar.text_of_tail, Grammar.text_of_list, Grammar.AreParameters, Grammar.IsTail, Grammar.IsWellFormed, Values.MediaType, Values.Reads, Values.value_of, Values.essence_of, Values.kept_text, Values.lowered, Values.lowered_tree, Values.last_plus, Values.pairs_of_list, Values.pairs_of_tail, Inner.Pairs.HasPairs, Inner.Pairs.pairs_within, Inner.Pairs.lowered_within, Inner.Scanning.HasPositions, Inner.Scanning.positions_of, Inner.Scanning.semicolon_of, Inner.Scanning.before_list, Inner.KeptText.media_of, Inner.KeptText.IsKept, Inner.KeptText.with_pairs_lowered, Inner.KeptText.kept_text_of, Inner.KeptText.kept_positions, declared.scan.Positions.Positions}
+use Rattle.mime.specs.{Bytes.slash_byte, Bytes.semicolon_byte, Grammar.Parameters, Grammar.blank, Grammar.final, Grammar.more, Grammar.Tail, Grammar.no_list, Grammar.listed, Grammar.SyntaxTree, Grammar.text_of, Grammar.text_of_tail, Grammar.text_of_list, Grammar.AreParameters, Grammar.IsTail, Grammar.IsWellFormed, Values.MediaType, Values.Reads, Values.value_of, Values.essence_of, Values.kept_text, Values.lowered, Values.lowered_tree, Values.last_plus, Values.pairs_of_list, Values.pairs_of_tail, Inner.Pairs.pairs_within, Inner.Pairs.lowered_within, Inner.Scanning.HasPositions, Inner.Scanning.positions_of, Inner.Scanning.semicolon_of, Inner.Scanning.before_list, Inner.KeptText.media_of, Inner.KeptText.IsKept, Inner.KeptText.with_pairs_lowered, Inner.KeptText.kept_text_of, Inner.KeptText.kept_positions, declared.scan.Positions.Positions}
 use Rattle.mime.proofs.{BytesLemmas.slice_get-prefix, LowercaseLemmas.lowered-append, LowercaseLemmas.lowered_tree-lowered_tree, LowercaseLemmas.IsWellFormed-lowered_tree, LowercaseLemmas.positions_of-lowered_tree, ValueLemmas.Utf8.IsLoweredInPart, ValueLemmas.Utf8.length-in_part, ValueLemmas.Utf8.lowercase, ValueLemmas.Utf8.in_parts, ValueLemmas.Pairs.lowered_within-in_part, ValueLemmas.ListText.pairs_within-text_of_list, ValueLemmas.ListText.lowered_within-text_of_list}
 use Rattle.mime_search.proofs.IgnoringCase.{length-lowered}
 
@@ -216,24 +216,6 @@ pub slice_get-semicolon : (text : List ℕ) (positions : Positions) (s : ℕ) �
 slice_get-semicolon text positions s has is =
     at_tree (λ t q. q.semicolon ≡ Some s → slice_get t s ≡ Some semicolon_byte) text positions has
     (semicolon-there has.tree.top has.tree.sub has.tree.tail s) is
-
--- The list of a tree has the tree's pairs.
-list-there : (top sub : List ℕ) (tail : Tail) (s : ℕ) → IsTail tail → semicolon_of (length top + 1 + length sub) tail ≡ Some s
-    → HasPairs (length (pairs_of_tail tail)) (drop (s + 1) (text_of (tree_with top sub tail)))
-list-there top sub no_list s well is = absurd cc
-list-there top sub (listed list) s well is =
-    let position : length top + 1 + length sub ≡ s = cc in
-    let whole = text_of (tree_with top sub (listed list)) in
-    let rest = ap (λ n. drop (n + 1) whole) (sym position) ∙ drop-to_semicolon top sub (text_of_list list) in
-    (list, well, sym rest, refl)
-
--- The list of an accepted text has the pairs that are counted.
-pub pairs-from_positions : (text : List ℕ) (positions : Positions) (s : ℕ) → HasPositions text positions
-    → positions.semicolon ≡ Some s
-    → HasPairs positions.pair_count (drop (s + 1) text)
-pairs-from_positions text positions s has is =
-    at_tree (λ t q. q.semicolon ≡ Some s → HasPairs q.pair_count (drop (s + 1) t)) text positions has
-    (list-there has.tree.top has.tree.sub has.tree.tail s has.well_formed.2) is
 
 -- the kept text of a text with a pair is that text with some parts lowercased
 pub kept-in_part : (count s : ℕ) (text : List ℕ)

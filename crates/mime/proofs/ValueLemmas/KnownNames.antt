@@ -39,10 +39,6 @@ has_equals-lowered (b ∷ text) =
 has_equals-case : (text other : List ℕ) → lowered text ≡ lowered other → has_equals text ≡ has_equals other
 has_equals-case text other is = sym (has_equals-lowered text) ∙ ap has_equals is ∙ has_equals-lowered other
 
--- The text before the first equals sign is as long as its position says.
-length-before_equals : (text : List ℕ) → length (before_byte equals_byte text) ≡ first_position equals_byte text
-length-before_equals text = length-prefix_len (λ b. not (b == equals_byte)) text
-
 -- The text before the first equals sign has none.
 has_equals-before : (text : List ℕ) → has_equals (before_byte equals_byte text) ≡ false
 has_equals-before [] = refl
@@ -57,7 +53,7 @@ has_equals-before (b ∷ text) = ⊎_elim
 pub first_equals-named : (list text : List ℕ) → lowered (cut_of list).name ≡ lowered text
     → first_position equals_byte (without_spaces list) ≡ length text
 first_equals-named list text is =
-    sym (length-before_equals (without_spaces list)) ∙ ap length (cut_of-name list _ refl)
+    sym (length-prefix_len (λ b. not (b == equals_byte)) (without_spaces list)) ∙ ap length (cut_of-name list _ refl)
     ∙ sym (length-lowered (cut_of list).name) ∙ ap length is ∙ length-lowered text
 
 -- A text that is a list's first name but for case has no equals sign.

@@ -1,11 +1,11 @@
 -- The pairs cut from the text of a well-formed parameter list are its pairs, and lowercasing them lowercases the list.
-use Rattle.std.proofs.{lemmas.Grind.common_steps, lemmas.Bool.and_parts, lemmas.Bool.cond-true, lemmas.Bool.cond-false, lemmas.Bool.Decides.nat_tests, lemmas.List.take_at, lemmas.List.drop_at, lemmas.List.drop-drop}
-use Rattle.std.proofs.Common.{◌≡◌, ℕ, suc, ◌+◌, ◌-◌, Bool, true, false, List, [], ◌∷◌, ◌++◌, length, drop, refl, sym, ap, ◌∙◌, subst, arith, append-nil, append_assoc}
+use Rattle.std.proofs.{lemmas.Grind.common_steps, lemmas.Bool.and_parts, lemmas.Bool.cond-true, lemmas.Bool.cond-false, lemmas.Bool.Decides.nat_tests, lemmas.List.take_at, lemmas.List.drop_at, lemmas.List.drop-drop, lemmas.List.take-append-drop}
+use Rattle.std.proofs.Common.{◌≡◌, ℕ, zero, suc, ◌+◌, ◌-◌, Bool, true, false, cond, List, [], ◌∷◌, ◌++◌, length, take, drop, refl, sym, ap, ◌∙◌, subst, arith, append-nil, append_assoc}
 use Rattle.std.specs.Prelude.{◌==◌}
 use Rattle.std.specs.{List.list_all, List.prefix_len, Char.to_ascii_lowercase}
-use Rattle.mime.specs.{Bytes.is_token_byte, Bytes.semicolon_byte, Bytes.equals_byte, Bytes.quote_byte, Grammar.Parameter, Grammar.plain, Grammar.quoted, Grammar.Parameters, Grammar.blank, Grammar.final, Grammar.more, Grammar.text_of_list, Grammar.text_of_parameter, Grammar.is_space, Grammar.AreSpaces, Grammar.AreTokenBytes, Grammar.IsToken, Grammar.IsContent, Grammar.AreParameters, Grammar.IsParameter, Values.lowered, Values.lowered_value, Values.lowered_parameter, Values.lowered_list, Values.pair_of, Values.pairs_of_list, Inner.Quoted.content_len, Inner.Quoted.content_of, Inner.Quoted.after_content, Inner.Pairs.PairCut, Inner.Pairs.cut_after_equals, Inner.Pairs.leading_spaces, Inner.Pairs.without_spaces, Inner.Pairs.cut_of, Inner.Pairs.pairs_within, Inner.Pairs.lowered_within}
+use Rattle.mime.specs.{Bytes.is_token_byte, Bytes.semicolon_byte, Bytes.equals_byte, Bytes.quote_byte, Grammar.Parameter, Grammar.plain, Grammar.quoted, Grammar.Parameters, Grammar.blank, Grammar.final, Grammar.more, Grammar.text_of_list, Grammar.text_of_parameter, Grammar.is_space, Grammar.AreSpaces, Grammar.AreTokenBytes, Grammar.IsToken, Grammar.IsContent, Grammar.AreParameters, Grammar.IsParameter, Values.lowered, Values.lowered_value, Values.is_charset, Values.lowered_parameter, Values.lowered_list, Values.pair_of, Values.pairs_of_list, Inner.Quoted.content_len, Inner.Quoted.content_of, Inner.Quoted.after_content, Inner.Pairs.PairCut, Inner.Pairs.cut_after_equals, Inner.Pairs.leading_spaces, Inner.Pairs.without_spaces, Inner.Pairs.cut_of, Inner.Pairs.last_cut, Inner.Pairs.pairs_within, Inner.Pairs.lowered_within, Inner.ComparedText.IsLoneCharset, Inner.KeptText.with_pairs_lowered}
 use Rattle.mime_search.specs.Rests.{before_byte, after_byte}
-use Rattle.mime.proofs.{ValueLemmas.Pairs.content_len-content, ValueLemmas.Pairs.lowered_within-first, BytesLemmas.semicolon_is_no_token, BytesLemmas.quote_is_no_token, BytesLemmas.token_byte-not_space, BytesLemmas.is_other, BytesLemmas.are_other-token, BytesLemmas.are_other, BytesLemmas.AreTokenBytes-from_token, LowercaseLemmas.lowered-append}
+use Rattle.mime.proofs.{GrammarLemmas.Content.content-taken, GrammarLemmas.Content.content-awaits, ValueLemmas.Pairs.len_from-run, ValueLemmas.Pairs.last_cut-lies, ValueLemmas.Pairs.cut_of-name, ValueLemmas.Pairs.lowered_within-first, BytesLemmas.semicolon_is_no_token, BytesLemmas.quote_is_no_token, BytesLemmas.token_byte-not_space, BytesLemmas.is_other, BytesLemmas.are_other-token, BytesLemmas.are_other, BytesLemmas.AreTokenBytes-from_token, LowercaseLemmas.lowered-append}
 
 -- what may follow a run: nothing, or the byte and the rest
 pub data IsFollow (byte : ℕ) : List ℕ → List ℕ → Type 0 where
@@ -73,7 +73,7 @@ cut_value-quoted : (whole : ℕ) (name content n follow rest : List ℕ) → IsC
     ≡ record { name = name; value_start = whole - length (content ++ (quote_byte ∷ (n ++ follow))); value = content; rest = rest }
 cut_value-quoted whole name content n follow rest is white follows =
     let bytes : List ℕ = content ++ (quote_byte ∷ (n ++ follow)) in
-    let position = content_len-content content (n ++ follow) is in
+    let position = len_from-run false content (n ++ follow) (content-taken content is) (content-awaits content is) in
     let value : content_of bytes ≡ content = take_at content (quote_byte ∷ (n ++ follow)) (content_len bytes) (sym position) in
     let after_quote : after_content bytes ≡ n ++ follow = drop_past quote_byte content _ _ (content_len bytes) (ended _) (sym position) in
     let after : after_byte semicolon_byte (after_content bytes) ≡ rest =
@@ -91,7 +91,7 @@ without_spaces-token n (b ∷ name) after white is =
     (sym (run_to is_space n b (name ++ after) white (token_byte-not_space b first.0)))
 
 -- A name is cut from the spaces before it up to the equals sign, and what follows that is left.
-pub name-cut : (n name after : List ℕ) → AreSpaces n → IsToken name → let body =
+name-cut : (n name after : List ℕ) → AreSpaces n → IsToken name → let body =
     without_spaces (n ++ (name ++ (equals_byte ∷ after))) in
     (before_byte equals_byte body ≡ name) × (after_byte equals_byte body ≡ after)
 unfolding is_token_byte
@@ -130,7 +130,7 @@ head_counted : (n name opening after : List ℕ)
 head_counted n name opening after = grind (arith, common_steps)
 
 -- the first pair cut from the text of a parameter and what follows it
-pub cut_of-parameter : (n : List ℕ) (p : Parameter) (follow rest : List ℕ) → AreSpaces n → IsParameter p
+cut_of-parameter : (n : List ℕ) (p : Parameter) (follow rest : List ℕ) → AreSpaces n → IsParameter p
     → IsFollow semicolon_byte follow rest
     → cut_of (n ++ (text_of_parameter p ++ follow))
     ≡ record { name = (pair_of p).0; value_start = length (n ++ head_of p); value = (pair_of p).1; rest = rest }
@@ -163,7 +163,7 @@ pairs_within-text_of_list (more n p rest) (white, well, others) =
     ∙ ap (λ pairs. pair_of p ∷ pairs) (pairs_within-text_of_list rest others)
 
 -- spaces are in lowercase already
-pub lowered-spaces : (bytes : List ℕ) → AreSpaces bytes → lowered bytes ≡ bytes
+lowered-spaces : (bytes : List ℕ) → AreSpaces bytes → lowered bytes ≡ bytes
 lowered-spaces [] white = refl
 lowered-spaces (b ∷ bytes) white =
     let parts = and_parts (is_space b) (list_all is_space bytes) white in
@@ -178,25 +178,77 @@ lowered_parameter-parts (plain name value) after = rw (lowered-append name (equa
 lowered_parameter-parts (quoted name content n) after = rw (lowered-append name (equals_byte ∷ quote_byte ∷ [])) (simp append_assoc)
 
 -- a list lowercased pair by pair: its first parameter, and then the rest
-pub lowered_within-parameter : (count : ℕ) (n : List ℕ) (p : Parameter) (between rest : List ℕ) → AreSpaces n → IsParameter p
-    → IsFollow semicolon_byte (between ++ rest) rest
-    → lowered_within (suc count) (n ++ (text_of_parameter p ++ (between ++ rest)))
-    ≡ n ++ (text_of_parameter (lowered_parameter p) ++ (between ++ lowered_within count rest))
-lowered_within-parameter count n p between rest white well follows =
-    let list = n ++ (text_of_parameter p ++ (between ++ rest)) in
-    let cut = cut_of-parameter n p (between ++ rest) rest white well follows in
-    let parts : list ≡ (n ++ head_of p) ++ ((pair_of p).1 ++ ((end_of p ++ between) ++ rest)) =
-    ap (λ x. n ++ x) (text_of_parameter-parts p (between ++ rest)) ∙ simp append_assoc in
-    lowered_within-first count list (record {
+lowered_within-parameter : (count : ℕ) (n : List ℕ) (p : Parameter) (rest : List ℕ) → AreSpaces n → IsParameter p
+    → lowered_within (suc (suc count)) (n ++ (text_of_parameter p ++ (semicolon_byte ∷ rest)))
+    ≡ n ++ (text_of_parameter (lowered_parameter p) ++ (semicolon_byte ∷ lowered_within (suc count) rest))
+lowered_within-parameter count n p rest white well =
+    let follow = semicolon_byte ∷ rest in
+    let list = n ++ (text_of_parameter p ++ follow) in
+    let cut = cut_of-parameter n p follow rest white well (ended rest) in
+    let parts : list ≡ (n ++ head_of p) ++ ((pair_of p).1 ++ ((end_of p ++ (semicolon_byte ∷ [])) ++ rest)) =
+    ap (λ x. n ++ x) (text_of_parameter-parts p follow) ∙ simp append_assoc in
+    lowered_within-first (suc count) list (record {
       prefix = n ++ head_of p;
-      middle = end_of p ++ between;
-      parts = subst (λ (c : PairCut). list ≡ (n ++ head_of p) ++ (c.value ++ ((end_of p ++ between) ++ c.rest))) (sym cut) parts;
+      middle = end_of p ++ (semicolon_byte ∷ []);
+      parts = subst (λ (c : PairCut). list ≡ (n ++ head_of p) ++ (c.value ++ ((end_of p ++ (semicolon_byte ∷ [])) ++ c.rest))) (sym cut) parts;
       value_start = ap (λ (c : PairCut). c.value_start) cut;
     })
-    ∙ ap (λ (c : PairCut). (lowered (n ++ head_of p) ++ (lowered_value c.name c.value ++ (end_of p ++ between)))
-    ++ lowered_within count c.rest) cut
+    ∙ ap (λ (c : PairCut). (lowered (n ++ head_of p) ++ (lowered_value c.name c.value ++ (end_of p ++ (semicolon_byte ∷ []))))
+    ++ lowered_within (suc count) c.rest) cut
     ∙ rw (lowered-append n (head_of p), lowered-spaces n white) (simp append_assoc)
-    ∙ ap (λ x. n ++ x) (lowered_parameter-parts p (between ++ lowered_within count rest))
+    ∙ ap (λ x. n ++ x) (lowered_parameter-parts p (semicolon_byte ∷ lowered_within (suc count) rest))
+
+-- Under any name, lowercasing changes nothing around a value.
+lowered_value-around : (name prefix value back : List ℕ) → lowered prefix ≡ prefix → lowered back ≡ back
+    → lowered_value name (prefix ++ (value ++ back)) ≡ prefix ++ (lowered_value name value ++ back)
+lowered_value-around name prefix value back before after =
+    elim (is_charset name) as (λ charset. cond charset (lowered (prefix ++ (value ++ back))) (prefix ++ (value ++ back))
+    ≡ prefix ++ (cond charset (lowered value) value ++ back)) [
+      | true ↦ rw (lowered-append prefix (value ++ back), lowered-append value back, before, after) refl
+      | false ↦ refl
+    ]
+
+-- The last pair is lowercased up to the equals sign after its name, and what follows it is under `charset`.
+lowered_last-named : (n name after : List ℕ) → AreSpaces n → IsToken name
+    → lowered_within 1 (n ++ (name ++ (equals_byte ∷ after))) ≡ n ++ (lowered name ++ (equals_byte ∷ lowered_value name after))
+lowered_last-named n name after white is =
+    let head = n ++ (name ++ (equals_byte ∷ [])) in
+    let list = n ++ (name ++ (equals_byte ∷ after)) in
+    let names = name-cut n name after white is in
+    let cut : last_cut list ≡ record { name = name; value_start = length head; value = after; rest = [] } =
+    rw (names.0, names.1) (ap (λ h. record { name = name; value_start = h; value = after; rest = [] })
+    (head_counted n name (equals_byte ∷ []) after)) in
+    let parts : list ≡ head ++ (after ++ []) = rw (append-nil after) (simp append_assoc) in
+    lowered_within-first 0 list (record {
+      prefix = head;
+      middle = [];
+      parts = subst (λ (c : PairCut). list ≡ head ++ (c.value ++ c.rest)) (sym cut) parts;
+      value_start = ap (λ (c : PairCut). c.value_start) cut;
+    })
+    ∙ ap (λ (c : PairCut). (lowered head ++ (lowered_value c.name c.value ++ [])) ++ c.rest) cut
+    ∙ rw (
+      append-nil (lowered head ++ (lowered_value name after ++ [])),
+      append-nil (lowered_value name after),
+      lowered-append n (name ++ (equals_byte ∷ [])),
+      lowered-append name (equals_byte ∷ []),
+      lowered-spaces n white,
+    ) (simp append_assoc)
+
+-- So the last parameter is lowercased, and nothing after it.
+lowered_last-parameter : (n : List ℕ) (p : Parameter) (back : List ℕ) → AreSpaces n → IsParameter p → lowered back ≡ back
+    → lowered_within 1 (n ++ (text_of_parameter p ++ back)) ≡ n ++ (text_of_parameter (lowered_parameter p) ++ back)
+lowered_last-parameter n (plain name value) back white (named, token) low =
+    ap (λ x. lowered_within 1 (n ++ x)) (append_assoc name (equals_byte ∷ value) back)
+    ∙ lowered_last-named n name (value ++ back) white named
+    ∙ rw (lowered_value-around name [] value back refl low) (simp append_assoc)
+lowered_last-parameter n (quoted name content m) back white (named, is, blanks) low =
+    let after = quote_byte ∷ (m ++ back) in
+    let grouped : text_of_parameter (quoted name content m) ++ back ≡ name ++ (equals_byte ∷ quote_byte ∷ (content ++ after)) =
+    simp append_assoc in
+    ap (λ x. lowered_within 1 (n ++ x)) grouped
+    ∙ lowered_last-named n name (quote_byte ∷ (content ++ after)) white named
+    ∙ rw (lowered_value-around name (quote_byte ∷ []) content after refl
+    (rw (lowered-append m back, lowered-spaces m blanks, low) refl)) (simp append_assoc)
 
 -- the text of a parameter list, lowercased pair by pair, is the text of the lowercased list
 pub lowered_within-text_of_list : (list : Parameters) → AreParameters list
@@ -204,8 +256,35 @@ pub lowered_within-text_of_list : (list : Parameters) → AreParameters list
 lowered_within-text_of_list (blank n) well = refl
 lowered_within-text_of_list (final n p) (white, well) =
     ap (λ x. lowered_within 1 (n ++ x)) (sym (append-nil (text_of_parameter p)))
-    ∙ lowered_within-parameter 0 n p [] [] white well nothing
+    ∙ lowered_last-parameter n p [] white well refl
     ∙ ap (λ x. n ++ x) (append-nil (text_of_parameter (lowered_parameter p)))
-lowered_within-text_of_list (more n p rest) (white, well, others) =
-    lowered_within-parameter _ n p (semicolon_byte ∷ []) (text_of_list rest) white well (ended _)
-    ∙ ap (λ x. n ++ (text_of_parameter (lowered_parameter p) ++ (semicolon_byte ∷ x))) (lowered_within-text_of_list rest others)
+lowered_within-text_of_list (more n p (blank m)) (white, well, blanks) =
+    lowered_last-parameter n p (semicolon_byte ∷ m) white well (ap (λ x. semicolon_byte ∷ x) (lowered-spaces m blanks))
+lowered_within-text_of_list (more n p (final m q)) (white, well, others) =
+    lowered_within-parameter 0 n p (text_of_list (final m q)) white well
+    ∙ ap (λ x. n ++ (text_of_parameter (lowered_parameter p) ++ (semicolon_byte ∷ x))) (lowered_within-text_of_list (final m q) others)
+lowered_within-text_of_list (more n p (more m q rest)) (white, well, others) =
+    lowered_within-parameter _ n p (text_of_list (more m q rest)) white well
+    ∙ ap (λ x. n ++ (text_of_parameter (lowered_parameter p) ++ (semicolon_byte ∷ x))) (lowered_within-text_of_list (more m q rest) others)
+
+-- A list whose only pair is a charset is lowercased as a whole.
+lone_charset-lowered : (count : ℕ) (list : List ℕ) → IsLoneCharset (pairs_within count list) → lowered list ≡ lowered_within count list
+lone_charset-lowered zero list (name, content, only, is) = absurd cc
+lone_charset-lowered (suc (suc n)) list (name, content, only, is) = absurd cc
+lone_charset-lowered (suc zero) list (name, content, only, is) =
+    let cut = last_cut list in
+    let lies = last_cut-lies list in
+    let first = ap (λ pairs. elim pairs as (λ _. List ℕ) [ [] ↦ [] | pair ∷ others ↦ pair.0 ]) only in
+    let named : is_charset cut.name ≡ true = subst (λ it. is_charset it ≡ true) (sym (cut_of-name list cut.name refl ∙ first)) is in
+    let low : lowered_value cut.name cut.value ≡ lowered cut.value = rw named refl in
+    ap lowered (lies.parts ∙ ap (λ x. lies.prefix ++ x) (append-nil cut.value)) ∙ lowered-append lies.prefix cut.value
+    ∙ sym (lowered_within-first 0 list lies ∙ append-nil (lowered lies.prefix ++ (lowered_value cut.name cut.value ++ []))
+    ∙ ap (λ x. lowered lies.prefix ++ x) (append-nil (lowered_value cut.name cut.value) ∙ low))
+
+-- A text that such a list ends is lowercased as a whole.
+pub lone_charset-text : (count semicolon : ℕ) (text : List ℕ) → IsLoneCharset (pairs_within count (drop (semicolon + 1) text))
+    → lowered text ≡ with_pairs_lowered count semicolon text
+lone_charset-text count semicolon text lone =
+    let from = semicolon + 1 in
+    ap lowered (sym (take-append-drop from text)) ∙ lowered-append (take from text) (drop from text)
+    ∙ ap (λ list. lowered (take from text) ++ list) (lone_charset-lowered count (drop from text) lone)

@@ -1,64 +1,36 @@
 -- A text lowercased from its start on, range by range and pair by pair.
-use Rattle.std.proofs.{lemmas.Grind.common_steps, lemmas.Bool.cond_both, lemmas.List.take_at, lemmas.List.drop_at, lemmas.List.drop-drop, lemmas.List.drop_all, lemmas.List.take-append-drop, lemmas.List.take_rest, lemmas.List.length-take-le, Math.Seq.take-add}
-use Rattle.std.proofs.Common.{◌≡◌, ℕ, suc, ◌+◌, ◌-◌, ◌<◌, ◌≤◌, Bool, true, false, cond, List, [], ◌++◌, length, drop, refl, sym, ap, ◌∙◌, arith, append-nil, append_assoc, length-append, take, slice_range, length-drop}
-use Rattle.mime.specs.{Values.lowered, Values.lowered_value, Values.is_charset, Inner.KeptText.with_pairs_lowered, Inner.Pairs.cut_of, Inner.Pairs.lowered_within, Inner.Pairs.lowered_first}
-use Rattle.mime.proofs.{ValueLemmas.Pairs.lowered_within-first, ValueLemmas.Pairs.LiesIn, ValueLemmas.Pairs.cut_of-lies, ValueLemmas.Pairs.cut_of-within, ValueLemmas.Pairs.first_lowered, ValueLemmas.Pairs.lowered_first-joined, LowercaseLemmas.lowered-append, LowercaseLemmas.lowered-lowered}
-use Rattle.mime_search.proofs.IgnoringCase.{length-lowered}
+use Rattle.std.proofs.{lemmas.Grind.common_steps, lemmas.Bool.cond_both, lemmas.List.take_at, lemmas.List.drop_at, lemmas.List.drop-drop, lemmas.List.drop_all, lemmas.List.take-append-drop, lemmas.List.take_rest, lemmas.List.length-take-le, lemmas.List.take-take, Math.Seq.take-add}
+use Rattle.std.proofs.Common.{◌≡◌, ℕ, zero, suc, ◌+◌, ◌-◌, ◌<◌, ◌≤◌, Bool, true, false, cond, List, [], ◌++◌, length, drop, refl, sym, ap, ◌∙◌, arith, append-nil, append_assoc, length-append, take, slice_range, length-drop}
+use Rattle.mime.specs.{Values.lowered, Values.is_charset, Inner.KeptText.with_pairs_lowered, Inner.Pairs.PairCut, Inner.Pairs.cut_before, Inner.Pairs.lowered_within}
+use Rattle.mime.proofs.{ValueLemmas.Pairs.lowered_within-first, ValueLemmas.Pairs.LiesIn, ValueLemmas.Pairs.cut_before-lies, ValueLemmas.Pairs.cut-within, ValueLemmas.Pairs.first_lowered, LowercaseLemmas.lowered-append, LowercaseLemmas.lowered-lowered}
+use Rattle.mime_search.proofs.IgnoringCase.{length-lowered, lowered-take, lowered-drop}
 use borrow.Rule.Slice.PartMut.{put_mid}
-
--- the bytes with those between two positions lowercased
-abbrev lowered_range : ℕ → ℕ → List ℕ → List ℕ
-lowered_range from to bytes = take from bytes ++ (lowered (slice_range bytes from to) ++ drop to bytes)
-
--- only the bytes between the positions are lowercased
-lowered_range-middle : (from to : ℕ) (bytes prefix middle back : List ℕ) → bytes ≡ prefix ++ (middle ++ back)
-    → length prefix ≡ from → from + length middle ≡ to → lowered_range from to bytes ≡ prefix ++ (lowered middle ++ back)
-lowered_range-middle from to bytes prefix middle back e at end =
-    let rest : drop from bytes ≡ middle ++ back = ap (drop from) e ∙ drop_at prefix (middle ++ back) from at in
-    let before : take from bytes ≡ prefix = ap (take from) e ∙ take_at prefix (middle ++ back) from at in
-    let inner : slice_range bytes from to ≡ middle = ap (take (to - from)) rest ∙ take_at middle back (to - from) (omega arith) in
-    let after : drop to bytes ≡ back =
-    ap (drop to) (e ∙ sym (append_assoc prefix middle back))
-    ∙ drop_at (prefix ++ middle) back to (omega (arith, length-append prefix middle)) in
-    cc
-
--- a range of which the start is lowercased already
-lowered_range-again : (from to : ℕ) (bytes prefix again next back : List ℕ) → bytes ≡ lowered (prefix ++ again) ++ (next ++ back)
-    → length prefix ≡ from → from + (length again + length next) ≡ to
-    → lowered_range from to bytes ≡ lowered ((prefix ++ again) ++ next) ++ back
-lowered_range-again from to bytes prefix again next back so_far at end =
-    lowered_range-middle from to bytes (lowered prefix) (lowered again ++ next) back
-    (so_far ∙ rw (lowered-append prefix again) (simp append_assoc))
-    (length-lowered prefix ∙ at)
-    (omega (arith, end, length-append (lowered again) next, length-lowered again))
-    ∙ rw (lowered-append (lowered again) next, lowered-lowered again, lowered-append (prefix ++ again) next, lowered-append prefix again)
-    (simp append_assoc)
 
 -- the bytes before a position are lowercased, and then a range that begins there, or earlier
 pub lowered_start-more : (bytes text : List ℕ) (done from to : ℕ) → bytes ≡ lowered (take done text) ++ drop done text
-    → from ≤ done → done ≤ to → to ≤ length text → lowered_range from to bytes ≡ lowered (take to text) ++ drop to text
+    → from ≤ done → done ≤ to → to ≤ length text
+    → take from bytes ++ (lowered (slice_range bytes from to) ++ drop to bytes) ≡ lowered (take to text) ++ drop to text
 lowered_start-more bytes text done from to so_far before after within =
-    let prefix = take from text in
-    let again = take (done - from) (drop from text) in
-    let next = take (to - done) (drop done text) in
-    let taken : take done text ≡ prefix ++ again = ap (λ n. take n text) (omega arith) ∙ take-add from (done - from) text in
-    let left : drop done text ≡ next ++ drop to text =
-    sym (take-append-drop (to - done) (drop done text))
-    ∙ ap (λ x. next ++ x) (drop-drop (to - done) done text ∙ ap (λ n. drop n text) (omega arith)) in
-    let whole : take to text ≡ take done text ++ next = ap (λ n. take n text) (omega arith) ∙ take-add done (to - done) text in
-    let at : length prefix ≡ from = length-take-le from text (omega arith) in
-    let size : length (take done text) ≡ done = length-take-le done text (omega arith) in
-    let total : length (take to text) ≡ to = length-take-le to text within in
-    let end : from + (length again + length next) ≡ to =
-    omega (arith, at, size, total, ap length taken, ap length whole, length-append prefix again, length-append (take done text) next) in
-    lowered_range-again from to bytes prefix again next (drop to text) (so_far ∙ (λ i. lowered (taken i) ++ left i)) at end
-    ∙ ap (λ x. lowered x ++ drop to text) (sym (whole ∙ ap (λ x. x ++ next) taken))
-
--- what is lowercased up to a position of a list that ends a text
-pub lowered_start-end : (text list : List ℕ) (at k : ℕ) → list ≡ drop at text
-    → lowered (take (at + k) text) ++ drop (at + k) text ≡ lowered (take at text) ++ (lowered (take k list) ++ drop k list)
-lowered_start-end text list at k end =
-    rw (end, take-add at k text, ← drop-drop k at text, lowered-append (take at text) (take k (drop at text))) (simp append_assoc)
+    let size = length-lowered (take done text) ∙ length-take-le done text (omega (arith, after, within)) in
+    let all : lowered bytes ≡ lowered text =
+    ap lowered so_far
+    ∙ rw (lowered-append (lowered (take done text)) (drop done text), lowered-lowered (take done text))
+    (sym (lowered-append (take done text) (drop done text)) ∙ ap lowered (take-append-drop done text)) in
+    let start : take from bytes ≡ lowered (take from text) =
+    sym (take-take from done bytes before) ∙ ap (take from) (ap (take done) so_far ∙ take_at _ _ done size)
+    ∙ sym (lowered-take from (take done text)) ∙ ap lowered (take-take from done text before) in
+    let middle : lowered (slice_range bytes from to) ≡ lowered (slice_range text from to) =
+    lowered-take (to - from) (drop from bytes)
+    ∙ ap (take (to - from)) (lowered-drop from bytes ∙ ap (drop from) all ∙ sym (lowered-drop from text))
+    ∙ sym (lowered-take (to - from) (drop from text)) in
+    let end : drop to bytes ≡ drop to text =
+    ap (λ n. drop n bytes) (omega (arith, after)) ∙ sym (drop-drop (to - done) done bytes)
+    ∙ ap (drop (to - done)) (ap (drop done) so_far ∙ drop_at _ _ done size)
+    ∙ drop-drop (to - done) done text ∙ ap (λ n. drop n text) (omega (arith, after)) in
+    let whole : take to text ≡ take from text ++ slice_range text from to =
+    ap (λ n. take n text) (omega (arith, before, after)) ∙ take-add from (to - from) text in
+    (λ i. start i ++ (middle i ++ end i)) ∙ sym (append_assoc (lowered (take from text)) _ (drop to text))
+    ∙ ap (λ x. x ++ drop to text) (sym (ap lowered whole ∙ lowered-append (take from text) (slice_range text from to)))
 
 -- a list is lowercased up to where its first part ends
 lowered_part : (list prefix back : List ℕ) (k : ℕ) → list ≡ prefix ++ back → length prefix ≡ k
@@ -66,33 +38,27 @@ lowered_part : (list prefix back : List ℕ) (k : ℕ) → list ≡ prefix ++ ba
 lowered_part list prefix back k parts size = grind (arith, common_steps)
 
 -- a first value ends within a list
-pub low_within : (list value : List ℕ) (start low : ℕ) (charset : Bool) → start ≡ (cut_of list).value_start
-    → value ≡ (cut_of list).value
-    → low ≡ cond charset (length value) 0 → start + low ≤ length list
-low_within list value start low charset starts values is =
+pub low_within : (list value : List ℕ) (cut : PairCut) (start low : ℕ) (charset : Bool) → LiesIn list cut → start ≡ cut.value_start
+    → value ≡ cut.value → low ≡ cond charset (length value) 0 → start + low ≤ length list
+low_within list value cut start low charset lies starts values is =
     let short : low ≤ length value =
     rw is (cond_both charset (length value) 0 (λ n. n ≤ length value) (λ _. omega arith) (λ _. omega arith)) in
-    omega (arith, starts, short, ap length values, cut_of-within list)
+    omega (arith, starts, short, ap length values, cut-within list cut lies)
 
 -- a list is lowercased up to its first value, and with it under `charset`
-pub lowered_first-start : (list : List ℕ) (low : ℕ) → low ≡ cond (is_charset (cut_of list).name) (length (cut_of list).value) 0
-    → let k = (cut_of list).value_start + low in lowered (take k list) ++ drop k list ≡ lowered_first list
-lowered_first-start list low is = go (cut_of-lies list) (is_charset (cut_of list).name) refl low is
-  where
-    go : LiesIn list (cut_of list) → (charset : Bool) → is_charset (cut_of list).name ≡ charset → (low : ℕ)
-        → low ≡ cond charset (length (cut_of list).value) 0
-        → let k = (cut_of list).value_start + low in lowered (take k list) ++ drop k list ≡ lowered_first list
-    go lies true named low is =
-        let cut = cut_of list in
-        let lowercase : lowered_value cut.name cut.value ≡ lowered cut.value = rw named refl in
-        lowered_part list (lies.prefix ++ cut.value) (lies.middle ++ cut.rest) _ (lies.parts ∙ simp append_assoc)
-        (omega (arith, is, lies.value_start, length-append lies.prefix cut.value))
-        ∙ rw (lowered-append lies.prefix cut.value) (sym (lowered_first-joined list lies ∙ rw lowercase (simp append_assoc)))
-    go lies false other low is =
-        let cut = cut_of list in
-        let as_is : lowered_value cut.name cut.value ≡ cut.value = rw other refl in
-        lowered_part list lies.prefix (cut.value ++ (lies.middle ++ cut.rest)) _ lies.parts (omega (arith, is, lies.value_start))
-        ∙ sym (lowered_first-joined list lies ∙ rw as_is (simp append_assoc))
+pub lowered_first-start : (list : List ℕ) (cut : PairCut) (lies : LiesIn list cut) (low : ℕ)
+    → low ≡ cond (is_charset cut.name) (length cut.value) 0
+    → let k = cut.value_start + low in lowered (take k list) ++ drop k list ≡ first_lowered list cut lies ++ cut.rest
+lowered_first-start list cut lies low =
+    elim (is_charset cut.name) as (λ charset. low ≡ cond charset (length cut.value) 0
+    → let k = cut.value_start + low in lowered (take k list) ++ drop k list
+    ≡ (lowered lies.prefix ++ (cond charset (lowered cut.value) cut.value ++ lies.middle)) ++ cut.rest) [
+      | true ↦ λ is. lowered_part list (lies.prefix ++ cut.value) (lies.middle ++ cut.rest) _ (lies.parts ∙ simp append_assoc)
+          (omega (arith, is, lies.value_start, length-append lies.prefix cut.value))
+          ∙ rw (lowered-append lies.prefix cut.value) (simp append_assoc)
+      | false ↦ λ is. lowered_part list lies.prefix (cut.value ++ (lies.middle ++ cut.rest)) _ lies.parts
+          (omega (arith, is, lies.value_start)) ∙ simp append_assoc
+    ]
 
 -- the bytes are those that are done, those that are lowercased with the next pair, and the list that is left; with `count`
 -- pairs of the list lowercased they are the whole
@@ -124,51 +90,41 @@ pub lowered_to-sizes : (bytes left : List ℕ) (from count : ℕ) (whole : List 
 lowered_to-sizes bytes left from count whole so_far =
     omega (arith, so_far.at, ap length so_far.parts, length-append so_far.done (so_far.between ++ left), length-append so_far.between left)
 
--- A part that begins where bytes are to be lowercased, lowercased up to a position of the list.
-part_written : (bytes left part : List ℕ) (from count n k : ℕ) (whole : List ℕ) (so_far : IsLoweredTo bytes left from count whole)
-    → n ≡ length so_far.between + k → let P = take (length bytes - from) (drop from bytes) in part ≡ lowered (take n P) ++ drop n P
-    → part ≡ lowered so_far.between ++ (lowered (take k left) ++ drop k left)
-part_written bytes left part from count n k whole so_far there lowers =
-    let done = so_far.done in
-    let between = so_far.between in
-    let behind : drop from bytes ≡ between ++ left = ap (drop from) so_far.parts ∙ drop_at done (between ++ left) from so_far.at in
-    let P : take (length bytes - from) (drop from bytes) ≡ between ++ left = take_rest bytes from ∙ behind in
-    let tail : left ≡ drop (length between) (between ++ left) = sym (drop_at between left (length between) refl) in
-    lowers ∙ (λ i. lowered (take (there i) (P i)) ++ drop (there i) (P i))
-    ∙ lowered_start-end (between ++ left) left (length between) k tail
-    ∙ rw (take_at between left (length between) refl) refl
-
--- The bytes with that part in its place are those that are done, and the part.
-part_put : (bytes left part : List ℕ) (from count : ℕ) (whole : List ℕ) (so_far : IsLoweredTo bytes left from count whole)
-    → put_mid from (length bytes - from) bytes part ≡ so_far.done ++ part
-part_put bytes left part from count whole so_far =
-    let before : take from bytes ≡ so_far.done =
-    ap (take from) so_far.parts ∙ take_at so_far.done (so_far.between ++ left) from so_far.at in
-    let back : drop (length bytes - from) (drop from bytes) ≡ [] =
-    drop_all (length bytes - from) (drop from bytes) (omega (arith, length-drop from bytes)) in
-    rw (before, back) (ap (λ x. so_far.done ++ x) (append-nil part))
-
 -- the next pair is lowercased, and what is before it
 pub lowered_to-more : (bytes left part rest : List ℕ) (from low count next : ℕ) (whole : List ℕ)
-    (so_far : IsLoweredTo bytes left from count whole)
-    → count ≡ suc next → low ≡ cond (is_charset (cut_of left).name) (length (cut_of left).value) 0
+    (so_far : IsLoweredTo bytes left from count whole) → count ≡ suc next → let cut = cut_before next left in
+    low ≡ cond (is_charset cut.name) (length cut.value) 0
     → let P = take (length bytes - from) (drop from bytes) in
-    let n = length bytes - length left - from + ((cut_of left).value_start + low) in
-    part ≡ lowered (take n P) ++ drop n P → rest ≡ (cut_of left).rest
+    let n = length bytes - length left - from + (cut.value_start + low) in
+    part ≡ lowered (take n P) ++ drop n P → rest ≡ cut.rest
     → let new = put_mid from (length bytes - from) bytes part in IsLoweredTo new rest (length new - length rest) next whole
 lowered_to-more bytes left part rest from low count next whole so_far counts low_is lowers rests =
-    let lies = cut_of-lies left in
-    let first = first_lowered left lies in
+    let cut = cut_before next left in
+    let lies = cut_before-lies next left in
+    let first = first_lowered left cut lies in
     let done = so_far.done in
     let between = so_far.between in
     let new = put_mid from (length bytes - from) bytes part in
+    let k = cut.value_start + low in
+    let sizes = lowered_to-sizes bytes left from count whole so_far in
+    let there : length bytes - length left - from + k ≡ length between + k = omega (arith, sizes) in
+    let behind : take (length bytes - from) (drop from bytes) ≡ between ++ left =
+    take_rest bytes from ∙ ap (drop from) so_far.parts ∙ drop_at done (between ++ left) from so_far.at in
+    let before : take from bytes ≡ done = ap (take from) so_far.parts ∙ take_at done (between ++ left) from so_far.at in
+    let after = drop_all (length bytes - from) (drop from bytes) (omega (arith, length-drop from bytes)) in
     let written : part ≡ lowered between ++ (first ++ rest) =
-    part_written bytes left part from count _ ((cut_of left).value_start + low) whole so_far
-    (omega (arith, lowered_to-sizes bytes left from count whole so_far)) lowers
-    ∙ ap (λ x. lowered between ++ x) (lowered_first-start left low low_is ∙ lowered_first-joined left lies
-    ∙ ap (λ x. first ++ x) (sym rests)) in
+    lowers ∙ (λ i. lowered (take (there i) (behind i)) ++ drop (there i) (behind i))
+    ∙ rw (
+      take-add (length between) k (between ++ left),
+      ← drop-drop k (length between) (between ++ left),
+      take_at between left (length between) refl,
+      drop_at between left (length between) refl,
+      lowered-append between (take k left),
+    )
+    (append_assoc (lowered between) _ (drop k left)
+    ∙ ap (λ x. lowered between ++ x) (lowered_first-start left cut lies low low_is ∙ ap (λ x. first ++ x) (sym rests))) in
     let parts : new ≡ (done ++ (lowered between ++ first)) ++ rest =
-    part_put bytes left part from count whole so_far ∙ rw written (simp append_assoc) in
+    rw (before, after) (ap (λ x. done ++ x) (append-nil part) ∙ rw written (simp append_assoc)) in
     record {
       done = done ++ (lowered between ++ first);
       between = [];
@@ -183,13 +139,8 @@ lowered_to-more bytes left part rest from low count next whole so_far counts low
       none = λ _. refl;
     }
 
--- The last pair is lowercased, and what is before it, up to a position of the list after which nothing changes.
-pub lowered_to-last : (bytes left part : List ℕ) (from count n k : ℕ) (whole : List ℕ) → IsLoweredTo bytes left from count whole
-    → n + from ≡ length bytes - length left + k → lowered (take k left) ++ drop k left ≡ lowered_within count left
-    → let P = take (length bytes - from) (drop from bytes) in part ≡ lowered (take n P) ++ drop n P
-    → put_mid from (length bytes - from) bytes part ≡ whole
-lowered_to-last bytes left part from count n k whole so_far there last lowers =
-    let sizes = lowered_to-sizes bytes left from count whole so_far in
-    let written = part_written bytes left part from count n k whole so_far (omega (arith, sizes, there)) lowers in
-    part_put bytes left part from count whole so_far
-    ∙ ap (λ x. so_far.done ++ x) (written ∙ ap (λ x. lowered so_far.between ++ x) last) ∙ so_far.comes
+-- All pairs are lowercased.
+pub lowered_to-all : (bytes left : List ℕ) (from count : ℕ) (whole : List ℕ) → IsLoweredTo bytes left from count whole → count ≡ 0
+    → bytes ≡ whole
+lowered_to-all bytes left from zero whole so_far is = (rw (so_far.none refl) at so_far.parts) ∙ (rw (so_far.none refl) at so_far.comes)
+lowered_to-all bytes left from (suc count) whole so_far is = absurd cc

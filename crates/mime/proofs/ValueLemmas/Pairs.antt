@@ -1,11 +1,11 @@
 -- What a cut of a list is, and where its quoted content ends.
 use Rattle.std.proofs.{lemmas.Grind.common_steps, lemmas.Str.IsCharBoundary-start, lemmas.Str.IsCharBoundary-after_ascii, lemmas.Bool.Decides.nat_tests, lemmas.List.Sums.prefix_len_passes, lemmas.List.Sums.prefix_len-le-length, lemmas.List.take_at, lemmas.List.drop_at, lemmas.List.drop-drop, lemmas.List.take-append-drop, lemmas.Bool.and_parts, lemmas.Bool.cases_Bool, lemmas.Bool.cond-false, lemmas.Bool.eqb-true, lemmas.Bool.true≢false, lemmas.Bool.cond_both}
 use Rattle.std.proofs.Common.{⊎_elim, ◌≡◌, ◌≢◌, ℕ, zero, suc, ◌+◌, ◌<◌, ◌≤◌, Bool, true, false, List, [], ◌∷◌, ◌++◌, length, get_or, drop, refl, sym, ap, ◌∙◌, arith, ◌-◌, take, subst, append-nil, append_assoc, length-append, rules}
-use Rattle.std.specs.Prelude.{IsTrue, ◌==◌, ◌&&◌, not, Option, Some, codes}
-use Rattle.std.specs.{List.position_or_len, Str.IsUtf8, Str.IsCharBoundary, Str.bytes_eq}
-use Rattle.mime.specs.{Bytes.quote_byte, Bytes.backslash_byte, Bytes.equals_byte, Grammar.IsContent, Grammar.is_space, Inner.Quoted.awaits_next, Inner.Quoted.takes, Inner.Quoted.takes_all, Inner.Quoted.awaits_after, Inner.Quoted.len_from, Inner.Quoted.content_len, Values.lowered, Values.lowered_value, Inner.Pairs.PairCut, Inner.Pairs.cut_after_equals, Inner.Pairs.leading_spaces, Inner.Pairs.without_spaces, Inner.Pairs.cut_of, Inner.Pairs.pairs_within, Inner.Pairs.lowered_first, Inner.Pairs.lowered_within, Items.items_of, Items.IsFirstAccepted}
+use Rattle.std.specs.Prelude.{IsTrue, ◌==◌, ◌&&◌, not, Option}
+use Rattle.std.specs.{List.position_or_len, Str.IsUtf8, Str.IsCharBoundary}
+use Rattle.mime.specs.{Bytes.quote_byte, Bytes.backslash_byte, Bytes.equals_byte, Grammar.is_space, Inner.Quoted.awaits_next, Inner.Quoted.takes, Inner.Quoted.takes_all, Inner.Quoted.awaits_after, Inner.Quoted.len_from, Inner.Quoted.content_len, Values.lowered, Values.lowered_value, Inner.Pairs.PairCut, Inner.Pairs.cut_after_equals, Inner.Pairs.leading_spaces, Inner.Pairs.without_spaces, Inner.Pairs.cut_of, Inner.Pairs.last_cut, Inner.Pairs.cut_before, Inner.Pairs.pairs_within, Inner.Pairs.lowered_first, Inner.Pairs.lowered_within, Items.items_of, Items.IsFirstAccepted}
 use Rattle.mime_search.specs.Rests.{first_position, before_byte, after_byte}
-use Rattle.mime.proofs.{GrammarLemmas.Content.taken-closes_not, GrammarLemmas.Content.content-taken, GrammarLemmas.Content.content-awaits, LowercaseLemmas.lowered_value-either, ValueLemmas.Utf8.IsLoweredInPart, ValueLemmas.Utf8.same, ValueLemmas.Utf8.lowercase, ValueLemmas.Utf8.in_parts}
+use Rattle.mime.proofs.{GrammarLemmas.Content.taken-closes_not, LowercaseLemmas.lowered_value-either, ValueLemmas.Utf8.IsLoweredInPart, ValueLemmas.Utf8.same, ValueLemmas.Utf8.lowercase, ValueLemmas.Utf8.in_parts}
 
 -- ---- the spaces with which a list begins
 
@@ -24,7 +24,7 @@ spaces_border list utf8 = go (leading_spaces list) refl
 -- ---- the length of content
 
 -- the quote that closes is found
-len_from-run : (awaiting : Bool) (run after : List ℕ) → IsTrue (takes_all awaiting run) → awaits_after awaiting run ≡ false
+pub len_from-run : (awaiting : Bool) (run after : List ℕ) → IsTrue (takes_all awaiting run) → awaits_after awaiting run ≡ false
     → len_from awaiting (run ++ quote_byte ∷ after) ≡ length run
 len_from-run true [] after all done = absurd (true≢false done)
 len_from-run false [] after all done = refl
@@ -32,11 +32,6 @@ len_from-run awaiting (b ∷ run) after all done =
     let parts = and_parts (takes awaiting b) (takes_all (awaits_next awaiting b) run) all in
     cond-false (not awaiting && b == quote_byte) _ _ (taken-closes_not awaiting b parts.0)
     ∙ omega (arith, len_from-run (awaits_next awaiting b) run after parts.1 done)
-
--- content that a quote follows ends at that quote
-pub content_len-content : (content after : List ℕ) → IsContent content
-    → content_len (content ++ quote_byte ∷ after) ≡ length content
-content_len-content content after is = len_from-run false content after (content-taken content is) (content-awaits content is)
 
 -- at the length of the content that a text begins with there is a quote, or the text ends
 pub quote_at_len : (awaiting : Bool) (text : List ℕ) → len_from awaiting text < length text
@@ -56,14 +51,6 @@ len_from-le awaiting (b ∷ text) =
 
 -- ---- the first quote
 
--- a byte before the first quote is no backslash, so none is awaited after it
-awaits_next-not_backslash : (awaiting : Bool) (b : ℕ) → b ≢ backslash_byte → awaits_next awaiting b ≡ false
-awaits_next-not_backslash awaiting b other = search rules
-
--- a byte that is no quote closes nothing
-closes-not_at_other : (awaiting : Bool) (b : ℕ) → b == quote_byte ≡ false → not awaiting && b == quote_byte ≡ false
-closes-not_at_other awaiting b other = search rules
-
 -- the first quote closes, if no byte is awaited at it: if no backslash precedes it
 first_quote : (awaiting : Bool) (text : List ℕ) (n : ℕ) → n ≡ position_or_len (λ b. b == quote_byte) text
     → (n ≡ 0 → awaiting ≡ false)
@@ -74,9 +61,9 @@ first_quote awaiting (b ∷ text) n e free before = ⊎_elim
     (λ (other : b == quote_byte ≡ false).
     let on : n ≡ 1 + position_or_len (λ b. b == quote_byte) text = e ∙ rw other refl in
     let rest = first_quote (awaits_next awaiting b) text (n - 1) (omega (arith, on))
-    (λ none. awaits_next-not_backslash awaiting b (before 0 (omega (arith, none, on))))
+    (λ none. let is_none = before 0 (omega (arith, none, on)) in search rules)
     (λ m same. before (suc m) (omega (arith, same))) in
-    cond-false (not awaiting && b == quote_byte) _ _ (closes-not_at_other awaiting b other) ∙ omega (arith, rest, on))
+    cond-false (not awaiting && b == quote_byte) _ _ (search rules) ∙ omega (arith, rest, on))
     (cases_Bool (b == quote_byte))
 
 -- content ends at the first quote, if no backslash precedes it
@@ -92,11 +79,11 @@ pub record LiesIn (list : List ℕ) (cut : PairCut) : Type 0 where
   pub value_start : cut.value_start ≡ length prefix
 
 -- a list ends with these bytes, and so with those after the first of them
-abbrev EndsWith : List ℕ → List ℕ → Type 0
+abbrev pub EndsWith : List ℕ → List ℕ → Type 0
 EndsWith list bytes = (prefix : List ℕ) × (prefix ++ bytes ≡ list)
 
 -- What a list ends with ends with the bytes after the first of them.
-ends-drop : (n : ℕ) (list bytes : List ℕ) → EndsWith list bytes → EndsWith list (drop n bytes)
+pub ends-drop : (n : ℕ) (list bytes : List ℕ) → EndsWith list bytes → EndsWith list (drop n bytes)
 ends-drop n list bytes (prefix, whole) = (
   prefix ++ take n bytes,
   append_assoc prefix (take n bytes) (drop n bytes)
@@ -122,39 +109,46 @@ cut_value-lies list name (b ∷ bytes) end =
     (ap (drop _) (sym (drop-drop 1 (content_len bytes) bytes)) ∙ drop-drop _ 1 (drop (content_len bytes) bytes)))
     (λ _. lies_from_end list (b ∷ bytes) name _ _ 1 end (sym (drop-drop 1 _ (b ∷ bytes))))
 
--- the cut of any list lies in it
-pub cut_of-lies : (list : List ℕ) → LiesIn list (cut_of list)
+-- A list ends with what follows its first equals sign.
+pub ends_after_equals : (list : List ℕ) → EndsWith list (after_byte equals_byte (without_spaces list))
+ends_after_equals list = ends-drop _ list (without_spaces list) (ends-drop (leading_spaces list) list list ([], refl))
+
+-- The last pair lies in a list.
+abbrev pub last_cut-lies : (list : List ℕ) → LiesIn list (last_cut list)
+last_cut-lies list =
+    let end = ends_after_equals list in
+    record {
+      prefix = end.0;
+      middle = [];
+      parts = sym (ap (λ x. end.0 ++ x) (append-nil (last_cut list).value) ∙ end.1);
+      value_start = omega (arith, ap length end.1, length-append end.0 (last_cut list).value);
+    }
+
+-- So does the first pair before others.
+pub cut_before-lies : (others : ℕ) (list : List ℕ) → LiesIn list (cut_before others list)
 unfolding cut_of
-cut_of-lies list =
-    let body = without_spaces list in
-    cut_value-lies list (before_byte equals_byte body) (after_byte equals_byte body)
-    (ends-drop _ list body (ends-drop (leading_spaces list) list list ([], refl)))
+cut_before-lies zero list = last_cut-lies list
+cut_before-lies (suc others) list = cut_value-lies list (before_byte equals_byte (without_spaces list)) _ (ends_after_equals list)
 
 -- the first value and the rest don't overlap within the list
-pub cut_of-within : (list : List ℕ) → (cut_of list).value_start + length (cut_of list).value + length (cut_of list).rest ≤ length list
-cut_of-within list =
-    let cut = cut_of list in
-    let lies = cut_of-lies list in
+pub cut-within : (list : List ℕ) (cut : PairCut) → LiesIn list cut → cut.value_start + length cut.value + length cut.rest ≤ length list
+cut-within list cut lies =
     let size : length list ≡ length lies.prefix + (length cut.value + (length lies.middle + length cut.rest)) =
     ap length lies.parts ∙ simp length-append in
     omega (arith, size, lies.value_start)
 
 -- all before the rest, and the same with the first pair lowercased
-abbrev before_rest : (list : List ℕ) → LiesIn list (cut_of list) → List ℕ
-before_rest list lies = lies.prefix ++ ((cut_of list).value ++ lies.middle)
+abbrev before_rest : (list : List ℕ) (cut : PairCut) → LiesIn list cut → List ℕ
+before_rest list cut lies = lies.prefix ++ (cut.value ++ lies.middle)
 
-abbrev pub first_lowered : (list : List ℕ) → LiesIn list (cut_of list) → List ℕ
-first_lowered list lies = lowered lies.prefix ++ (lowered_value (cut_of list).name (cut_of list).value ++ lies.middle)
-
--- the list is that and the rest
-before_rest-joined : (list : List ℕ) (lies : LiesIn list (cut_of list)) → before_rest list lies ++ (cut_of list).rest ≡ list
-before_rest-joined list lies = sym (lies.parts ∙ simp append_assoc)
+-- All before the rest, with the pair lowercased.
+abbrev pub first_lowered : (list : List ℕ) (cut : PairCut) → LiesIn list cut → List ℕ
+first_lowered list cut lies = lowered lies.prefix ++ (lowered_value cut.name cut.value ++ lies.middle)
 
 -- a list with its first pair lowercased is that pair lowercased, and the rest
-pub lowered_first-joined : (list : List ℕ) (lies : LiesIn list (cut_of list))
-    → lowered_first list ≡ first_lowered list lies ++ (cut_of list).rest
-lowered_first-joined list lies =
-    let cut = cut_of list in
+pub lowered_first-joined : (list : List ℕ) (cut : PairCut) (lies : LiesIn list cut)
+    → lowered_first cut list ≡ first_lowered list cut lies ++ cut.rest
+lowered_first-joined list cut lies =
     let prefix : take cut.value_start list ≡ lies.prefix =
     rw (lies.value_start) (ap (take (length lies.prefix)) lies.parts ∙ take_at lies.prefix _ (length lies.prefix) refl) in
     let back : drop (cut.value_start + length cut.value) list ≡ lies.middle ++ cut.rest =
@@ -163,36 +157,34 @@ lowered_first-joined list lies =
     rw (prefix, back) (simp append_assoc)
 
 -- only capitals are made small
-first_lowered-in_part : (list : List ℕ) (lies : LiesIn list (cut_of list))
-    → IsLoweredInPart (before_rest list lies) (first_lowered list lies)
-first_lowered-in_part list lies =
-    let cut = cut_of list in
+first_lowered-in_part : (list : List ℕ) (cut : PairCut) (lies : LiesIn list cut)
+    → IsLoweredInPart (before_rest list cut lies) (first_lowered list cut lies)
+first_lowered-in_part list cut lies =
     in_parts _ _ _ _ (lowercase lies.prefix)
     (in_parts _ _ _ _ (lowered_value-either (IsLoweredInPart cut.value) cut.name cut.value (same cut.value) (lowercase cut.value))
     (same lies.middle))
 
--- lowercasing the first pair keeps the position of the rest
-length-first_lowered : (list : List ℕ) (lies : LiesIn list (cut_of list))
-    → length (first_lowered list lies) + length (cut_of list).rest ≡ length list
-length-first_lowered list lies = grind (arith, common_steps)
-
 -- the list with its first pairs lowercased: the first, and then the others
-pub lowered_within-first : (count : ℕ) (list : List ℕ) (lies : LiesIn list (cut_of list))
-    → lowered_within (suc count) list ≡ first_lowered list lies ++ lowered_within count (cut_of list).rest
+pub lowered_within-first : (count : ℕ) (list : List ℕ) (lies : LiesIn list (cut_before count list)) → let cut = cut_before count list in
+    lowered_within (suc count) list ≡ first_lowered list cut lies ++ lowered_within count cut.rest
 lowered_within-first count list lies =
-    let rest = (cut_of list).rest in
-    ap (λ x. x ++ lowered_within count rest)
-    (ap (take (length list - length rest)) (lowered_first-joined list lies)
-    ∙ take_at (first_lowered list lies) rest (length list - length rest) (omega (arith, length-first_lowered list lies)))
+    let cut = cut_before count list in
+    let size = length list - length cut.rest in
+    let whole : length (first_lowered list cut lies) + length cut.rest ≡ length list = grind (arith, common_steps) in
+    ap (λ x. x ++ lowered_within count cut.rest)
+    (ap (take size) (lowered_first-joined list cut lies)
+    ∙ take_at (first_lowered list cut lies) cut.rest size (omega (arith, whole)))
 
 -- the pairs of any list, lowercased, are the list with some parts lowercased
 pub lowered_within-in_part : (count : ℕ) (list : List ℕ) → IsLoweredInPart list (lowered_within count list)
 lowered_within-in_part zero list = same list
 lowered_within-in_part (suc count) list =
-    let lies = cut_of-lies list in
-    let parts = in_parts _ _ _ _ (first_lowered-in_part list lies) (lowered_within-in_part count (cut_of list).rest) in
-    subst (λ x. IsLoweredInPart x (lowered_within (suc count) list)) (before_rest-joined list lies)
-    (subst (IsLoweredInPart (before_rest list lies ++ (cut_of list).rest)) (sym (lowered_within-first count list lies)) parts)
+    let cut = cut_before count list in
+    let lies = cut_before-lies count list in
+    let whole : before_rest list cut lies ++ cut.rest ≡ list = sym (lies.parts ∙ simp append_assoc) in
+    let parts = in_parts _ _ _ _ (first_lowered-in_part list cut lies) (lowered_within-in_part count cut.rest) in
+    subst (λ x. IsLoweredInPart x (lowered_within (suc count) list)) whole
+    (subst (IsLoweredInPart (before_rest list cut lies ++ cut.rest)) (sym (lowered_within-first count list lies)) parts)
 
 -- ---- the pairs that are left, and what is looked up in them
 
@@ -200,10 +192,6 @@ lowered_within-in_part (suc count) list =
 pub pairs_within-first : (count : ℕ) (list : List ℕ) → count ≢ 0
     → pairs_within count list ≡ ((cut_of list).name, (cut_of list).value) ∷ pairs_within (count - 1) (cut_of list).rest
 pairs_within-first count list some = search rules
-
--- a cut keeps the name before the equals sign
-pub cut_after_equals-name : (size : ℕ) (name text : List ℕ) → (cut_after_equals size name text).name ≡ name
-cut_after_equals-name size name text = search rules
 
 -- a part of a cut by the name and what follows the equals sign is that of the whole cut
 pub cut_of-part : {X : Type 0} (part : PairCut → X) (list name back : List ℕ) (size : ℕ) (x : X) → size ≡ length list
@@ -216,14 +204,11 @@ cut_of-part part list name back size x size_is name_is back_is is =
 -- the cut of a list has the name before its first equals sign
 pub cut_of-name : (list name : List ℕ) → name ≡ before_byte equals_byte (without_spaces list) → name ≡ (cut_of list).name
 unfolding cut_of
-cut_of-name list name is = is ∙ sym (cut_after_equals-name (length list) _ (after_byte equals_byte (without_spaces list)))
-
--- what is found in a list: the first value, if its name is accepted
-pub found-first : (Accepts : List ℕ → Bool → Type 0) (count : ℕ) (list value : List ℕ) (flag : Bool) → count ≢ 0
-    → Accepts (cut_of list).name true → value ≡ (cut_of list).value → flag ≡ bytes_eq (cut_of list).name (codes "charset")
-    → IsFirstAccepted Accepts (items_of (pairs_within count list)) (Some (value, flag))
-found-first Accepts count list value flag some accepted valued flagged =
-    rw (pairs_within-first count list some) (λ _. cc (valued, flagged), λ other. absurd (other accepted))
+cut_of-name list name is =
+    let after = after_byte equals_byte (without_spaces list) in
+    let named : (cut_after_equals (length list) (before_byte equals_byte (without_spaces list)) after).name
+    ≡ before_byte equals_byte (without_spaces list) = search rules in
+    is ∙ sym named
 
 -- if the first name isn't accepted, what is found in a list is what is found in the rest
 pub found-next : (Accepts : List ℕ → Bool → Type 0) (count : ℕ) (list : List ℕ) (found : Option (List ℕ × Bool))

@@ -4,7 +4,7 @@ use Rattle.std.specs.Prelude.{slice_get, MatchOption, if◌then◌else◌, ◌==
 use Rattle.std.specs.{Option.option_or, List.AllByRecursion, Str.IsCharBoundary, Str.bytes_eq}
 use Rattle.std.proofs.{lemmas.Bool.cond_both, lemmas.Bool.cases_lt, lemmas.Bool.eqb-true, lemmas.Bool.eqb-false, lemmas.Option.same_Some, lemmas.Option.none-some, lemmas.Option.slice_get_within, lemmas.Option.get_or_from_slice_get, lemmas.Option.MatchOption-at_some, lemmas.Str.IsCharBoundary-end, lemmas.Str.IsCharBoundary-before_ascii}
 use Rattle.mime.specs.{Bytes.slash_byte, Bytes.plus_byte, Bytes.equals_byte, Values.lowered, Values.last_plus, Values.MediaType, Values.Reads, Laws.HasNoPlusFrom, Laws.PlusIsLast, Inner.Pairs.PairCut, Inner.Pairs.cut_of, Inner.Pairs.cut_after_equals, Inner.Pairs.without_spaces, Inner.Pairs.pairs_within, Items.items_of, Items.IsLowItem, Items.IsLowIf, Items.IsFirstAccepted, Inner.KeptText.lowered_pair, Inner.KeptText.AreLowPairs, Inner.KeptText.media_of, Inner.KeptText.IsKept, Comparison.Same, declared.scan.Positions.Positions}
-use Rattle.mime.proofs.{BytesLemmas.slice_get-after, BytesLemmas.slice_get-prefix, BytesLemmas.boundary_after, LowercaseLemmas.lowered-lowered, LowercaseLemmas.lowered-append, LowercaseLemmas.lowered_value-lowered, LowercaseLemmas.low_pair-parts, LowercaseLemmas.length-tail_lowered, LowercaseLemmas.pairs_of_tail-lowered, ValueLemmas.KeptText.media_of-kept, ValueLemmas.Pairs.pairs_within-first, ValueLemmas.Pairs.cut_of-part, ValueLemmas.Pairs.cut_of-name, ValueLemmas.Pairs.found-first, GrammarLemmas.Readings.one_reading}
+use Rattle.mime.proofs.{BytesLemmas.slice_get-after, BytesLemmas.slice_get-prefix, BytesLemmas.boundary_after, LowercaseLemmas.lowered-lowered, LowercaseLemmas.lowered-append, LowercaseLemmas.lowered_value-lowered, LowercaseLemmas.low_pair-parts, LowercaseLemmas.length-tail_lowered, LowercaseLemmas.pairs_of_tail-lowered, ValueLemmas.KeptText.media_of-kept, ValueLemmas.KeptText.reads-from_kept, ValueLemmas.Pairs.pairs_within-first, ValueLemmas.Pairs.cut_of-part, ValueLemmas.Pairs.cut_of-name, GrammarLemmas.Readings.one_reading}
 use Rattle.mime_search.proofs.IgnoringCase.{length-lowered, lowered-drop}
 use Rattle.mime_search.specs.Rests.{before_byte, after_byte}
 
@@ -37,10 +37,6 @@ last_plus-is_last text below from (b ∷ bytes) above view =
         (λ beyond. none position beyond there)
         (cases_lt position (from + 1)))
 
--- a byte after the first of a list
-slice_get-drop : (bytes : List ℕ) (i : ℕ) → slice_get bytes (suc i) ≡ slice_get (drop 1 bytes) i
-slice_get-drop bytes i = search rules
-
 -- the plus of a value is the last one
 pub plus_is_last : PlusIsLast
 plus_is_last text value reads =
@@ -49,7 +45,7 @@ plus_is_last text value reads =
     let slash = length reads.tree.top in
     let view : (i : ℕ) → slice_get (top ++ (slash_byte ∷ sub)) (slash + 2 + i) ≡ slice_get (drop 1 sub) i =
     λ i. slice_get-after top (slash_byte ∷ sub) (suc (suc i)) _ (omega (arith, length-lowered reads.tree.top))
-    ∙ slice_get-drop sub i in
+    ∙ search rules in
     subst (λ (v : MediaType). IsLastPlus v.essence (v.slash + 1) (v.slash + 2) v.plus) reads.valued
     (last_plus-is_last (top ++ (slash_byte ∷ sub)) (slash + 1) (slash + 2) (drop 1 sub) (omega arith) view)
 
@@ -143,7 +139,8 @@ first_value-found Accepts count list name back value flag some low name_is back_
     let flagged : flag ≡ bytes_eq cut.name (codes "charset") = flag_is ∙ ap (λ n. bytes_eq n (codes "charset")) named in
     let items = items_of-low ((cut.name, cut.value) ∷ pairs_within (count - 1) cut.rest)
     (subst AreLowPairs (pairs_within-first count list some) low) in (
-      found-first Accepts count list value flag some (subst (λ n. Accepts n true) named accepted) valued flagged,
+      rw (pairs_within-first count list some)
+          (λ _. cc (valued, flagged), λ other. absurd (other (subst (λ n. Accepts n true) named accepted))),
       rw (valued, flagged) items.0.1,
     )
 
@@ -164,6 +161,13 @@ pub same_from_text : (text other : List ℕ) (x y : MediaType) → Reads text x 
 same_from_text text other x y reads also is =
     let one : x ≡ y = one_reading other x y (subst (λ t. Reads t x) is reads) also in
     (ap (λ m. m.essence) one, ap (λ m. m.pairs) one)
+
+-- Kept texts that are the same are kept texts of equal values.
+pub same_from_kept : (text other : List ℕ) (positions places : Positions) (first second : MediaType) → IsKept text positions
+    → IsKept other places → media_of text positions ≡ first → media_of other places ≡ second → text ≡ other → Same first second
+same_from_kept text other positions places first second kept also is there same =
+    subst (Same first) there (subst (λ x. Same x (media_of other places)) is
+    (same_from_text text other _ _ (reads-from_kept text positions kept) (reads-from_kept other places also) same))
 
 -- without pairs the kept text is the essence
 pub kept-essence : (x : MediaType) (text : List ℕ) → Reads text x → length x.pairs ≡ 0 → x.kept ≡ x.essence

@@ -1,33 +1,15 @@
 -- A word says where the plus is, since that is never at position 0, and one where the essence ends, since a kept text has a semicolon
 -- exactly if it has a pair. And a text that is read as a value with a parameter has its parts where that value has them.
-use Rattle.std.proofs.Common.{◌≡◌, ℕ, zero, suc, ◌+◌, ◌≤◌, List, [], ◌∷◌, length, drop, Option, Some, None, refl, ap, sym, ◌∙◌, subst, arith}
-use Rattle.std.specs.Prelude.{◌≢◌, IfSome, if◌then◌else◌, ◌==◌}
-use Rattle.std.specs.Option.{option_or}
-use Rattle.std.proofs.lemmas.Bool.{cond_both}
-use Rattle.mime.specs.{Bytes.plus_byte, Grammar.Tail, Grammar.no_list, Grammar.listed, Grammar.text_of, Values.MediaType, Values.Reads, Values.kept_text, Values.lowered_tree, Values.last_plus, Values.pairs_of_tail, Inner.Scanning.HasPositions, Inner.Scanning.positions_of, Inner.KeptText.IsKept, Inner.KeptText.kept_positions, declared.scan.Positions.Positions}
-use Rattle.mime.proofs.{LowercaseLemmas.positions_of-lowered_tree, LowercaseLemmas.IsWellFormed-lowered_tree, GrammarLemmas.Readings.one_tree, ValueLemmas.KeptText.value_of_low, ValueLemmas.KeptText.value_of-lowering, ValueLemmas.KeptText.length-essence_of}
+use Rattle.std.proofs.Common.{◌≡◌, ℕ, zero, suc, List, [], ◌∷◌, length, Some, refl, ap, sym, ◌∙◌, subst, arith}
+use Rattle.std.specs.Prelude.{◌≢◌}
+use Rattle.mime.specs.{Grammar.Tail, Grammar.no_list, Grammar.listed, Grammar.text_of, Values.MediaType, Values.Reads, Values.kept_text, Values.lowered_tree, Values.pairs_of_tail, Inner.Scanning.HasPositions, Inner.Scanning.positions_of, Inner.KeptText.IsKept, Inner.KeptText.media_of, Inner.KeptText.kept_positions, declared.scan.Positions.Positions}
+use Rattle.mime.proofs.{LowercaseLemmas.positions_of-lowered_tree, LowercaseLemmas.IsWellFormed-lowered_tree, GrammarLemmas.Readings.one_tree, ValueLemmas.KeptText.value_of_low, ValueLemmas.KeptText.reads-from_kept, ValueLemmas.Parts.plus_in, ValueLemmas.KeptText.value_of-lowering, ValueLemmas.KeptText.length-essence_of}
 
--- the last plus is none of the bytes before those that are searched
-last_plus-from : (at : ℕ) (bytes : List ℕ) → IfSome (last_plus at bytes) (λ plus. at ≤ plus)
-last_plus-from at [] = tt
-last_plus-from at (b ∷ bytes) = with_rest (last_plus (at + 1) bytes) (last_plus-from (at + 1) bytes)
-  where
-    with_rest : (rest : Option ℕ) → IfSome rest (λ plus. at + 1 ≤ plus)
-        → IfSome (option_or rest (if b == plus_byte then Some at else None)) (λ plus. at ≤ plus)
-    with_rest (Some position) above = omega (arith, above)
-    with_rest None above =
-        cond_both (b == plus_byte) (Some at) None (λ found. IfSome found (λ plus. at ≤ plus)) (λ _. omega arith) (λ _. tt)
-
--- a position after a given one isn't 0
-not_zero : (from : ℕ) (found : Option ℕ) → 1 ≤ from → IfSome found (λ position. from ≤ position) → found ≢ Some 0
-not_zero from found above is at_zero = absurd (omega (arith, above, subst (λ f. IfSome f (λ position. from ≤ position)) at_zero is))
-
--- the plus of an accepted text isn't at position 0
-pub plus-not_zero : (text : List ℕ) (positions : Positions) → HasPositions text positions → positions.plus ≢ Some 0
-plus-not_zero text positions has =
-    let top = length has.tree.top in
-    subst (λ (p : Positions). p.plus ≢ Some 0) has.same_positions
-    (not_zero (top + 2) _ (omega arith) (last_plus-from (top + 2) (drop 1 has.tree.sub)))
+-- the plus of a kept text isn't at position 0
+pub plus-not_zero : (text : List ℕ) (positions : Positions) → IsKept text positions → positions.plus ≢ Some 0
+plus-not_zero text positions is_kept is =
+    let at = plus_in text _ (media_of text positions) 0 (reads-from_kept text positions is_kept) refl is in
+    absurd (omega (arith, at.above))
 
 -- the positions in a text that is read as a value with a parameter
 pub read-positions : (text : List ℕ) (value : MediaType) → Reads text value → length value.pairs ≢ 0

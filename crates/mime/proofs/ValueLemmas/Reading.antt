@@ -1,17 +1,12 @@
 -- What reading a text answers, and that the constant media types are stored with their positions.
 use Rattle.std.proofs.Common.{◌≡◌, ℕ, List, [], ◌∷◌, refl, sym, ap, ◌∙◌, subst, ◌+◌, length, take, drop, Option, Some, None, codes, rules}
-use Rattle.std.specs.Prelude.{◌<◌, codes, unwrap_or}
-use Rattle.mime.specs.{Bytes.is_token_byte, Bytes.space_byte, Grammar.SyntaxTree, Grammar.no_list, Grammar.plain, Grammar.final, Grammar.Tail, Grammar.listed, Grammar.text_of, Grammar.IsToken, Grammar.IsTail, Values.value_of, Values.IsAccepted, Values.IsRejected, Values.lowered_tree, Faults.IsFault, Faults.Explains, Inner.Scanning.HasPositions, Inner.Scanning.positions_of, Inner.KeptText.IsKept, Inner.KeptText.kept_positions, Inner.KeptText.kept_text_of, Inner.KeptText.positions_in, declared.scan.fault.ParseError.ParseError, declared.scan.fault.ParseError.TheVariants.InvalidToken, declared.scan.fault.ParseError.TheVariants.NoMemory, declared.scan.Positions.Positions, Atoms.atom_text, declared.atoms.Atom.Atom, declared.atoms.Atom.TheVariants.STAR_STAR}
-use Rattle.mime.proofs.{GrammarLemmas.Readings.one_tree, ValueLemmas.KeptText.kept_reads, ValueLemmas.KeptText.reads_as, GrammarLemmas.Viability.rejected-at_dead, GrammarLemmas.Faults.completed_is_rejected}
+use Rattle.std.specs.Prelude.{codes, unwrap_or}
+use Rattle.mime.specs.{Bytes.is_token_byte, Bytes.space_byte, Grammar.SyntaxTree, Grammar.no_list, Grammar.plain, Grammar.final, Grammar.Tail, Grammar.listed, Grammar.text_of, Grammar.IsToken, Grammar.IsTail, Values.value_of, Values.IsAccepted, Values.IsRejected, Values.lowered_tree, Faults.IsFault, Faults.Explains, Inner.Scanning.HasPositions, Inner.Scanning.positions_of, Inner.KeptText.IsKept, Inner.KeptText.kept_positions, Inner.KeptText.positions_in, declared.scan.fault.ParseError.ParseError, declared.scan.fault.ParseError.TheVariants.InvalidToken, declared.scan.Positions.Positions, Atoms.atom_text, declared.atoms.Atom.Atom, declared.atoms.Atom.TheVariants.STAR_STAR}
+use Rattle.mime.proofs.{GrammarLemmas.Readings.one_tree, ValueLemmas.KeptText.reads_as, GrammarLemmas.Viability.rejected-at_dead, GrammarLemmas.Faults.completed_is_rejected}
 
 -- a text with positions of its parts is accepted
 pub accepted-from_positions : (text : List ℕ) (positions : Positions) → HasPositions text positions → IsAccepted text
 accepted-from_positions text positions has = (value_of has.tree, reads_as has refl)
-
--- Running out of memory is explained if a long text is kept.
-pub Explains-no_memory : (text : List ℕ) (positions : Positions) → HasPositions text positions
-    → 40 < length (kept_text_of positions.pair_count positions.semicolon text) → Explains text NoMemory
-Explains-no_memory text positions has long = (_, kept_reads text positions has, long)
 
 -- a text with a fault is rejected
 pub rejected-from_fault : (text : List ℕ) (fault : ParseError) → IsFault text fault → IsRejected text

@@ -1,12 +1,12 @@
 -- The pairs of a parameter list's text, cut from the left.
-use Rattle.std.specs.Prelude.{◌≡◌, ℕ, zero, suc, Bool, ◌+◌, ◌-◌, List, [], ◌∷◌, ◌++◌, length, take, drop, Option, None, Some, if◌then◌else◌, ◌==◌}
+use Rattle.std.specs.Prelude.{ℕ, zero, suc, Bool, ◌+◌, ◌-◌, List, [], ◌∷◌, ◌++◌, length, take, drop, Option, None, Some, if◌then◌else◌, ◌==◌}
 use Rattle.std.specs.Borrow.{Bor}
 use Rattle.std.specs.List.{prefix_len, list_any}
 use Rattle.mime_search.specs.Rests.{before_byte, after_byte}
 use Rattle.mime.specs.Bytes.{semicolon_byte, equals_byte, quote_byte}
-use Rattle.mime.specs.Grammar.{Parameters, AreParameters, text_of_list, is_space}
+use Rattle.mime.specs.Grammar.{is_space}
 use Rattle.mime.specs.Inner.Quoted.{content_of, after_content}
-use Rattle.mime.specs.Values.{lowered, lowered_value, pairs_of_list}
+use Rattle.mime.specs.Values.{lowered, lowered_value}
 
 -- the first pair of a list: its name, the number of bytes before its value, its value without
 -- quotes, and the list after its semicolon
@@ -38,9 +38,17 @@ cut_of list =
     let body = without_spaces list in
     cut_after_equals (length list) (before_byte equals_byte body) (after_byte equals_byte body)
 
--- the text is that of a well-formed list with this number of pairs
-abbrev pub HasPairs : ℕ → List ℕ → Type 0
-HasPairs count text = (list : Parameters) × AreParameters list × (text_of_list list ≡ text) × (length (pairs_of_list list) ≡ count)
+-- the last pair of a list, with all that follows its equals sign as its value
+abbrev pub last_cut : List ℕ → PairCut
+last_cut list =
+    let body = without_spaces list in
+    let end = after_byte equals_byte body in
+    record { name = before_byte equals_byte body; value_start = length list - length end; value = end; rest = [] }
+
+-- the first pair of a list, before this number of others
+abbrev pub cut_before : ℕ → List ℕ → PairCut
+cut_before zero list = last_cut list
+cut_before (suc others) list = cut_of list
 
 -- whether there is an equals sign in a text
 abbrev pub has_equals : List ℕ → Bool
@@ -60,15 +68,14 @@ pairs_after count (Some semicolon) text = pairs_within count (drop (semicolon + 
 abbrev pub pair_seen : Bor (List ℕ) × Bor (List ℕ) → List ℕ × List ℕ
 pair_seen (name, value) = (name.now, value.now)
 
--- the list with all before its first value lowercased, and that value too under `charset`
-abbrev pub lowered_first : List ℕ → List ℕ
-lowered_first list =
-    let cut = cut_of list in
+-- the list with all before a pair's value lowercased, and that value too under `charset`
+abbrev pub lowered_first : PairCut → List ℕ → List ℕ
+lowered_first cut list =
     lowered (take cut.value_start list) ++ (lowered_value cut.name cut.value ++ drop (cut.value_start + length cut.value) list)
 
 -- the list with this number of its first pairs lowercased in this way
 abbrev pub lowered_within : ℕ → List ℕ → List ℕ
 lowered_within zero list = list
 lowered_within (suc count) list =
-    let rest = (cut_of list).rest in
-    take (length list - length rest) (lowered_first list) ++ lowered_within count rest
+    let cut = cut_before count list in
+    take (length list - length cut.rest) (lowered_first cut list) ++ lowered_within count cut.rest

@@ -9,8 +9,9 @@ ghost use Rattle.mime.specs.Inner.Scanning.{GivesFirst, Passing, PassesPluses, R
 ghost use Rattle.mime_search.specs.Classes.{is_stop};
 
 use crate::bytes::{is_in_token, is_token};
-use crate::scan::runs::{QUOTED_TEXT_STOPS, TOKEN_STOPS};
-use mime_search::{BLOCK, Class, WINDOW, first_stop_far, stops_at_start, stops_in_window};
+use mime_search::{
+    BLOCK, Class, TEXT_STOPS, TOKEN_STOPS, WINDOW, first_stop_far, stops_at_start, stops_in_window,
+};
 use std::marker::Model;
 
 /// A reader of a string's bytes, which counts the bytes that it has returned or skipped.
@@ -289,7 +290,7 @@ impl<'a> ByteReader<'a> {
         ensures { Passing is_quoted_text_byte self.old self.new }
     {
         if self.at < self.known && self.text[self.at] != b'"' {
-            self.skip_blocks(&QUOTED_TEXT_STOPS);
+            self.skip_blocks(&TEXT_STOPS);
         }
     }
 

@@ -5,11 +5,10 @@ ghost use Rattle.mime.specs.Bytes.{semicolon_byte};
 ghost use Rattle.mime.specs.Values.{lowered, is_charset};
 ghost use Rattle.mime.specs.Inner.Scanning.{HasPositions};
 ghost use Rattle.mime.specs.Inner.KeptText.{with_pairs_lowered, kept_positions, kept_text_of};
-ghost use Rattle.mime.specs.Inner.Pairs.{HasPairs};
 
 use crate::name::constants::CHARSET;
 use crate::scan::Positions;
-use crate::value::pairs::{Pairs, cut, cut_name};
+use crate::value::pairs::{Pairs, cut_before};
 use mime_search::{BLOCK, Rest, eq_ignore_ascii_case};
 use std::alloc::{AllocError, Global};
 
@@ -24,14 +23,6 @@ pub(crate) fn has_capital(bytes: &[u8]) -> bool
         found |= byte.is_ascii_uppercase();
     }
     found
-}
-
-/// Returns `true` if a parameter's name is `charset`, ignoring ASCII case.
-#[inline]
-fn names_charset(name: &str) -> bool
-    ensures { result ≡ is_charset name.now }
-{
-    eq_ignore_ascii_case(name.as_bytes(), CHARSET.text.as_bytes())
 }
 
 /// Lowercases `bytes[from..to]`.
@@ -60,12 +51,16 @@ fn lowercase_start(bytes: &mut [u8], len: usize)
 }
 
 /// Returns how many of the `len` bytes of a parameter's value are lowercased: all if the parameter's name is `charset`,
-/// else none.
+/// ignoring ASCII case, else none.
 #[inline(always)]
 fn low_len(name: &str, len: usize) -> usize
     ensures { result ≡ if is_charset name.now then len else 0 }
 {
-    if names_charset(name) { len } else { 0 }
+    if eq_ignore_ascii_case(name.as_bytes(), CHARSET.text.as_bytes()) {
+        len
+    } else {
+        0
+    }
 }
 
 /// Lowercases everything up to position `semicolon`, the names of the `count` pairs, and the values of `charset`. `bytes`
@@ -76,7 +71,6 @@ fn low_len(name: &str, len: usize) -> usize
 pub(crate) fn lowercase_text(bytes: &mut [u8], text: &str, semicolon: usize, count: usize)
     requires same { bytes.old ≡ text.now }
     requires parted { slice_get text.now semicolon ≡ Some semicolon_byte }
-    requires pairs { HasPairs count (drop (semicolon + 1) text.now) }
     requires some { 0 < count }
     ensures { bytes.new ≡ with_pairs_lowered count semicolon text.now }
 {
@@ -87,18 +81,16 @@ pub(crate) fn lowercase_text(bytes: &mut [u8], text: &str, semicolon: usize, cou
     }
     let mut left = Rest::of(text, semicolon + 1);
     let mut from = 0;
-    for _ in 1..count {
+    let mut others = count;
+    while others != 0 {
+        others -= 1;
         let start = bytes.len() - left.len();
-        let pair = cut(&left);
+        let pair = cut_before(&left, others);
         let low = pair.value_start + low_len(pair.name, pair.value.len());
         lowercase_start(&mut bytes[from..], start - from + low);
         from = bytes.len() - pair.rest.len();
         left = pair.rest;
     }
-    // Where the last value ends isn't needed, since no capital follows it.
-    let (name, end) = cut_name(&left);
-    let low = bytes.len() - end.len() + low_len(name, end.len());
-    lowercase_start(&mut bytes[from..], low - from);
 }
 
 /// Returns the kept text of a string with `count` pairs after position `semicolon`. Only the parts that ignore case are lowercased.
@@ -110,7 +102,6 @@ fn keep_pairs(
     count: usize,
 ) -> Result<String, AllocError>
     requires parted { slice_get text.now semicolon ≡ Some semicolon_byte }
-    requires pairs { HasPairs count (drop (semicolon + 1) text.now) }
     requires some { 0 < count }
     ensures { IfOk result (λ kept. string_bytes kept ≡ with_pairs_lowered count semicolon text.now) }
 {

@@ -4,7 +4,7 @@ ghost use Rattle.std.specs.Iterator.{YieldsFirstBy, item_count, UpTo, at_most};
 ghost use Rattle.std.specs.Iterator.SizeHint.{IsWithinCount};
 ghost use Rattle.std.specs.Prelude.{ℕ, List, ◌≡◌, ◌≢◌, ◌↔◌, ◌<◌, ◌≤◌, ◌+◌, [], true, false, IsTrue, length, take, drop, slice_get, IfSome, Some, None, option_map};
 ghost use Rattle.mime_search.specs.Rests.{before_byte, after_byte, first_position};
-ghost use Rattle.mime.specs.Inner.Pairs.{cut_of, leading_spaces, without_spaces, cut_after_equals, has_equals, pairs_after, pair_seen};
+ghost use Rattle.mime.specs.Inner.Pairs.{cut_of, cut_before, leading_spaces, without_spaces, cut_after_equals, has_equals, pairs_after, pair_seen};
 ghost use Rattle.mime.specs.Bytes.{quote_byte, semicolon_byte, equals_byte};
 ghost use Rattle.mime.specs.Inner.ComparedText.{IsLoneCharset};
 ghost use Rattle.mime.specs.Inner.Quoted.{content_len, content_of, after_content};
@@ -146,7 +146,7 @@ fn without_spaces<'a>(list: &Rest<'a>) -> Rest<'a>
 
 /// Cuts the first name and the white space before it off a list. Returns the name, and the rest after its equals sign.
 #[inline(always)]
-pub(crate) fn cut_name<'a>(list: &Rest<'a>) -> (&'a str, Rest<'a>)
+fn cut_name<'a>(list: &Rest<'a>) -> (&'a str, Rest<'a>)
     ensures name { result.0.now ≡ before_byte equals_byte (without_spaces list.now) }
     ensures rest { result.1 ≡ after_byte equals_byte (without_spaces list.now) }
 {
@@ -178,7 +178,7 @@ fn cut_name_of_size<'a>(list: &Rest<'a>, size: usize) -> Option<(&'a str, Rest<'
 /// Cuts the first pair off a list.
 #[tactic(auto, unfolding(crate::specs::Inner::Pairs::cut_of))]
 #[inline(always)]
-pub(crate) fn cut<'a>(list: &Rest<'a>) -> Pair<'a>
+fn cut<'a>(list: &Rest<'a>) -> Pair<'a>
     ensures name { result.name.now ≡ (cut_of list.now).name }
     ensures value_start { result.value_start ≡ (cut_of list.now).value_start }
     ensures value { result.value.now ≡ (cut_of list.now).value }
@@ -186,6 +186,27 @@ pub(crate) fn cut<'a>(list: &Rest<'a>) -> Pair<'a>
 {
     let (name, rest) = cut_name(list);
     cut_value(list.len(), name, &rest)
+}
+
+/// Cuts the first pair off a list that has this number of other pairs. If there are none, the end of the value isn't
+/// searched: the value is all that follows the equals sign.
+#[inline(always)]
+pub(crate) fn cut_before<'a>(list: &Rest<'a>, others: usize) -> Pair<'a>
+    ensures name { result.name.now ≡ (cut_before others list.now).name }
+    ensures value_start { result.value_start ≡ (cut_before others list.now).value_start }
+    ensures value { result.value.now ≡ (cut_before others list.now).value }
+    ensures rest { result.rest ≡ (cut_before others list.now).rest }
+{
+    if others != 0 {
+        return cut(list);
+    }
+    let (name, end) = cut_name(list);
+    Pair {
+        name,
+        value_start: list.len() - end.len(),
+        value: end.text(),
+        rest: end.after(end.len()),
+    }
 }
 
 /// Returns `true` if a key accepts a parameter's name.

@@ -6,7 +6,6 @@ ghost use Rattle.mime.specs.Bytes.{semicolon_byte};
 ghost use Rattle.mime.specs.Values.{lowered};
 ghost use Rattle.mime.specs.Inner.Scanning.{HasPositions};
 ghost use Rattle.mime.specs.Inner.KeptText.{kept_text_of, with_pairs_lowered};
-ghost use Rattle.mime.specs.Inner.Pairs.{HasPairs};
 
 use crate::scan::Positions;
 use crate::value::kept::{has_capital, lowercase_text};
@@ -54,7 +53,6 @@ fn lowercase_pairs(block: &mut [u8; PADDED], text: &str, semicolon: usize, count
     requires short { length text.now ≤ SHORT }
     requires same { take (length text.now) block.old ≡ text.now }
     requires parted { slice_get text.now semicolon ≡ Some semicolon_byte }
-    requires pairs { HasPairs count (drop (semicolon + 1) text.now) }
     requires some { 0 < count }
     ensures lowered { take (length text.now) block.new ≡ with_pairs_lowered count semicolon text.now }
     ensures rest { drop (length text.now) block.new ≡ drop (length text.now) block.old }

@@ -1,10 +1,10 @@
 -- Quoted text, and a backslash with the byte that it pairs, were passed; what isn't taken ends the content.
 use Rattle.std.proofs.Common.{sym, ◌∙◌}
-use Rattle.mime.proofs.ScanLemmas.Passing.{passes_then, taking_none, taking_backslash, taking_paired, content_pair, content_text}
+use Rattle.mime.proofs.ScanLemmas.Passing.{passes_to, reached, taking_none, taking_backslash, taking_paired, content_pair, content_text}
 use Rattle.mime.proofs.scan.content.Goals as goal
 
 pub loop-stop-init : goal.loop-stop-init
-loop-stop-init c = (_, taking_none _, passes_then c.skip_quoted_text.ensures c.quoted_text-stop.ensures)
+loop-stop-init c = (_, taking_none _, passes_to _ (λ _ is. is) c.skip_quoted_text.ensures (reached c.quoted_text-stop.ensures) c.quoted_text-stop.ensures.stopped)
 
 pub returns-in_err-paired : goal.returns-in_err-paired
 returns-in_err-paired c =

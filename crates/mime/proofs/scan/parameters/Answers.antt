@@ -1,8 +1,8 @@
 -- Each way out of the loop, and one turn of it.
-use Rattle.std.proofs.Common.{ℕ, List, ◌∷◌, [], None, Some, refl, sym, ap, ◌∙◌, arith, ne_eqb}
-use Rattle.std.proofs.lemmas.Bool.{cond-false}
+use Rattle.std.proofs.Common.{ℕ, List, ◌∷◌, [], None, Some, refl, sym, ap, ◌∙◌, arith, ne_eqb, eq-eqb}
+use Rattle.std.proofs.lemmas.Bool.{cond-false, cond-true}
 use Rattle.mime.specs.{Bytes.quote_byte, Bytes.equals_byte, Grammar.Parameter}
-use Rattle.mime.proofs.{GrammarLemmas.Begun.in_value, ScanLemmas.Passing.given_less, ScanLemmas.Verdicts.ListReaches, ScanLemmas.Verdicts.list_run, ScanLemmas.Verdicts.list_byte, ScanLemmas.Verdicts.list_scans_at, ScanLemmas.Lists.one_pair_more, ScanLemmas.Lists.spaces_walked, ScanLemmas.Lists.name_walked, ScanLemmas.Lists.equals_walked, ScanLemmas.Lists.quotes_walked, ScanLemmas.Lists.Valued, ScanLemmas.Lists.valued_token, ScanLemmas.Lists.valued_quotes, scan.parameters.Goals.In-Some-eq61, scan.parameters.Goals.Joined-first-eq34, scan.parameters.Goals.then-first-eq34+in-Some-eq34, scan.parameters.Goals.else-first-eq34+then-is_token}
+use Rattle.mime.proofs.{GrammarLemmas.Begun.in_value, ScanLemmas.Passing.given_less, ScanLemmas.Verdicts.ListLeads, ScanLemmas.Verdicts.list_run, ScanLemmas.Verdicts.list_byte, ScanLemmas.Verdicts.list_scans_at, ScanLemmas.Lists.one_pair_more, ScanLemmas.Lists.spaces_walked, ScanLemmas.Lists.name_walked, ScanLemmas.Lists.quotes_walked, ScanLemmas.Lists.Valued, ScanLemmas.Lists.valued_token, ScanLemmas.Lists.valued_quotes, scan.parameters.Goals.In-Some-eq61, scan.parameters.Goals.Joined-first-eq34, scan.parameters.Goals.then-first-eq34+in-Some-eq34, scan.parameters.Goals.else-first-eq34+then-is_token}
 use Rattle.mime.proofs.scan.parameters.Goals as goal
 
 pub returns-in_default : goal.returns-in_default
@@ -29,14 +29,14 @@ returns-in-Some-token c =
     (cond-false _ _ _ c.in-Some-token.ensures.stopped ∙ cond-false _ _ _ (ne_eqb _ equals_byte c.in-Some-token.byte-test.1)) refl
 
 -- a parameter's name and its equals sign
-named : (c : In-Some-eq61) → ListReaches c.args.reader.now c.token.new.reader None (record {
+named : (c : In-Some-eq61) → ListLeads c.args.reader.now c.token.new.reader None (record {
   closed = c.loop-first.invariant.closed;
   position = in_value c.in-Some.ensures.run (c.in-Some.first ∷ c.in-Some-eq61.ensures.run) [];
 })
 named c =
-    equals_walked
+    list_byte
     (name_walked c.loop-first.invariant c.in-Some.ensures (sym c.is_token.ensures ∙ c.if-not-is_token.false) c.in-Some-eq61.ensures)
-    c.in-Some-eq61.ensures.stopped c.in-Some-eq61.field-0-test
+    (cond-false _ _ _ c.in-Some-eq61.ensures.stopped ∙ cond-true _ _ _ (eq-eqb _ equals_byte c.in-Some-eq61.field-0-test))
 
 pub returns-in_default-next : goal.returns-in_default-next
 returns-in_default-next c =
@@ -63,7 +63,7 @@ returns-else-is_token c =
 
 -- a parameter's value
 valued : {closed : List (List ℕ × Parameter)} {spaces name : List ℕ} (c : Joined-first-eq34)
-    → ListReaches c.args.reader.now c.token.new.reader None (record { closed = closed; position = in_value spaces name [] })
+    → ListLeads c.args.reader.now c.token.new.reader None (record { closed = closed; position = in_value spaces name [] })
     → Valued closed spaces c.args.reader.now c.token.new.reader c.if-first-eq34.reader c.if-first-eq34.stop
 valued c name =
     elim c.if-first-eq34.branch [

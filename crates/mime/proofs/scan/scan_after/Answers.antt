@@ -1,8 +1,8 @@
 -- Each way out of the scanner, after the first byte.
 use Rattle.std.proofs.Common.{◌≡◌, ℕ, sym, ap, refl, ◌∙◌, ◌∷◌, [], length, Some, None, arith, ne_eqb, eq-eqb}
-use Rattle.std.proofs.lemmas.Bool.{cond-true, cond-false}
+use Rattle.std.proofs.lemmas.Bool.{and_from, cond-true, cond-false}
 use Rattle.mime.specs.{Bytes.slash_byte, Bytes.semicolon_byte, Values.last_plus, declared.scan.Positions.Positions, Inner.Remaining.Remaining, Inner.Scanning.positions_of, Inner.Scanning.before_list, Inner.Scanning.GivesFirst}
-use Rattle.mime.proofs.{GrammarLemmas.Begun.in_type, GrammarLemmas.Begun.in_subtype, ScanLemmas.Verdicts.Reaches, ScanLemmas.Verdicts.reaches_run, ScanLemmas.Verdicts.reaches_byte, ScanLemmas.Verdicts.scans_at, ScanLemmas.Lists.none_walked, ScanLemmas.Lists.type_walked, ScanLemmas.Lists.subtype_walked, ScanLemmas.Lists.Subtyped, ScanLemmas.Lists.essence_is, ScanLemmas.Lists.scans_list, scan.scan_after.Goals.After-position-slash, scan.scan_after.Goals.After-subtype-plus}
+use Rattle.mime.proofs.{GrammarLemmas.Begun.walk_from-subtype, ScanLemmas.Passing.given_then, ScanLemmas.Passing.given_whole, GrammarLemmas.Begun.in_type, GrammarLemmas.Begun.in_subtype, ScanLemmas.Verdicts.Leads, ScanLemmas.Verdicts.reaches_run, ScanLemmas.Verdicts.reaches_byte, ScanLemmas.Verdicts.scans_at, ScanLemmas.Lists.none_walked, ScanLemmas.Lists.type_walked, ScanLemmas.Lists.Subtyped, ScanLemmas.Lists.essence_is, ScanLemmas.Lists.scans_list, scan.scan_after.Goals.After-position-slash, scan.scan_after.Goals.After-subtype-plus}
 use Rattle.mime.proofs.scan.scan_after.Goals as goal
 
 pub returns-then-not-is_token : goal.returns-then-not-is_token
@@ -26,7 +26,7 @@ returns-in-Some c = λ start gives.
 
 -- the slash after the type, and its position
 slashed : (c : After-position-slash) (start : Remaining) → GivesFirst start c.args.reader.now (Some c.args.first)
-    → Reaches (in_type []) start c.token.new.reader None (in_subtype (c.args.first ∷ c.in-Some-eq47.ensures.run) [])
+    → Leads (in_type []) start c.token.new.reader None (in_subtype (c.args.first ∷ c.in-Some-eq47.ensures.run) [])
 slashed c start gives =
     reaches_byte (type_walked gives (sym c.is_token.ensures ∙ c.if-not-is_token.false) c.in-Some-eq47.ensures)
     (cond-false _ _ _ c.in-Some-eq47.ensures.stopped ∙ cond-true _ _ _ (eq-eqb _ slash_byte c.in-Some-eq47.field-0-test))
@@ -56,7 +56,7 @@ returns-then-not-is_token-2 c = λ start gives.
 
 -- the subtype
 subtyped : (c : After-subtype-plus) (start : Remaining) → GivesFirst start c.args.reader.now (Some c.args.first)
-    → Reaches (in_type []) start c.token.new.reader None (in_subtype (c.args.first ∷ c.in-Some-eq47.ensures.run) [])
+    → Leads (in_type []) start c.token.new.reader None (in_subtype (c.args.first ∷ c.in-Some-eq47.ensures.run) [])
     → Subtyped (c.args.first ∷ c.in-Some-eq47.ensures.run) c.in-Some-next.first c.subtype-plus.result.0 start
     c.subtype-plus.new.reader c.subtype-plus.result.1
 subtyped c start gives slash =
@@ -66,8 +66,9 @@ subtyped c start gives slash =
     record {
       others = c.subtype-plus.ensures.passes.run;
       walked =
-          subtype_walked slash c.in-Some-next.ensures (sym c.is_token-2.ensures
-          ∙ c.if-not-is_token-2.false) c.subtype-plus.ensures.passes;
+          reaches_run slash (given_then (given_whole c.in-Some-next.ensures.0) c.subtype-plus.ensures.passes.given)
+          (walk_from-subtype _ _ (and_from _ _ (sym c.is_token-2.ensures ∙ c.if-not-is_token-2.false)
+          c.subtype-plus.ensures.passes.of_class));
       stopped = c.subtype-plus.ensures.passes.stopped;
       plussed =
           c.subtype-plus.ensures.plus

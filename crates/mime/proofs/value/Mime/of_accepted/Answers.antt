@@ -1,6 +1,6 @@
 -- An accepted text is kept, and reads as the value of what is kept.
 use Rattle.std.proofs.Common.{arith}
-use Rattle.mime.proofs.{ValueLemmas.KeptText.kept-from_positions, ValueLemmas.KeptText.kept_reads, ValueLemmas.Reading.Explains-no_memory}
+use Rattle.mime.proofs.{ValueLemmas.KeptText.kept-from_positions, ValueLemmas.KeptText.kept_reads}
 use Rattle.mime.proofs.value.Mime.of_accepted.Goals as goal
 
 pub of_kept-requires : goal.of_kept-requires
@@ -11,4 +11,4 @@ returns-in-Ok-clause-read c = rw (c.of_kept.ensures.media, c.in-Ok.ensures, c.po
 
 pub returns-in-Err-clause-explained : goal.returns-in-Err-clause-explained
 returns-in-Err-clause-explained c =
-    rw c.new.ensures (Explains-no_memory _ _ c.requires (omega (arith, c.kept_len.ensures.kept, c.if-kept_len-le-SHORT.false)))
+    rw c.new.ensures (_, kept_reads _ _ c.requires, omega (arith, c.kept_len.ensures.kept, c.if-kept_len-le-SHORT.false))

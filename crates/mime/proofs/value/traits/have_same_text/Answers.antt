@@ -2,8 +2,8 @@
 use Rattle.std.proofs.Common.{ℕ, Option, None, Some, refl, sym, ap, ◌∙◌, ◌≡◌, false, true≢false}
 use Rattle.std.specs.Prelude.{is_some, not}
 use Rattle.std.specs.Cmp.Lexicographic.{same_text}
-use Rattle.mime.specs.{Inner.KeptBytes.bytes_of, Inner.KeptText.media_of, Inner.KeptPlaces.positions_at}
-use Rattle.mime.proofs.{ValueLemmas.KeptText.reads-from_kept, ValueLemmas.Parts.same_from_text}
+use Rattle.mime.specs.{Values.OwnedMedia, Inner.KeptBytes.bytes_of}
+use Rattle.mime.proofs.ValueLemmas.Parts.{same_from_kept, same_from_text}
 use Rattle.mime.proofs.value.traits.have_same_text.Goals as goal
 
 -- what isn't some is none
@@ -18,11 +18,7 @@ returns-clause-same c = λ is. same_from_text _ _ c.args.first.now.media c.args.
 
 pub returns-in-Short-text-clause-same : goal.returns-in-Short-text-clause-same
 returns-in-Short-text-clause-same c = λ is.
-    let text = bytes_of c.first.inside.text in
-    let other = bytes_of c.second.inside.text in
-    let first = media_of text (positions_at c.first.inside.places c.first.inside.essence_end) in
-    let second = media_of other (positions_at c.second.inside.places c.second.inside.essence_end) in
-    rw (← c.first.view_is, ← c.second.view_is) (same_from_text text other first second
-    (reads-from_kept text _ c.first.invariant.kept) (reads-from_kept other _ c.second.invariant.kept)
+    same_from_kept _ _ _ _ _ _ c.first.invariant.kept c.second.invariant.kept
+    (ap (λ (mime : OwnedMedia). mime.media) c.first.view_is) (ap (λ (mime : OwnedMedia). mime.media) c.second.view_is)
     (ap bytes_of c.in-Short.is ∙ c.first_difference.ensures.same (none c.first_difference.result (c.is_none.ensures ∙ ap not is))
-    ∙ sym (ap bytes_of c.in-Short-text.is)))
+    ∙ sym (ap bytes_of c.in-Short-text.is))

@@ -1,21 +1,17 @@
 -- The texts are the same, or the essences differ where they do.
 use Rattle.std.proofs.Common.{arith, length, length-take, nat_cmp, slice_index, subst, sym, ap, ap₂, refl, ◌∙◌, ◌<◌}
 use Rattle.std.specs.Prelude.{unwrap_or}
-use Rattle.mime.specs.{Inner.KeptBytes.bytes_of, Inner.KeptPlaces.positions_at, Inner.KeptText.media_of}
+use Rattle.mime.specs.{Values.OwnedMedia, Inner.KeptBytes.bytes_of, Inner.KeptPlaces.positions_at}
 use Rattle.mime_search.specs.Differences.{DifferAt}
-use Rattle.mime.proofs.{ValueLemmas.KeptText.reads-from_kept, ValueLemmas.Parts.same_from_text, ValueLemmas.Traits.equal-media, ValueLemmas.Traits.ordered_by_essence, ValueLemmas.Traits.differ_in_beginnings}
+use Rattle.mime.proofs.{ValueLemmas.Parts.same_from_kept, ValueLemmas.Traits.equal-media, ValueLemmas.Traits.ordered_by_essence, ValueLemmas.Traits.differ_in_beginnings}
 use Rattle.mime.proofs.value.traits.order_short.Goals as goal
 
 pub returns-in_default : goal.returns-in_default
 returns-in_default c =
-    let texts = c.in_default.ensures.same refl in
-    let text = bytes_of c.first.inside.text in
-    let other = bytes_of c.second.inside.text in
-    let first = media_of text (positions_at c.first.inside.places c.first.inside.essence_end) in
-    let second = media_of other (positions_at c.second.inside.places c.second.inside.essence_end) in
-    rw (← c.first.view_is, ← c.second.view_is) (sym (equal-media first second (same_from_text text other first second
-    (reads-from_kept text _ c.first.invariant.kept) (reads-from_kept other _ c.second.invariant.kept)
-    (ap bytes_of c.in-Short.is ∙ texts ∙ sym (ap bytes_of c.in-Short-text.is)))))
+    sym (equal-media c.args.first.now.media c.args.second.now.media
+    (same_from_kept _ _ _ _ _ _ c.first.invariant.kept c.second.invariant.kept
+    (ap (λ (mime : OwnedMedia). mime.media) c.first.view_is) (ap (λ (mime : OwnedMedia). mime.media) c.second.view_is)
+    (ap bytes_of c.in-Short.is ∙ c.in_default.ensures.same refl ∙ sym (ap bytes_of c.in-Short-text.is))))
 
 pub returns-then-at-other_essence : goal.returns-then-at-other_essence
 returns-then-at-other_essence c =

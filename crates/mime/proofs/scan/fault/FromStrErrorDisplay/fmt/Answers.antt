@@ -6,10 +6,10 @@ use Rattle.mime.specs.Printed.{fault_text}
 use Rattle.mime.proofs.scan.fault.FromStrErrorDisplay.fmt.Goals as goal
 
 -- calls after calls
-joined : {W : Type 0} (took : W → List ℕ → W → Type 0) (w : W) (xs : List (List ℕ)) (v : W) (ys : List (List ℕ)) (u : W)
+calls_then : {W : Type 0} (took : W → List ℕ → W → Type 0) (w : W) (xs : List (List ℕ)) (v : W) (ys : List (List ℕ)) (u : W)
     → FoldsTo took w xs v → FoldsTo took v ys u → FoldsTo took w (xs ++ ys) u
-joined took w [] v ys u p q = subst (λ x. FoldsTo took x ys u) (sym p) q
-joined took w (x ∷ xs) v ys u p q = (p.0, p.1, joined took p.0 xs v ys u p.2 q)
+calls_then took w [] v ys u p q = subst (λ x. FoldsTo took x ys u) (sym p) q
+calls_then took w (x ∷ xs) v ys u p q = (p.0, p.1, calls_then took p.0 xs v ys u p.2 q)
 
 pub returns-clause-styled : goal.returns-clause-styled
 returns-clause-styled g c = λ flush ok.
@@ -18,7 +18,7 @@ returns-clause-styled g c = λ flush ok.
     record {
       wrote = record {
         parts = one.wrote.parts ++ two.wrote.parts;
-        calls = joined g.W.Write.write_str_gives _ one.wrote.parts _ two.wrote.parts _ one.wrote.calls two.wrote.calls;
+        calls = calls_then g.W.Write.write_str_gives _ one.wrote.parts _ two.wrote.parts _ one.wrote.calls two.wrote.calls;
         whole =
             concat-append one.wrote.parts two.wrote.parts ∙ ap (λ t. t ++ concat two.wrote.parts) one.wrote.whole
             ∙ ap (λ t. codes "mime parse error: " ++ t) (two.wrote.whole ∙ ap fault_text c.fault.ensures);

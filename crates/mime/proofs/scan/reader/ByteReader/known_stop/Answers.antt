@@ -1,9 +1,9 @@
 -- What the mask shows is skipped: the bytes up to the first stop, which is given, or all that are known, and those found after them.
 use Rattle.std.proofs.Common.{◌+◌, ◌/◌, ◌^◌, not, get_or, Some, subst, arith}
 use lib.Count.{count_trailing_zeros}
-use Rattle.mime_search.specs.Classes.{is_stop}
-use Rattle.mime.specs.{Inner.Scanning.Passing, Inner.Scanning.Reaches, declared.scan.runs.TheConstants.TOKEN_STOPS, Inner.Remaining.reader_at}
-use Rattle.mime.proofs.{StopsLemmas.are_token_bytes, ScanLemmas.Passing.passing_skip, ScanLemmas.Passing.reaches_then, ScanLemmas.Passing.reaches_skip, ScanLemmas.Passing.reaches_wider}
+use Rattle.mime_search.specs.{Classes.is_stop, declared.class.TheConstants.TOKEN_STOPS}
+use Rattle.mime.specs.{Inner.Scanning.Passing, Inner.Scanning.Reaches, Inner.Remaining.reader_at}
+use Rattle.mime.proofs.{StopsLemmas.are_token_bytes, ScanLemmas.Passing.passing_skip, ScanLemmas.Passing.reaches_then, ScanLemmas.Passing.reaches_next, ScanLemmas.Passing.gives_at, ScanLemmas.Passing.reaches_wider}
 use Rattle.mime_search.proofs.Masks.{known-none, known-few, known-some}
 use Rattle.mime.proofs.scan.reader.ByteReader.known_stop.Goals as goal
 
@@ -40,7 +40,8 @@ returns c =
     (subst
     (λ old. Reaches (λ b. not (is_stop TOKEN_STOPS b)) old (reader_at text (stop + 1) inside.before) (Some (get_or text stop 0)))
     c.self.view_is
-    (reaches_skip _ text inside.at stop inside.before (omega (arith, near, keeps.there)) (omega arith) (omega (arith, first))))
+    (reaches_next (passing_skip _ text inside.at stop inside.before (omega (arith, near, keeps.there)) (omega arith) (omega (arith, first)))
+    (gives_at text stop inside.before (omega (arith, near, keeps.there)))))
 
 pub returns-then-stops-eq0 : goal.returns-then-stops-eq0
 returns-then-stops-eq0 c =

@@ -1,8 +1,7 @@
 -- The mask of the known block is that of the window's first block.
 use Rattle.std.proofs.Common.{◌<◌, ◌≤◌, ◌^◌, length, take, sym, ap, ◌∙◌, subst, arith}
 use Rattle.std.proofs.lemmas.List.{take-take, length-take-le}
-use Rattle.mime_search.specs.Classes.{is_stop, stops}
-use Rattle.mime.specs.declared.scan.runs.TheConstants.{TOKEN_STOPS}
+use Rattle.mime_search.specs.{Classes.is_stop, Classes.stops, declared.class.TheConstants.TOKEN_STOPS}
 use Rattle.mime_search.proofs.Masks.{mask-lt}
 use Rattle.mime.proofs.scan.reader.ByteReader.look_further.Goals as goal
 
