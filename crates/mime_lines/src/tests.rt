@@ -2,55 +2,11 @@
 
 use crate::{Device, Mode, RunError, run};
 use mime::Mime;
-use std::io;
-use std::io::{Read, Write};
+use mime_io::Calls;
 
 const LINE: &[u8] = b"a/b";
 
 const REPORT: &[u8] = b"ok a/b\ntype a\nsubtype b\n";
-
-/// A reader or a writer that expects the calls in `left`, in order: `r` is a read of the line or, as the last call, of the end, `w` a write
-/// of the line's whole report, `o` another write, `f` a flush, and `x` a call of any kind that fails. After any other call it expects `?`,
-/// which is no call.
-#[derive(Drop)]
-struct Calls {
-    left: &'static [u8],
-}
-
-impl Calls {
-    /// Removes the next expected call if it is `call` or `x`. Succeeds only if it is `call`.
-    fn take(&mut self, call: u8) -> io::Result<()> {
-        let (next, left) = self.left.split_first().unwrap_or((&b'?', b""));
-        self.left = if *next == call || *next == b'x' {
-            left
-        } else {
-            b"?"
-        };
-        if *next == call {
-            return Ok(());
-        }
-        Err(io::Error::from(io::ErrorKind::StorageFull))
-    }
-}
-
-impl Read for Calls {
-    fn read(&mut self, buf: &mut [u8]) -> io::Result<usize> {
-        self.take(b'r')?;
-        let mut bytes = if self.left.is_empty() { b"" } else { LINE };
-        bytes.read(buf)
-    }
-}
-
-impl Write for Calls {
-    fn write(&mut self, buf: &[u8]) -> io::Result<usize> {
-        let call = if buf == REPORT { b'w' } else { b'o' };
-        self.take(call).map(|()| buf.len())
-    }
-
-    fn flush(&mut self) -> io::Result<()> {
-        self.take(b'f')
-    }
-}
 
 /// Returns a device over a reader or a writer.
 fn device<T>(inner: T) -> Device<T> {
@@ -70,8 +26,8 @@ fn makes_these_calls_alone(rt: HostRuntime) {
         (b"rr", b"wx", Err(RunError::Write)),
     ];
     for (at, (reads, writes, answer)) in cases.iter().enumerate() {
-        let mut source = device(Calls { left: reads });
-        let mut sink = device(Calls { left: writes });
+        let mut source = Calls::device(reads, LINE, REPORT);
+        let mut sink = Calls::device(writes, LINE, REPORT);
         let got = run(rt.alloc(), &mut source, &mut sink, Mode::Parts);
         assert!(rt; got == *answer, "case {at}: {got:?}");
         let are_made = source.inner.left.is_empty() && sink.inner.left.is_empty();
@@ -82,7 +38,7 @@ fn makes_these_calls_alone(rt: HostRuntime) {
 #[test]
 fn a_report_may_be_longer_than_the_limit(rt: HostRuntime) {
     let line_feeds = [b'\n'; 14_000];
-    let mut sink = device(Calls { left: b"of" });
+    let mut sink = Calls::device(b"of", LINE, REPORT);
     let got = run(
         rt.alloc(),
         &mut device(line_feeds.as_slice()),
