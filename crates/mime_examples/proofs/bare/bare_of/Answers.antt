@@ -1,4 +1,4 @@
--- What the essence is read as, and that it is read.
+-- The essence is read, as the media type without its parameters.
 use Rattle.std.proofs.Common.{rules, ◌≡◌, sym, subst, ℕ, List}
 use Rattle.mime.specs.{Values.MediaType, Values.Reads, Values.IsAccepted, Laws.EssenceIsRead, Laws.without_parameters}
 use Rattle.mime_examples.proofs.bare.bare_of.Goals as goal
