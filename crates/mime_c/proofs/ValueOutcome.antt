@@ -100,14 +100,14 @@ same_boundary h k (has_no_boundary none) (boundary_is two has back) = absurd (no
 same_boundary h k (has_no_boundary none) (has_no_boundary too) = (refl, refl)
 
 -- The boundary of a media type is written in one way.
-one_boundary : (old : List ℕ) (media : MediaType) → HasOne (HasBoundary old media)
-one_boundary old media = ⊎_elim
+one_of_boundary : (old : List ℕ) (media : MediaType) → HasOne (HasBoundary old media)
+one_of_boundary old media = ⊎_elim
     (λ it. one_is (λ same. omega (arith, same)) (boundary_is it.0 it.1 (boundary_comes_back it.0 it.1.is)) (λ n x. same_boundary))
     (λ none. one_is (λ same. omega (arith, same)) (has_no_boundary none) (λ n x. same_boundary)) (boundary_or_not media)
 
 -- `mime_boundary` has one outcome.
 pub boundary_is_one : BoundaryIsOne
-boundary_is_one value old = one_in_room (one_of_reading (reading_of_value value) (λ media is. one_boundary old media))
+boundary_is_one value old = one_in_room (one_of_reading (reading_of_value value) (λ media is. one_of_boundary old media))
 
 -- `mime_unescape` has one outcome.
 pub unescapes_to_one : UnescapesToOne

@@ -6,26 +6,31 @@ use Rattle.mime_http.proofs.parameter.form_of.Goals as goal
 pub returns-then-plain-gt0 : goal.returns-then-plain-gt0
 returns-then-plain-gt0 c =
     let same = c.as_bytes-bytes.ensures.value in
-    let found = form_found same (λ i. search (c.type_inv.value i, rules)) c.token_end_far-plain.ensures.end refl refl in
+    let plain = c.token_end_far-plain.ensures.end in
+    let found = form_found same (λ i. search (c.type_inv.value i, rules)) plain refl refl in
     grind (arith, nat_tests, found, same, c.if-plain-bytes.true, c.if-plain-gt0.true)
 
 pub returns-then-first_stop-bytes : goal.returns-then-first_stop-bytes
 returns-then-first_stop-bytes c =
     let same = c.as_bytes-bytes.ensures.value in
-    let found = form_found same (λ i. search (c.type_inv.value i, rules)) c.token_end_far-plain.ensures.end c.first_stop.ensures.end refl in
+    let plain = c.token_end_far-plain.ensures.end in
+    let found = form_found same (λ i. search (c.type_inv.value i, rules)) plain c.first_stop.ensures.end refl in
     grind (arith, nat_tests, found, same, c.else-plain-bytes.either, c.if-first_stop-bytes.true)
 
 pub returns-then-special_from-bytes : goal.returns-then-special_from-bytes
 returns-then-special_from-bytes c =
     let same = c.as_bytes-bytes.ensures.value in
-    let stop = c.first_stop in
-    let found = form_found same (λ i. search (c.type_inv.value i, rules)) c.token_end_far-plain.ensures.end stop.ensures.end c.special_from.ensures.special in
-    grind (arith, nat_tests, found, same, c.else-plain-bytes.either, stop.ensures.within, c.if-first_stop-bytes.false, c.if-special_from-bytes.true)
+    let plain = c.token_end_far-plain.ensures.end in
+    let found = form_found same (λ i. search (c.type_inv.value i, rules)) plain c.first_stop.ensures.end
+    c.special_from.ensures.special in
+    grind (arith, nat_tests, found, same, c.else-plain-bytes.either, c.first_stop.ensures.within, c.if-first_stop-bytes.false,
+    c.if-special_from-bytes.true)
 
 pub returns-else-special_from-bytes : goal.returns-else-special_from-bytes
 returns-else-special_from-bytes c =
     let same = c.as_bytes-bytes.ensures.value in
-    let special = c.special_from.ensures in
-    let found = form_found same (λ i. search (c.type_inv.value i, rules)) c.token_end_far-plain.ensures.end c.first_stop.ensures.end special.special in
-    grind (arith, nat_tests, found, same, c.else-plain-bytes.either, c.first_stop.ensures.within, special.within, c.if-first_stop-bytes.false,
-    c.if-special_from-bytes.false)
+    let plain = c.token_end_far-plain.ensures.end in
+    let found = form_found same (λ i. search (c.type_inv.value i, rules)) plain c.first_stop.ensures.end
+    c.special_from.ensures.special in
+    grind (arith, nat_tests, found, same, c.else-plain-bytes.either, c.first_stop.ensures.within, c.special_from.ensures.within,
+    c.if-first_stop-bytes.false, c.if-special_from-bytes.false)
