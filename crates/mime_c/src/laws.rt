@@ -3,7 +3,6 @@
 ghost use Rattle.mime_c.specs.Laws.{ReadsToOne, ListsToOne, ComparesAsOne, HeaderReadsToOne, AcceptsToOne, BestIsOne, OrderIsOne, BoundaryIsOne, UnescapesToOne, SetsToOne};
 
 /// Unless memory runs out, `mime_read` of a text into a buffer has exactly one outcome.
-#[tactic(auto, using(crate::proofs::OneOutcome::reads_to_one))]
 pub fn reads_to_one()
     ensures { ReadsToOne }
 {}
@@ -15,13 +14,11 @@ pub fn lists_to_one()
 {}
 
 /// Unless memory runs out, `mime_equal` of two texts has exactly one outcome.
-#[tactic(auto, using(crate::proofs::OneOutcome::compares_as_one))]
 pub fn compares_as_one()
     ensures { ComparesAsOne }
 {}
 
 /// Unless memory runs out, `mime_content_type` of a value into a buffer has exactly one outcome.
-#[tactic(auto, using(crate::proofs::ValueOutcome::header_reads_to_one))]
 pub fn header_reads_to_one()
     ensures { HeaderReadsToOne }
 {}
@@ -45,7 +42,6 @@ pub fn order_is_one()
 {}
 
 /// Unless memory runs out, `mime_boundary` of a value into a buffer has exactly one outcome.
-#[tactic(auto, using(crate::proofs::ValueOutcome::boundary_is_one))]
 pub fn boundary_is_one()
     ensures { BoundaryIsOne }
 {}
@@ -57,7 +53,6 @@ pub fn unescapes_to_one()
 {}
 
 /// Unless memory runs out, `mime_set_parameter` of a media type, a name and a value into a buffer has exactly one outcome.
-#[tactic(auto, using(crate::proofs::ValueOutcome::sets_to_one))]
 pub fn sets_to_one()
     ensures { SetsToOne }
 {}

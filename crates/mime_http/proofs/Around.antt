@@ -133,7 +133,7 @@ block_trimmed class stops piece start end least within is =
     let block : List ℕ = drop start (take end piece) in
     let long : length block ≡ end - start = grind (arith, length-drop start (take end piece), length-take-le end piece) in
     let white = run_of_white class stops block (omega (arith, is, long)) in
-    sym (ap trim_end (sym (take-append-drop start (take end piece))) ∙ white_trimmed _ block white
+    sym (ap trim_end (sym (take-append-drop start (take end piece))) ∙ white_trimmed (take start (take end piece)) block white
     ∙ ap trim_end (take-take start end piece least))
 
 -- ---- the white space around a value

@@ -166,8 +166,20 @@ form_found {value} same few {plain} token control special =
     let rest = quoted_len (drop plain value) (λ i. rw (get_or-drop plain value i) (few (plain + i))) in
     let quoted = run_after is_quoted_byte (λ b is. (wider b is).0) value plain passed in
     let unmarked = run_after is_plain (λ b is. (wider b is).1) value plain passed in
-    grind (arith, nat_tests, same, token, control, special, rest, quoted, unmarked, token_decides value, token_safe value,
-    quoted_text value)
+    grind (
+      arith,
+      nat_tests,
+      same,
+      token,
+      control,
+      special,
+      rest,
+      quoted,
+      unmarked,
+      token_decides value,
+      token_safe value,
+      quoted_text value,
+    )
 
 -- A search for a quote or a backslash passes the bytes that need no backslash.
 plain_len : (class : Class) → ((b : ℕ) → is_stop class b ≡ (b == 34 || b == 92)) → (bytes : List ℕ)

@@ -15,19 +15,16 @@ pub fn plain_is_http()
 
 /// A value is read as at most one media type, even if it has several parse trees. The space of `a/b; ;p=x` can belong to the first
 /// semicolon or to the second.
-#[tactic(auto, using(crate::proofs::HttpLaws::one_http_reading))]
 pub fn one_http_reading()
     ensures { OneHttpReading }
 {}
 
 /// At most one text is printed for a value. For ` text/html ;; charset="utf-8"` it is `text/html; charset=utf-8`.
-#[tactic(auto, using(crate::proofs::HttpLaws::one_printed_text))]
 pub fn one_printed_text()
     ensures { OnePrintedText }
 {}
 
 /// The text that is printed for a value is read as the same media type, and is printed as itself.
-#[tactic(auto, using(crate::proofs::HttpLaws::printed_is_read))]
 pub fn printed_is_read()
     ensures { PrintedIsRead }
 {}
@@ -58,13 +55,11 @@ pub fn read_are_http_lists()
 {}
 
 /// The lines of a header determine its ranges, how each range is printed, and its bad entries.
-#[tactic(auto, using(crate::proofs::Lists::one_header))]
 pub fn one_header()
     ensures { OneHeader }
 {}
 
 /// Lines have a first bad entry exactly if an entry is bad, and only one. That of `a/b, , c d, e` is at position 1.
-#[tactic(auto, using(crate::proofs::Lists::one_first_bad))]
 pub fn one_first_bad()
     ensures { OneFirstBad }
 {}
@@ -106,13 +101,11 @@ pub fn none_is_best()
 {}
 
 /// The positions of the offers that weigh more than 0 are in order in only one way.
-#[tactic(auto, using(crate::proofs::Order::one_order))]
 pub fn one_order()
     ensures { OneOrder }
 {}
 
 /// All offers are ranked in only one way.
-#[tactic(auto, using(crate::proofs::Order::one_ranking))]
 pub fn one_ranking()
     ensures { OneRanking }
 {}
@@ -150,7 +143,6 @@ pub fn weight_is_number()
 
 /// A range that covers none of the offers changes neither their weights nor their order, nor which offer is the best. For the offers
 /// `text/html` and `text/plain`, the range `image/png;q=0` doesn't matter.
-#[tactic(auto, using(crate::proofs::Strangers::stranger_changes_nothing))]
 pub fn stranger_changes_nothing()
     ensures { StrangerChangesNothing }
 {}

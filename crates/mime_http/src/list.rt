@@ -123,7 +123,6 @@ pub(crate) fn trim_start(piece: &[u8]) -> &[u8]
 
 /// Returns where the blocks of white space before a position begin, or the position if there are none.
 #[inline(never)]
-#[tactic(auto, using(crate::proofs::Around::block_trimmed))]
 fn before_blocks(piece: &[u8], end: usize) -> usize
     requires { end ≤ length piece.now }
     ensures least { result ≤ end }

@@ -6,7 +6,6 @@ use crate::http::{lines_of, offers_of, show, show_found, show_positions, show_te
 use crate::values::read_or_not;
 use mime::Mime;
 use mime_examples::bare::bare_of;
-use mime_examples::callers::{has_param, printed};
 use mime_examples::caret::caret_line;
 use mime_examples::compress::is_compressible;
 use mime_examples::counts::{count, no_counts, sorted};
@@ -118,14 +117,6 @@ pub(crate) fn show_described(alloc: Global, out: &mut String, field: &str) {
 pub(crate) fn show_handler_of(alloc: Global, out: &mut String, field: &str) {
     if let Some(mime) = read_or_not(alloc, out, field) {
         let _ = write!(out, "{:?}|", handler_of(&mime));
-    }
-}
-
-/// Shows whether the media type of a text has a parameter of this name.
-pub(crate) fn show_has_param(alloc: Global, out: &mut String, text: &str, name: &str) {
-    match printed(alloc, text) {
-        Ok(mime) => show(out, &has_param(&mime, name)),
-        Err(error) => show(out, &error),
     }
 }
 

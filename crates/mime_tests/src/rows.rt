@@ -27,13 +27,14 @@ use crate::fields::string_at;
 use crate::http::{
     latin_1, lines_of, read_both, show, show_found, show_made, show_read, show_text, shown,
 };
+use crate::recipes::{show_names_of, show_status, show_whether};
 use crate::values::read;
 use crate::{constants, http, items, recipes, relations, short, values};
 use mime::MimeIter;
 use mime_examples::accepted::explained;
 use mime_examples::answer::{refusal, refusal_of_body, status_of};
 use mime_examples::build::vendor_json;
-use mime_examples::callers::{has_suffix, reads_alike};
+use mime_examples::callers::{has_param, has_suffix, printed, reads_alike};
 use mime_examples::disposition::read_disposition;
 use mime_examples::html::accepts_html;
 use mime_examples::json::is_json;
@@ -154,7 +155,7 @@ fn show_of_recipes(rt: &HostRuntime, out: &mut String, word: &str, strings: &[St
         "chosen" => recipes::show_chosen(alloc, out, strings),
         "count" => recipes::show_counts(rt, out, strings),
         "described" => recipes::show_described(alloc, out, one),
-        "disposition_of" => recipes::show_names_of(out, disposition_of(alloc, one.as_bytes())),
+        "disposition_of" => show_names_of(out, disposition_of(alloc, one.as_bytes())),
         "explained" => show_found(
             out,
             lines_of(alloc, one).and_then(|lines| explained(alloc, &lines)),
@@ -162,8 +163,8 @@ fn show_of_recipes(rt: &HostRuntime, out: &mut String, word: &str, strings: &[St
         "file_name" => recipes::show_file_name(alloc, out, one, two),
         "form_with" => show_made(out, Some(form_with(alloc, one))),
         "handler_of" => recipes::show_handler_of(alloc, out, one),
-        "has_param" => recipes::show_has_param(alloc, out, one, two),
-        "has_suffix" => recipes::show_whether(out, has_suffix(alloc, one)),
+        "has_param" => show_whether(out, printed(alloc, one).map(|mime| has_param(&mime, two))),
+        "has_suffix" => show_whether(out, has_suffix(alloc, one)),
         "in_order" => recipes::show_in_order(alloc, out, strings),
         "is_compressible" => recipes::show_is_compressible(out),
         "is_json" => show_read(out, read(alloc, one).map(|mime| is_json(&mime))),
@@ -172,20 +173,14 @@ fn show_of_recipes(rt: &HostRuntime, out: &mut String, word: &str, strings: &[St
         "multipart::parts" => recipes::show_body_parts(alloc, out, one, two),
         "page_in" => show_made(out, Some(page_in(alloc, one))),
         "quality_of" => recipes::show_quality_of(alloc, out, one),
-        "read_disposition" => recipes::show_names_of(out, read_disposition(alloc, one.as_bytes())),
+        "read_disposition" => show_names_of(out, read_disposition(alloc, one.as_bytes())),
         "reader_of" => show_text(out, Some(reader_of(one))),
-        "reads_alike" => recipes::show_whether(out, reads_alike(alloc, one)),
+        "reads_alike" => show_whether(out, reads_alike(alloc, one)),
         "received" => recipes::show_received(alloc, out, one, two),
-        "refusal" => recipes::show_status(out, refusal(alloc, one.as_bytes())),
-        "refusal_of_body" => recipes::show_status(
-            out,
-            refusal_of_body(alloc, Some(one.as_bytes())),
-        ),
-        "refusal_of_body without a header" => recipes::show_status(
-            out,
-            refusal_of_body(alloc, None),
-        ),
-        "says_utf8" => recipes::show_whether(out, says_utf8(alloc, one.as_bytes())),
+        "refusal" => show_status(out, refusal(alloc, one.as_bytes())),
+        "refusal_of_body" => show_status(out, refusal_of_body(alloc, Some(one.as_bytes()))),
+        "refusal_of_body without a header" => show_status(out, refusal_of_body(alloc, None)),
+        "says_utf8" => show_whether(out, says_utf8(alloc, one.as_bytes())),
         "status_of no memory" => show(out, &status_of(&FieldError::NoMemory)),
         "takes" => show_read(
             out,

@@ -23,8 +23,16 @@ returns-then-special_from-bytes c =
     let plain = c.token_end_far-plain.ensures.end in
     let found = form_found same (λ i. search (c.type_inv.value i, rules)) plain c.first_stop.ensures.end
     c.special_from.ensures.special in
-    grind (arith, nat_tests, found, same, c.else-plain-bytes.either, c.first_stop.ensures.within, c.if-first_stop-bytes.false,
-    c.if-special_from-bytes.true)
+    grind (
+      arith,
+      nat_tests,
+      found,
+      same,
+      c.else-plain-bytes.either,
+      c.first_stop.ensures.within,
+      c.if-first_stop-bytes.false,
+      c.if-special_from-bytes.true,
+    )
 
 pub returns-else-special_from-bytes : goal.returns-else-special_from-bytes
 returns-else-special_from-bytes c =
@@ -32,5 +40,14 @@ returns-else-special_from-bytes c =
     let plain = c.token_end_far-plain.ensures.end in
     let found = form_found same (λ i. search (c.type_inv.value i, rules)) plain c.first_stop.ensures.end
     c.special_from.ensures.special in
-    grind (arith, nat_tests, found, same, c.else-plain-bytes.either, c.first_stop.ensures.within, c.special_from.ensures.within,
-    c.if-first_stop-bytes.false, c.if-special_from-bytes.false)
+    grind (
+      arith,
+      nat_tests,
+      found,
+      same,
+      c.else-plain-bytes.either,
+      c.first_stop.ensures.within,
+      c.special_from.ensures.within,
+      c.if-first_stop-bytes.false,
+      c.if-special_from-bytes.false,
+    )
