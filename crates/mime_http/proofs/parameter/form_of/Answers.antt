@@ -6,8 +6,7 @@ use Rattle.mime_http.proofs.parameter.form_of.Goals as goal
 pub returns-then-plain-gt0 : goal.returns-then-plain-gt0
 returns-then-plain-gt0 c =
     let same = c.as_bytes-bytes.ensures.value in
-    let plain = c.token_end_far-plain.ensures.end in
-    let found = form_found same (λ i. search (c.type_inv.value i, rules)) plain refl refl in
+    let found = form_found same (λ i. search (c.type_inv.value i, rules)) c.token_end_far-plain.ensures.end refl refl in
     grind (arith, nat_tests, found, same, c.if-plain-bytes.true, c.if-plain-gt0.true)
 
 pub returns-then-first_stop-bytes : goal.returns-then-first_stop-bytes
@@ -20,34 +19,15 @@ returns-then-first_stop-bytes c =
 pub returns-then-special_from-bytes : goal.returns-then-special_from-bytes
 returns-then-special_from-bytes c =
     let same = c.as_bytes-bytes.ensures.value in
-    let plain = c.token_end_far-plain.ensures.end in
-    let found = form_found same (λ i. search (c.type_inv.value i, rules)) plain c.first_stop.ensures.end
-    c.special_from.ensures.special in
-    grind (
-      arith,
-      nat_tests,
-      found,
-      same,
-      c.else-plain-bytes.either,
-      c.first_stop.ensures.within,
-      c.if-first_stop-bytes.false,
-      c.if-special_from-bytes.true,
-    )
+    let stop = c.first_stop.ensures in
+    let mark = c.special_from.ensures in
+    let found = form_found same (λ i. search (c.type_inv.value i, rules)) c.token_end_far-plain.ensures.end stop.end mark.special in
+    grind (arith, nat_tests, found, same, c.else-plain-bytes.either, stop, c.if-first_stop-bytes.false, c.if-special_from-bytes.true)
 
 pub returns-else-special_from-bytes : goal.returns-else-special_from-bytes
 returns-else-special_from-bytes c =
     let same = c.as_bytes-bytes.ensures.value in
-    let plain = c.token_end_far-plain.ensures.end in
-    let found = form_found same (λ i. search (c.type_inv.value i, rules)) plain c.first_stop.ensures.end
-    c.special_from.ensures.special in
-    grind (
-      arith,
-      nat_tests,
-      found,
-      same,
-      c.else-plain-bytes.either,
-      c.first_stop.ensures.within,
-      c.special_from.ensures.within,
-      c.if-first_stop-bytes.false,
-      c.if-special_from-bytes.false,
-    )
+    let stop = c.first_stop.ensures in
+    let mark = c.special_from.ensures in
+    let found = form_found same (λ i. search (c.type_inv.value i, rules)) c.token_end_far-plain.ensures.end stop.end mark.special in
+    grind (arith, nat_tests, found, same, c.else-plain-bytes.either, stop, mark, c.if-first_stop-bytes.false, c.if-special_from-bytes.false)
