@@ -129,12 +129,7 @@ module _ (ranges offers : List MediaType) where
           all = λ at. (
             λ is. ((all.2 at).0 is).1,
             λ weighs. (all.2 at).1 (
-              omega (
-                arith,
-                weighs_within (map (merit ranges) offers) at weighs,
-                length-map offers
-                    (merit ranges),
-              ),
+              omega (arith, weighs_within (map (merit ranges) offers) at weighs, length-map offers (merit ranges)),
               weighs,
             ),
           );

@@ -33,11 +33,7 @@ lines = (
 
 -- A line begins at the start and after a line feed, and nowhere else.
 line_ends : EndsLine [] × EndsLine (codes "a\n") × ¬ (EndsLine (codes "\na"))
-line_ends = (
-  (λ some. absurd (some refl)),
-  (λ _. refl),
-  λ ends. omega (arith, same_Some 97 10 (ends (some_byte 10 (codes "a")))),
-)
+line_ends = ((λ some. absurd (some refl)), (λ _. refl), λ ends. omega (arith, same_Some 97 10 (ends (some_byte 10 (codes "a")))))
 
 -- ---- cuts
 

@@ -30,10 +30,7 @@ meanings = (
   ),
   (
     None,
-    (
-      (λ same. absurd (omega (arith, ap length same))),
-      λ _. ((λ same. absurd (omega (arith, ap length same))), λ _. refl),
-    ),
+    ((λ same. absurd (omega (arith, ap length same))), λ _. ((λ same. absurd (omega (arith, ap length same))), λ _. refl)),
     refl,
   ),
 )

@@ -247,10 +247,6 @@ one_first_bad lines header is = (
 -- A bad piece changes nothing of those before it and after it.
 pub bad_is_alone : BadIsAlone
 bad_is_alone lines others before after entry ranges more bad worse first last some isnt with_it without = (
-  record {
-    pieces = before ++ (entry ∷ after);
-    cut = with_it;
-    sorted = sorted_both first (a_bad entry after more worse some isnt last);
-  },
+  record { pieces = before ++ (entry ∷ after); cut = with_it; sorted = sorted_both first (a_bad entry after more worse some isnt last) },
   record { pieces = before ++ after; cut = without; sorted = sorted_both first last },
 )
