@@ -64,8 +64,7 @@ module _ {Held : Type 0} (is_there : Bool) (line offers : List ℕ) (failed : �
 
   -- A list of good offers has no other outcome.
   only_good : (header offered : Header) → IsHeader (lines_of is_there line) header → IsHeader (offers ∷ []) offered
-      → offered.bad ≡ []
-      → (n : ℕ) (held : Held) → n ≢ MIME_NO_MEMORY → Outcome n held
+      → offered.bad ≡ [] → (n : ℕ) (held : Held) → n ≢ MIME_NO_MEMORY → Outcome n held
       → (n ≡ (one header.ranges offered.ranges).0) × (held ≡ (one header.ranges offered.ranges).1)
   only_good header offered is of good n held some (are_offers another others _ _ too again fine has) =
       (one header.ranges offered.ranges).4 n held some

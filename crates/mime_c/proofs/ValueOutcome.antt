@@ -89,8 +89,7 @@ boundary_or_not media =
 
 -- Two outcomes of a boundary are the same unless memory runs out.
 same_boundary : {old : List ℕ} {media : MediaType} {n m : ℕ} {held other : List ℕ × ℕ} → n ≢ MIME_NO_MEMORY
-    → m ≢ MIME_NO_MEMORY
-    → HasBoundary old media n held → HasBoundary old media m other → (m ≡ n) × (other ≡ held)
+    → m ≢ MIME_NO_MEMORY → HasBoundary old media n held → HasBoundary old media m other → (m ≡ n) × (other ≡ held)
 same_boundary h k boundary_has_no_memory two = absurd (h refl)
 same_boundary h k one boundary_has_no_memory = absurd (k refl)
 same_boundary {old = old} h k (boundary_is one has back) (boundary_is two too again) =
@@ -142,8 +141,7 @@ comes_back text name value media reads is =
 
 -- Two outcomes of a parameter are the same unless memory runs out.
 same_set : {name value old : List ℕ} {media : MediaType} {n m : ℕ} {held other : List ℕ × ℕ} → n ≢ MIME_NO_MEMORY
-    → m ≢ MIME_NO_MEMORY
-    → IsSet name value old media n held → IsSet name value old media m other → (m ≡ n) × (other ≡ held)
+    → m ≢ MIME_NO_MEMORY → IsSet name value old media n held → IsSet name value old media m other → (m ≡ n) × (other ≡ held)
 same_set h k one two = search rules
 
 -- A parameter is written in one way.

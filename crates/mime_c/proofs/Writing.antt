@@ -93,8 +93,7 @@ writes-all {old} {now} {left} {all} {at} {end} leaves none = record {
 
 -- A text is a string if the 0 was written before it.
 pub ended_before : (now text new : List ℕ) (i at end : ℕ) → i ≡ at + length text → i < length now
-    → Writes (set now i 0) at text new end
-    → Writes now at (string_of text) new (end + 1)
+    → Writes (set now i 0) at text new end → Writes now at (string_of text) new (end + 1)
 unfolding leaves-first
 ended_before now text new i at end is room writes =
     let last = writes.adds _ _ (leaves-first (set now i 0) [] at (grind (arith, common_steps, is, room))).wrote in

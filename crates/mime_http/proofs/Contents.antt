@@ -136,8 +136,7 @@ quoted_len (b ∷ bytes) few = grind (arith, nat_tests, or_zero_r b, few 0, quot
 
 -- Of a class of all token bytes, a run from within a token at the start ends at the end exactly if all bytes are of the class.
 pub run_after : (class : ℕ → Bool) → ((b : ℕ) → is_token_byte b ≡ true → class b ≡ true)
-    → (value : List ℕ) (plain : ℕ)
-    → plain ≤ prefix_len is_token_byte value
+    → (value : List ℕ) (plain : ℕ) → plain ≤ prefix_len is_token_byte value
     → (plain + prefix_len class (drop plain value) == length value) ≡ list_all class value
 run_after class wider value plain passed =
     grind (arith, run_goes_on is_token_byte class wider value 0 plain, whole_run class value, passed)
@@ -153,10 +152,8 @@ token_safe value is = safe_text value (token_text value (token_from_test value i
 
 -- The run of token bytes, and what two searches find after it, decide the form of a value.
 pub form_found : {value bytes : List ℕ} → bytes ≡ value → ((i : ℕ) → get_or value i 0 < 256) → {plain control special : ℕ}
-    → plain ≡ 0 + prefix_len is_token_byte bytes
-    → control ≡ plain + prefix_len (λ b. not (is_stop CONTROLS b)) (drop plain bytes)
-    → special ≡ plain + prefix_len is_plain (drop plain bytes)
-    → (if plain == length value && nat_lt 0 plain then Some Token else
+    → plain ≡ 0 + prefix_len is_token_byte bytes → control ≡ plain + prefix_len (λ b. not (is_stop CONTROLS b)) (drop plain bytes)
+    → special ≡ plain + prefix_len is_plain (drop plain bytes) → (if plain == length value && nat_lt 0 plain then Some Token else
     if control == length value then Some (if special == length value then Quoted else Escaped) else None)
     ≡ (if list_all is_quoted_byte value then Some (form_of value) else None)
 form_found {value} same few {plain} token control special =

@@ -185,8 +185,7 @@ string_closed line from to within is =
 
 -- A search that stops at two marks finds the first of them.
 pub mark_found : (class : Class) (one other : ℕ) → ((b : ℕ) → is_stop class b ≡ is_mark one other b)
-    → (line : List ℕ) (from to : ℕ)
-    → to ≡ end_of_run class line from → to ≡ from + before_mark one other (drop from line)
+    → (line : List ℕ) (from to : ℕ) → to ≡ end_of_run class line from → to ≡ from + before_mark one other (drop from line)
 mark_found class one other are line from to is = is ∙ (λ i. from + prefix_len (λ b. not (are b i)) (drop from line))
 
 -- Up to the next comma or equals sign, a piece goes on outside strings.

@@ -78,11 +78,9 @@ weight_alone media rest n d reads after is spaces digit =
 
 -- A range demands nothing else, and weighs these tenths, if the weight is written after this white space.
 pub weight_of_one_decimal : (n : List ℕ) (d weight : ℕ) (offer media : MediaType) (rest : List ℕ) → AreSpaces n
-    → Reads media.kept media
-    → rest ≡ drop (length media.essence) media.kept → length rest ≡ 6 + length n
+    → Reads media.kept media → rest ≡ drop (length media.essence) media.kept → length rest ≡ 6 + length n
     → HasBytesAt rest 0 (59 ∷ (n ++ (113 ∷ 61 ∷ 48 ∷ 46 ∷ d ∷ []))) → is_ascii_digit d ≡ true
-    → weight ≡ 100 * (d - 48)
-    → Some (0, weight) ≡ found_in offer media.pairs
+    → weight ≡ 100 * (d - 48) → Some (0, weight) ≡ found_in offer media.pairs
 weight_of_one_decimal n d weight offer media rest spaces reads after long bytes digit tenths =
     let whole = text_from_reads rest _ (omega (arith, long, length-append n (113 ∷ 61 ∷ 48 ∷ 46 ∷ d ∷ []))) bytes in
     let read : weight ≡ read_number (48 ∷ 46 ∷ d ∷ []) = rw digit (omega (arith, tenths)) in

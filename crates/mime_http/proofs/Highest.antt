@@ -5,8 +5,7 @@ use borrow.Author.Count.{below_more}
 
 -- The value of an item's value is the one at its position.
 pub value_at : {X Y Z : Type 0} (f : Y → Z) (g : X → Y) (xs : List X) (i : ℕ) (x : X) (d : Z) → i < length xs
-    → x ≡ get_or xs i x
-    → f (g x) ≡ get_or (map f (map g xs)) i d
+    → x ≡ get_or xs i x → f (g x) ≡ get_or (map f (map g xs)) i d
 value_at f g xs i x d within is = grind (arith, is, get_or-map f (map g xs) i (g x) d, get_or-map g xs i x (g x), length-map xs g)
 
 -- The first place of what passes is the same in what is mapped.

@@ -22,8 +22,7 @@ specific :
     (map (specificity offer) (closer ∷ typed (codes "a/*") [] ∷ typed (codes "*/*") [] ∷ typed (codes "c/d") [] ∷ [])
     ≡ Some (2, 3) ∷ Some (1, 0) ∷ Some (0, 0) ∷ None ∷ [])
     × (map (is_above (Some (1, 1))) (None ∷ Some (0, 2) ∷ Some (1, 0) ∷ Some (1, 1) ∷ Some (2, 0) ∷ []) ≡ true ∷ true
-    ∷ true ∷ false ∷ false ∷ [])
-    × (is_above None None ≡ false)
+    ∷ true ∷ false ∷ false ∷ []) × (is_above None None ≡ false)
 specific = (refl, refl, refl)
 
 -- The first parameter that an offer lacks is that of a range that is more specific than the one that decides.

@@ -27,8 +27,7 @@ no_weight is = let same : 1000 ≡ 500 = weight_is_number (codes "1.5") 500 is i
 pieces : (cut (codes "a/b;p=\"x,y\",c/d") ≡ codes "a/b;p=\"x,y\"" ∷ codes "c/d" ∷ [])
     × (cut (codes "a/b;p=\"\\\",\",c/d") ≡ codes "a/b;p=\"\\\",\"" ∷ codes "c/d" ∷ [])
     -- or in a string that isn't closed; and a quote opens a string only right after an equals sign
-    × (cut (codes "a/b;p=\"x,c/d") ≡ codes "a/b;p=\"x,c/d" ∷ [])
-    × (cut (codes "a\"b,c\"d") ≡ codes "a\"b" ∷ codes "c\"d" ∷ [])
+    × (cut (codes "a/b;p=\"x,c/d") ≡ codes "a/b;p=\"x,c/d" ∷ []) × (cut (codes "a\"b,c\"d") ≡ codes "a\"b" ∷ codes "c\"d" ∷ [])
 pieces = (refl, refl, refl, refl)
 
 -- A piece has no comma outside strings.

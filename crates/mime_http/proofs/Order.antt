@@ -110,8 +110,7 @@ are_ranked least ranges offers found sorted past was moved up =
 
 -- The positions of the offers that weigh something are in order.
 pub in_order : {ranges offers : List MediaType} {ranked : List (Reverse Rank × ℕ)} (order : List ℕ)
-    → AreRanked 1 ranges offers ranked
-    → order ≡ map (λ offer. offer.1) ranked → AreInOrder ranges offers order
+    → AreRanked 1 ranges offers ranked → order ≡ map (λ offer. offer.1) ranked → AreInOrder ranges offers order
 in_order {ranges} {offers} order are is = rw is (record {
   best_first = are.best_first;
   all = λ at. (
@@ -219,8 +218,7 @@ none_is_best ranges offers = (
 module _ (Before : ℕ → ℕ → Type 0) (one_way : (x y : ℕ) → Before x y → ¬ (Before y x)) where
   -- Lists in such an order that have the same members begin alike.
   same_first : (x y : ℕ) (order other : List ℕ) → AllPairs Before (x ∷ order) → AllPairs Before (y ∷ other)
-      → Contains (y ∷ other) x
-      → Contains (x ∷ order) y → x ≡ y
+      → Contains (y ∷ other) x → Contains (x ∷ order) y → x ≡ y
   same_first x y order other first second (zero, within, is) there = sym is
   same_first x y order other first second (suc k, within, is) (zero, inside, same) = same
   same_first x y order other first second (suc k, within, is) (suc j, inside, same) =
@@ -229,8 +227,7 @@ module _ (Before : ℕ → ℕ → Type 0) (one_way : (x y : ℕ) → Before x y
 
   -- What follows the first of such a list isn't the first again.
   after_first : (x : ℕ) (order other : List ℕ) → AllPairs Before (x ∷ order) → (at : ℕ) → Contains order at
-      → Contains (x ∷ other) at
-      → Contains other at
+      → Contains (x ∷ other) at → Contains other at
   after_first x order other first at (k, within, is) (zero, inside, same) =
       let before : Before x at = subst (Before x) is (first 0 (suc k) at (omega arith) (omega (arith, within))) in
       let itself = subst (Before x) (sym same) before in absurd (one_way x x itself itself)

@@ -137,8 +137,7 @@ stranger = (stranger_changes_nothing (all "text/html") (all "*/*;q=0.1") (all "t
 -- other byte.
 qvalues : (list_all is_qvalue (codes "0" ∷ codes "0." ∷ codes "0.125" ∷ codes "1.000" ∷ []) ≡ true)
     × (list_any is_qvalue (codes "0.1250" ∷ codes "1.5" ∷ codes "2" ∷ codes ".5" ∷ codes "-1" ∷ codes "high" ∷ []
-    ∷ codes "0x5"
-    ∷ codes "0.x" ∷ []) ≡ false)
+    ∷ codes "0x5" ∷ codes "0.x" ∷ []) ≡ false)
 qvalues = (refl, refl)
 
 -- An offer lacks a parameter of a range of its essence alone, and only one that it doesn't have.

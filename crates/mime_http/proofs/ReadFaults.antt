@@ -159,8 +159,7 @@ one_http_fault value isnt = by_answer (answer_of value) (λ parts e. absurd (isn
 
 -- White space after an open string doesn't close it.
 still_open : (state : State) (at : ℕ) (bytes white : List ℕ) → AreSpaces white
-    → answer_from state at bytes ≡ rejected MissingQuote
-    → answer_from state at (bytes ++ white) ≡ rejected MissingQuote
+    → answer_from state at bytes ≡ rejected MissingQuote → answer_from state at (bytes ++ white) ≡ rejected MissingQuote
 unfolding is_quoted_byte
 still_open (in_string parts name content) at [] [] all is = refl
 still_open (in_string parts name content) at [] (b ∷ white) all is =

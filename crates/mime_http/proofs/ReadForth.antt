@@ -99,8 +99,7 @@ module _ (before after bytes : List ℕ) (first : AreSpaces before) (second : Ar
 
 -- The parameters that HTTP writes are read as their pairs.
 reads_on : {text : List ℕ} {pairs : List (List ℕ × List ℕ)} → AreHttpParameters text pairs → (after : List ℕ)
-    → AreSpaces after
-    → ReadsOn (text ++ after) pairs
+    → AreSpaces after → ReadsOn (text ++ after) pairs
 unfolding is_token_byte
 reads_on no_more after white = record {
   ends = rw append-nil at (white_ends after [] white tt);

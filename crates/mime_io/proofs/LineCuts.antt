@@ -5,8 +5,7 @@ use Rattle.std.proofs.{Math.Numerals.one-add, lemmas.Bool.Decides.nat_tests, lem
 use Rattle.mime_io.specs.Lines.{lines_of}
 
 -- The first line is what stands before the first byte 10, and the other lines follow that byte.
-pub lines_of-first : (bytes : List ℕ) → 0 < length bytes
-    → lines_of bytes
+pub lines_of-first : (bytes : List ℕ) → 0 < length bytes → lines_of bytes
     ≡ take (position_or_len (λ b. nat_eq b 10) bytes) bytes ∷ lines_of (drop (position_or_len (λ b. nat_eq b 10) bytes + 1) bytes)
 lines_of-first [] h = absurd (omega arith)
 lines_of-first (b ∷ []) h = grind arith
