@@ -138,8 +138,7 @@ reads_long = record {
 -- The text of 41 bytes needs memory.
 long_needs : NeedsMemory long
 unfolding long long_value
-long_needs =
-    (good long long_value ∷ [], [], long, long_value, whole long long_value reads_long, (0, omega arith, refl), omega arith)
+long_needs = (good long long_value ∷ [], [], long, long_value, whole long long_value reads_long, (0, omega arith, refl), omega arith)
 
 -- The empty text needs no memory.
 pub empty_needs_none : ¬ (NeedsMemory [])

@@ -152,5 +152,4 @@ one_set text name value old media reads = ⊎_elim
 
 -- `mime_set_parameter` has one outcome.
 pub sets_to_one : SetsToOne
-sets_to_one text name value old =
-    one_in_room (one_of_reading (reading_of_value text) (λ media is. one_set text name value old media is.1))
+sets_to_one text name value old = one_in_room (one_of_reading (reading_of_value text) (λ media is. one_set text name value old media is.1))

@@ -58,8 +58,7 @@ unescaped_same bytes none = grind (arith, unescaped_before bytes (length bytes),
 pub unescaped_end : (front value : List ℕ) (start at : ℕ) → start ≡ length front → at ≤ length value
     → ((i : ℕ) → i < at → get_or value i 0 ≢ 92) → {bytes : List ℕ} → bytes ≡ value
     → take (start + at) (front ++ value) ++ unescaped (take (length bytes - at) (drop at bytes)) ≡ front ++ unescaped value
-unescaped_end front value start at long within none is =
-    grind (arith, take-append-add, append_assoc, unescaped_before, take_rest, is)
+unescaped_end front value start at long within none is = grind (arith, take-append-add, append_assoc, unescaped_before, take_rest, is)
 
 -- Two bytes mean one byte at least, but a backslash at the end means none.
 pub length-unescaped : (bytes : List ℕ) → length bytes ≤ 2 * length (unescaped bytes) + 1
@@ -138,8 +137,7 @@ quoted_len (b ∷ bytes) few = grind (arith, nat_tests, or_zero_r b, few 0, quot
 pub run_after : (class : ℕ → Bool) → ((b : ℕ) → is_token_byte b ≡ true → class b ≡ true)
     → (value : List ℕ) (plain : ℕ) → plain ≤ prefix_len is_token_byte value
     → (plain + prefix_len class (drop plain value) == length value) ≡ list_all class value
-run_after class wider value plain passed =
-    grind (arith, run_goes_on is_token_byte class wider value 0 plain, whole_run class value, passed)
+run_after class wider value plain passed = grind (arith, run_goes_on is_token_byte class wider value 0 plain, whole_run class value, passed)
 
 -- Bytes of quoted text are those of a quoted string that need no backslash.
 pub quoted_text : (bytes : List ℕ) → list_all is_quoted_text_byte bytes ≡ (list_all is_quoted_byte bytes && list_all is_plain bytes)

@@ -121,5 +121,4 @@ no_line_accepts = record { pieces = _; cut = are_cut _; sorted = as_range (codes
 
 -- It doesn't accept nothing.
 accepts_something : ¬ (IsHeader [] (record { ranges = []; bad = [] }))
-accepts_something is =
-    absurd (omega (arith, ap (λ (header : Header). length header.ranges) (one_header [] _ _ no_line_accepts is)))
+accepts_something is = absurd (omega (arith, ap (λ (header : Header). length header.ranges) (one_header [] _ _ no_line_accepts is)))

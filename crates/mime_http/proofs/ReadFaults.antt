@@ -167,8 +167,7 @@ still_open (in_string parts name content) at [] (b ∷ white) all is =
 still_open (in_subtype top []) at [] white all is = absurd cc
 still_open (in_value parts name []) at [] white all is = absurd cc
 still_open state at [] white all is = absurd cc
-still_open state at (b ∷ bytes) white all is =
-    grind (arith, by_option, λ (after : State). still_open after (at + 1) bytes white)
+still_open state at (b ∷ bytes) white all is = grind (arith, by_option, λ (after : State). still_open after (at + 1) bytes white)
 
 -- A value that lacks a quote lacks it before white space, too.
 pub open_after : (value white : List ℕ) → AreSpaces white → IsHttpFault value MissingQuote

@@ -27,8 +27,7 @@ pub ruleset lengths = (length-append, length-lowered, length-lowered_value)
 pub length-pairs : (pairs : List (List ℕ × List ℕ))
     → length (text_of_pairs (map lowered_pair pairs)) ≡ length (text_of_pairs pairs)
 length-pairs [] = refl
-length-pairs ((name, value) ∷ pairs) =
-    grind (arith, length-pairs pairs, test-either, lengths)
+length-pairs ((name, value) ∷ pairs) = grind (arith, length-pairs pairs, test-either, lengths)
 
 -- The parameter of a pair: its value is a token, or in quotes.
 abbrev parameter_of : List ℕ × List ℕ → Parameter
