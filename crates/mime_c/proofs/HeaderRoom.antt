@@ -33,15 +33,13 @@ kept_pairs test ((name, value) ∷ pairs) (is, are) =
     let more = kept_pairs test pairs are in
     let size = length-strings_of_pair name value pairs in
     let some = token-size name is.0 in
-    by_kept (test (name, value)) (name, value) (filter test pairs) (omega (arith, more, size))
-    (omega (
+    by_kept (test (name, value)) (name, value) (filter test pairs) (omega (arith, more, size)) (omega (
       arith,
       more,
       size,
       some,
       length-pair name value,
-      length-append (text_of_pair (name, value))
-          (text_of_pairs (filter test pairs)),
+      length-append (text_of_pair (name, value)) (text_of_pairs (filter test pairs)),
     ))
   where
     -- This holds whether the parameter passes the test or not.
@@ -139,8 +137,7 @@ value_fits value media reads printed =
       sizes.0,
       kept_fits printed,
       length-append media.essence (0 ∷ []),
-      length-append (media.essence ++ 0 ∷ [])
-          (strings (pair_texts media.pairs)),
+      length-append (media.essence ++ 0 ∷ []) (strings (pair_texts media.pairs)),
     )
   where
     -- A value is no shorter than it is without the white space around it.

@@ -79,8 +79,7 @@ lengths_of text media reads =
     subst (Lengths text) (sym (sym reads.valued ∙ keeps.valued ∙ value_of-lowering kept.tree ∙ ap value_of_low keeps.is_kept.low))
     (lengths-low text kept.tree (omega (
       arith,
-      length-kept (positions_of tree).pair_count (positions_of tree).semicolon
-          (text_of tree),
+      length-kept (positions_of tree).pair_count (positions_of tree).semicolon (text_of tree),
     )) some)
 
 -- The strings of a media type are at most twice as many bytes as the text that is read as it, and two.

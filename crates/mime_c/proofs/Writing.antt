@@ -85,8 +85,7 @@ writes-all {old} {now} {left} {all} {at} {end} leaves none = record {
       let behind : drop (length prefix) old ≡ drop (length prefix) older =
       ap (drop (length prefix)) wrote.there ∙ drop_at prefix _ (length prefix) refl in
       let after : drop (length (prefix ++ all)) old ≡ drop (length (prefix ++ all)) older =
-      rw (length-append prefix all)
-      (sym (drop-drop (length all) (length prefix) old) ∙ ap (drop (length all)) behind
+      rw (length-append prefix all) (sym (drop-drop (length all) (length prefix) old) ∙ ap (drop (length all)) behind
       ∙ drop-drop (length all) (length prefix) older) in
       record { there = cc (before, after, last.there); end = last.end ∙ ap (λ it. length (it ++ all)) before };
 }
@@ -111,8 +110,7 @@ writes-end {old} {new} {bytes} {at} within writes =
     omega (
       arith,
       (writes.adds old (take at old) (leaves-first old [] at within).wrote).end,
-      length-append
-          (take at old) bytes,
+      length-append (take at old) bytes,
       length-take at old,
     )
 
@@ -176,8 +174,7 @@ module _ {text old now left next : List ℕ} {at : ℕ} {item : CutItem} (lists 
       let has = has_cut next in
       let all = item ∷ has.items in
       let size = items_fit text _ has.rest (lists.cuts all has.rest (is_first has.items has.rest has.cut)) in
-      rw (← is)
-      (fits lists.wrote (item_text item) (strings (item_texts has.items))
+      rw (← is) (fits lists.wrote (item_text item) (strings (item_texts has.items))
       (omega (arith, room, size, ap length (strings_of_items lists.before all))))
 
   -- The items after the next are left once the next is written.

@@ -269,8 +269,7 @@ is_cut (suc most) line short {lines} {pieces} rest =
     let first = first_entry line refl less in
     let others = is_cut most (drop (n + 1) line) (omega (arith, short, less, length-drop (n + 1) line)) rest in
     subst (λ text. AreBetweenCommas IsPiece BeginsPiece (text ∷ lines) (take n line ∷ (cut_after (drop n line) ++ pieces)))
-    (sym first.0)
-    (rw (drop_more line n 0 less) (comma (take n line) (drop (n + 1) line) lines _ first.1 others)))
+    (sym first.0) (rw (drop_more line n 0 less) (comma (take n line) (drop (n + 1) line) lines _ first.1 others)))
     (λ past. rw (take_all n line past, drop_of_length-le line past) (line_end line lines pieces (last_entry line refl past) rest))
     (cases_lt n (length line)))
 

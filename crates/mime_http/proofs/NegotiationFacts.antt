@@ -75,8 +75,7 @@ bad_between : IsHeader (codes "c/d, a b" ∷ codes "a/b " ∷ [])
     (record { ranges = media_of c_d ∷ media_of a_b ∷ []; bad = codes "a b" ∷ [] })
 unfolding is_token_byte
 bad_between = (bad_is_alone (codes "c/d, a b" ∷ codes "a/b " ∷ []) (codes "c/d" ∷ codes "a/b " ∷ []) (codes "c/d" ∷ [])
-    (codes "a/b " ∷ [])
-    (codes " a b") _ _ [] [] (as_range (codes "c/d") c_d (omega arith) refl refl no_text)
+    (codes "a/b " ∷ []) (codes " a b") _ _ [] [] (as_range (codes "c/d") c_d (omega arith) refl refl no_text)
     (as_range (codes "a/b ") a_b (omega arith) refl refl no_text)
     (λ blank. true≢false (sym blank)) (λ is. not_media_type is.1) (are_cut _) (are_cut _)).0
 

@@ -162,6 +162,5 @@ qvalues_are text = (is_one text, λ is. passes text is.0 is.1)
         (it.0, subst (λ b. IsQvalue (b ∷ more) it.0) (grind (arith, nat_tests, first)) it.1))
         (λ other. (
           1000,
-          subst (λ b. IsQvalue (b ∷ more) 1000) (grind (arith, nat_tests, is, other))
-              (at_1 more (grind (arith, nat_tests, is, other))),
+          subst (λ b. IsQvalue (b ∷ more) 1000) (grind (arith, nat_tests, is, other)) (at_1 more (grind (arith, nat_tests, is, other))),
         )) (cases_Bool (b == 48))

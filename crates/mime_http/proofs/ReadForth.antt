@@ -32,8 +32,7 @@ reads_one (with_token name value named valued) bytes ends = record {
   utf8 = λ utf8.
       let (here, rest) = past_token value bytes valued (around name 61 (value ++ bytes) (omega arith) (simp regroup at utf8)).1 in
       (utf8_pair name value named here, rest);
-  reads = λ parts at.
-      (simp regroup (name_begins parts name named at (61 ∷ (value ++ bytes))))
+  reads = λ parts at. (simp regroup (name_begins parts name named at (61 ∷ (value ++ bytes))))
       ∙ on_value parts name value (AreTokenBytes-from_token value valued) [] (at + length name + 1) bytes
       ∙ value_ends parts name value valued _ bytes ends
       ∙ ap (λ to. answer_from (before_semicolon (with_parameter parts name value)) to bytes)

@@ -34,8 +34,7 @@ put_range-at-requires c =
     omega (
       arith,
       fit,
-      ap (λ all. length (strings (ranges_texts all)))
-          (ranges ∙ ap (λ (it : Header). it.ranges) header.2),
+      ap (λ all. length (strings (ranges_texts all))) (ranges ∙ ap (λ (it : Header). it.ranges) header.2),
       c.if-out-text.false,
     ) in
     leaves-holds c.loop-range.invariant (strings (range_texts c.range-item.result.media)) _

@@ -75,8 +75,7 @@ returns-in-Ok-None c =
     let http = c.in-Ok.ensures.http in
     let name = c.in-Ok-text_of.ensures.cases in
     let value = c.in-Ok-text_of-2.ensures.cases in
-    has_room _ _ (c.if-not-has_room.ensures.0 refl) (is_read _ _ _ (http.0, http.1, c.in-Ok.ensures.kept)
-    (isnt_parameter (λ is.
+    has_room _ _ (c.if-not-has_room.ensures.0 refl) (is_read _ _ _ (http.0, http.1, c.in-Ok.ensures.kept) (isnt_parameter (λ is.
     let some = c.in-Ok-None.ensures.exact.1 (subst IsToken (sym name.0) is.named, subst AreHeaderBytes (sym value.0) is.safe) in
     absurd (true≢false (sym some ∙ ap is_some c.in-Ok-None.field-0-is)))))
 

@@ -16,5 +16,4 @@ returns-in_err-bare-clause-memory c =
 
 pub returns-clause-value : goal.returns-clause-value
 returns-clause-value c =
-    c.one_reading.ensures _ _ _ (search rules)
-    (bare_is_read c.essence_is_read.ensures c.as_str-kept.ensures.reads c.essence_str.ensures)
+    c.one_reading.ensures _ _ _ (search rules) (bare_is_read c.essence_is_read.ensures c.as_str-kept.ensures.reads c.essence_str.ensures)

@@ -17,8 +17,7 @@ of_first : {A : Type 0} {label part : List ℕ} (value : List ℕ) (name_of : A 
 of_first value name_of file_of None first none = (
   Some value,
   first,
-  λ other name file same is. none name file
-      (subst (λ it. IsDisposition it name file) (sym (same_Some _ _ same)) is),
+  λ other name file same is. none name file (subst (λ it. IsDisposition it name file) (sym (same_Some _ _ same)) is),
 )
 of_first value name_of file_of (Some found) first is = (Some value, first, (value, refl, is))
 
