@@ -50,17 +50,9 @@ module _ {old now left all : List ℕ} {at : ℕ} (leaves : Leaves old now at le
   -- The next bytes that are left fit.
   pub leaves-holds : (bytes more : List ℕ) → left ≡ bytes ++ more → length all ≤ length old → at + length bytes ≤ length now
   leaves-holds bytes more is room =
+      let there = ap length leaves.wrote.there in
       let sizes = ap length leaves.onward in
-      omega (
-        arith,
-        leaves.wrote.end,
-        ap length leaves.wrote.there,
-        sizes,
-        ap length is,
-        room,
-        length-append {A = ℕ},
-        length-drop {A = ℕ},
-      )
+      omega (arith, leaves.wrote.end, there, sizes, ap length is, room, length-append {A = ℕ}, length-drop {A = ℕ})
 
   -- The bytes after the next are left once the next are written.
   pub leaves-next : (bytes more new : List ℕ) (end : ℕ) → left ≡ bytes ++ more → Writes now at bytes new end
@@ -107,12 +99,8 @@ pub writes-end : {old new bytes : List ℕ} {at end : ℕ} → at ≤ length old
     → end ≡ at + length bytes
 unfolding leaves-first
 writes-end {old} {new} {bytes} {at} within writes =
-    omega (
-      arith,
-      (writes.adds old (take at old) (leaves-first old [] at within).wrote).end,
-      length-append (take at old) bytes,
-      length-take at old,
-    )
+    let wrote = writes.adds old (take at old) (leaves-first old [] at within).wrote in
+    omega (arith, wrote.end, length-append (take at old) bytes, length-take at old)
 
 -- Bytes that are written first are all that is written.
 pub wrote-first : {old new bytes : List ℕ} {end : ℕ} → Writes old 0 bytes new end → HasWritten old new end bytes

@@ -37,15 +37,9 @@ put_string-requires c =
     let made : c.in-Ok-Some.made.media ≡ with_parameter c.in-Ok.mime.media c.in-Ok-text_of.name.now c.in-Ok-text_of-2.value.now =
     search rules in
     let is = made_is c.in-Ok.mime.media c.in-Ok-text_of.ensures.cases.0 c.in-Ok-text_of-2.ensures.cases.0 made in
-    let room = c.if-not-has_room.ensures.0 refl in
-    omega (
-      arith,
-      room,
-      set_fits c.args.text.now c.args.name.now c.args.value.now c.in-Ok.mime.media c.in-Ok.ensures.http.1,
-      ap (λ (it : MediaType). length it.kept) is,
-      ap length c.as_str.ensures.text,
-      ap length c.as_bytes.ensures.value,
-    )
+    let kept = ap (λ (it : MediaType). length it.kept) is in
+    let fits = set_fits c.args.text.now c.args.name.now c.args.value.now c.in-Ok.mime.media c.in-Ok.ensures.http.1 in
+    omega (arith, c.if-not-has_room.ensures.0 refl, fits, kept, ap length c.as_str.ensures.text, ap length c.as_bytes.ensures.value)
 
 pub returns-in-Ok-Some : goal.returns-in-Ok-Some
 returns-in-Ok-Some c =
