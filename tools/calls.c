@@ -127,11 +127,10 @@ static void look_up_each(void)
     for (const char *it = answer == MIME_OK ? mime_next(out) : out; it < out + found.printed; it = mime_next(mime_next(it))) {
         const size_t size = strlen(it);
         look_up(it);
-        look_up("");
-        for (size_t i = 0; i <= size; i++) {
-            name[i] = i < size ? (char)toupper((unsigned char)it[i]) : 'x';
-            name[i + 1] = 0;
+        for (size_t i = 0; i <= size + 1; i++) {
+            name[i] = 0;
             look_up(name);
+            name[i] = i < size ? (char)toupper((unsigned char)it[i]) : 'x';
         }
     }
 }

@@ -137,8 +137,7 @@ def check_unescape(text):
 def check_boundary(text):
     value, (_, essence, pairs) = (yield call("content_type", text)), MODEL.read(text) or ("", "", [])
     named = [it for name, it in MODEL.meant(pairs) if name == "boundary" and essence.startswith("multipart/")]
-    # RFC 2046, 5.1.1
-    wanted = [it for it in named[:1] if re.fullmatch(r"(?a)[\w'()+,\-./:=? ]{0,69}[\w'()+,\-./:=?]", it)]
+    wanted = [it for it in named[:1] if re.fullmatch(r"(?a)[\w'()+,\-./:=? ]{0,69}[\w'()+,\-./:=?]", it)]  # RFC 2046, 5.1.1
     it = yield call("boundary", text, may_do_without=not wanted)
     assert it.answer == (value.answer if value.answer != OK or wanted else NO_BOUNDARY)
     assert it.strings == wanted and it.length == len("".join(wanted))
