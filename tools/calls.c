@@ -5,8 +5,7 @@
  * for memory, the largest, the most blocks and bytes that it held, its bytes of stack, and the count of bytes that it wrote; then these.
  *
  * Each call is also made with each smaller buffer, where it has no room, and with each of its requests for memory refused. What is wrong
- * there ends this program with status 1. With an argument each call is made once, on a stack of its own, which is measured.
- * tools/c_calls builds this with --wrap for malloc, realloc and free. */
+ * there ends this program with status 1. With an argument each call is made once, on a stack of its own, which is measured. */
 #define _GNU_SOURCE
 #include "mime.h"
 #include <ctype.h>
