@@ -1,12 +1,11 @@
 /* SPDX-License-Identifier: MIT */
-/* Makes calls of include/mime.h for tools/calls.py. For each call standard input has a line: its name, the size of its buffer, whether it
- * may do without memory that is refused, and the lengths of three strings; then it has these. Each of them, and the buffer, ends where a
- * page begins that can't be touched. Standard output has, as numbers of eight bytes, what the call answers and finds, its requests for
- * memory, the largest, the most blocks and bytes that it held, its bytes of stack, and the count of bytes that it wrote; then these.
+/* Makes calls of include/mime.h for tools/calls.py. For each call standard input has a line: its name, how many positions it may write,
+ * whether it may do without memory that is refused, and the lengths of three strings; then it has these. Each of them, and the buffer, ends
+ * where a page begins that can't be touched. Standard output has, as numbers of eight bytes, what the call answers and finds, its requests
+ * for memory, the largest, the most blocks and bytes that it held, its bytes of stack, and the count of bytes that it wrote; then these.
  *
  * Each call is also made with each smaller buffer, where it has no room, and with each of its requests for memory refused. What is wrong
- * there ends this program with status 1. With an argument each call is made once, on a stack of its own, which is measured.
- * tools/c_calls builds this with --wrap for malloc, realloc and free. */
+ * there ends this program with status 1. With an argument each call is made once, on a stack of its own, which is measured. */
 #define _GNU_SOURCE
 #include "mime.h"
 #include <ctype.h>
@@ -98,21 +97,6 @@ static void check(int is_so)
              names[call], (int)len[0], in[0], (int)len[1], in[1], (int)len[2], in[2], answer, out_len, refused_at);
 }
 
-/* How many bytes the call's buffer has to have, by the macros. */
-static size_t room(void)
-{
-    switch (call) {
-    case READ: return MIME_READ_ROOM(len[0]);
-    case CONTENT_TYPE: return MIME_CONTENT_TYPE_ROOM(len[0]);
-    case ACCEPT: return MIME_ACCEPT_ROOM(len[0]);
-    case LIST: return MIME_LIST_ROOM(len[0]);
-    case BOUNDARY: return MIME_BOUNDARY_ROOM;
-    case UNESCAPE: return MIME_UNESCAPE_ROOM(len[0]);
-    case SET_PARAMETER: return MIME_SET_PARAMETER_ROOM(len[0], len[1], len[2]);
-    default: return out_len;
-    }
-}
-
 /* How many bytes the call has written, from the start of its buffer on, or less. */
 static size_t written(void)
 {
@@ -142,11 +126,10 @@ static void look_up_each(void)
     for (const char *it = answer == MIME_OK ? mime_next(out) : out; it < out + found.printed; it = mime_next(mime_next(it))) {
         const size_t size = strlen(it);
         look_up(it);
-        look_up("");
-        for (size_t i = 0; i <= size; i++) {
-            name[i] = i < size ? (char)toupper((unsigned char)it[i]) : 'x';
-            name[i + 1] = 0;
+        for (size_t i = 0; i <= size + 1; i++) {
+            name[i] = 0;
             look_up(name);
+            name[i] = i < size ? (char)toupper((unsigned char)it[i]) : 'x';
         }
     }
 }
@@ -155,7 +138,6 @@ static void look_up_each(void)
 static void make_each(int may_do_without)
 {
     make();
-    check(out_len == room());
     const struct mime_found whole = found;
     const uint32_t right = answer;
     const size_t size = out_len, step = call == ORDER ? sizeof(size_t) : 1;
@@ -195,6 +177,7 @@ static size_t stack_of_call(void)
 int main(int argc, char **argv)
 {
     char name[16], *ends[STRINGS + 1];
+    size_t positions;
     int may_do_without;
     (void)argv;
     for (int i = 0; i <= STRINGS; i++) {
@@ -204,12 +187,17 @@ int main(int argc, char **argv)
     }
     out_end = ends[STRINGS];
     memset(untouched, 'U', ROOM);
-    while (scanf("%15s%zu%d%zu%zu%zu", name, &out_len, &may_do_without, &len[0], &len[1], &len[2]) == 6 && getchar() == '\n') {
+    while (scanf("%15s%zu%d%zu%zu%zu", name, &positions, &may_do_without, &len[0], &len[1], &len[2]) == 6 && getchar() == '\n') {
         for (int i = 0; i < STRINGS; i++)
             if (fread(in[i] = ends[i] - len[i], 1, len[i], stdin) != len[i])
                 return 2;
         for (call = 0; call < NONE && strcmp(names[call], name) != 0; call++)
             ;
+        const size_t rooms[NONE + 1] = {[READ] = MIME_READ_ROOM(len[0]), [CONTENT_TYPE] = MIME_CONTENT_TYPE_ROOM(len[0]),
+            [ACCEPT] = MIME_ACCEPT_ROOM(len[0]), [LIST] = MIME_LIST_ROOM(len[0]), [BOUNDARY] = MIME_BOUNDARY_ROOM,
+            [UNESCAPE] = MIME_UNESCAPE_ROOM(len[0]), [SET_PARAMETER] = MIME_SET_PARAMETER_ROOM(len[0], len[1], len[2]),
+            [ORDER] = positions * sizeof(size_t)};
+        out_len = rooms[call];
         const size_t stack = argc > 1 ? stack_of_call() : 0;
         if (argc == 1)
             make_each(may_do_without);

@@ -17,11 +17,6 @@ from commands import SHORT, TOP, run, told
 # The model shares no code with the crates.
 MODEL = SimpleNamespace(**runpy.run_path(f"{TOP}/vectors/http_model"))
 OK, _, MISSING_SUBTYPE, _, _, _, INVALID_BYTE, NO_MEMORY, NOT_UTF8, _, NOT_ACCEPTABLE, BAD_OFFER, NO_BOUNDARY, BAD_PARAMETER = range(14)
-# The size of the buffer that a call needs, if it needs one.
-ROOMS = {"read": lambda text: 2 * len(text) + 2, "content_type": lambda value: 3 * len(value) + 2,
-         "accept": lambda text: 3 * len(text) + 3, "list": lambda text: 2 * len(text),
-         "order": lambda accept, offers: 8 * offers.count(",") + 8, "boundary": lambda value: 71, "unescape": lambda value: len(value) + 1,
-         "set_parameter": lambda text, name, value: 2 * len(text) + len(name) + 2 * len(value) + 6}
 OFFERS = ["text/html", "image/svg+xml;p=x", "a/b", "text/html"]
 # What the texts near the grammar are made of.
 PIECES = ["a", "text", "/", "/", ";", ";", "; ", "=", "=", '"', '"', "\\", "+", ",", "*/*", "a/b", "text/html;q=0.5", " ",
@@ -36,9 +31,9 @@ written = lambda *strings: "".join(f"{it}\0" for it in strings)
 
 def call(name, *strings, may_do_without=False):
     """A call as tools/calls.c reads it. In its strings, and in what it gives, a character stands for each byte."""
-    room = ROOMS[name](*strings) if name in ROOMS else 0
+    positions = strings[1].count(",") + 1 if name == "order" else 0
     lengths = [*map(len, strings), 0, 0]
-    return f"{name} {room} {may_do_without:d} {' '.join(map(str, lengths[:3]))}\n{''.join(strings)}".encode("latin-1")
+    return f"{name} {positions} {may_do_without:d} {' '.join(map(str, lengths[:3]))}\n{''.join(strings)}".encode("latin-1")
 
 
 def made(words, calls):
@@ -107,20 +102,14 @@ def check_content_type(text):
         assert same.strings == it.strings and (bare.params, bare.strings[:1]) == (0, it.strings[:1])
 
 
-def first_bad(text):
-    """How many ranges come before the first bad entry of a line."""
-    at = count = 0
-    while (media := MODEL.read(piece := MODEL.ELEMENT.match(text, at)[0])) or not piece.strip(" \t"):
-        at, count = at + len(piece) + 1, count + bool(media)
-    return count
-
-
 def check_accept(text):
     it = yield call("accept", text)
     ranges, bad = MODEL.entries([text])
     wanted = "".join(written(f"{MODEL.weight_of(media):04}", media[1], *chain(*media[2]), "") for media in ranges)
-    assert (it.answer, it.params, it.written) == (OK, len(bad), wanted)
-    refusal = (BAD_OFFER, first_bad(text)) if bad else (NOT_ACCEPTABLE, 0)
+    # A bad entry asks for no memory.
+    assert (it.answer, it.params, it.written) == (OK, len(bad), wanted) and (ranges or it.requests == 0)
+    # The first bad entry comes after so many ranges.
+    refusal = (BAD_OFFER, [*map(MODEL.read, MODEL.pieces(text))].index(None)) if bad else (NOT_ACCEPTABLE, 0)
     none = yield call("best", "", text)
     assert (none.answer, none.length) == refusal
     best = yield call("best_of_all", text)
@@ -148,8 +137,7 @@ def check_unescape(text):
 def check_boundary(text):
     value, (_, essence, pairs) = (yield call("content_type", text)), MODEL.read(text) or ("", "", [])
     named = [it for name, it in MODEL.meant(pairs) if name == "boundary" and essence.startswith("multipart/")]
-    # RFC 2046, 5.1.1
-    wanted = [it for it in named[:1] if re.fullmatch(r"(?a)[\w'()+,\-./:=? ]{0,69}[\w'()+,\-./:=?]", it)]
+    wanted = [it for it in named[:1] if re.fullmatch(r"(?a)[\w'()+,\-./:=? ]{0,69}[\w'()+,\-./:=?]", it)]  # RFC 2046, 5.1.1
     it = yield call("boundary", text, may_do_without=not wanted)
     assert it.answer == (value.answer if value.answer != OK or wanted else NO_BOUNDARY)
     assert it.strings == wanted and it.length == len("".join(wanted))

@@ -170,6 +170,11 @@ def text_of(path):
     return Path(TOP, path).read_bytes().decode()
 
 
+def blocks_of(text):
+    """The indented blocks of a document, in order."""
+    return [re.sub(r"(?m)^ {4}", "", it) for it in re.findall(r"(?m)(?:^ {4}.*\n)+(?:\n+(?: {4}.*\n)+)*", text)]
+
+
 def write(path, text):
     os.makedirs(os.path.dirname(path), exist_ok=True)
     Path(path).write_text(text, encoding="utf-8")

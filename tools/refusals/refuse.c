@@ -3,7 +3,6 @@
  * REFUSE=K refuses the K-th request after each line "now" that the program writes to its standard output, up to the line
  * "end", or, with REFUSE_FROM=start, the K-th after it began. Giving memory back isn't a request. At each line "end", or when
  * the program ends, the number of requests and of bytes goes to the file descriptor REFUSE_COUNT, and 1 if one was refused. */
-#include <errno.h>
 #include <stdio.h>
 #include <stdlib.h>
 #include <string.h>
@@ -32,9 +31,7 @@ static int refuses(size_t size)
     if (!counting)
         return 0;
     bytes += size;
-    if (++requests == refused_at)
-        errno = ENOMEM;
-    return requests == refused_at;
+    return ++requests == refused_at;
 }
 
 void *malloc(size_t size) { return refuses(size) ? NULL : __libc_malloc(size); }
