@@ -1,31 +1,12 @@
 -- Heads and offers have one report, with one verdict, so that a page that says less doesn't check.
-use Rattle.mime_headers.proofs.Common.{AddsChoice, AddsEntry, AddsHead, AddsReading, AddsType, Bool, Err, FieldError, FoldsTo, HasBoundary, HttpExplains, Invalid, IsAnswer, IsHttpMediaType, IsRead, IsReport, IsReportOf, IsUtf8, List, MediaType, NoMemory, None, NotUtf8, Ok, Option, Result, Some, State, Verdict, [], ap, ap₂, arith, bare_lines, codes, false, heads_of, is_cut, length, media_rows, nat_lt, no_fault, offer_rows, one_http_fault, one_printed_text, one_ranking, only_cut, refl, sym, trimmed, true, utf8_valid_len-IsValidUpTo, with_entry, ℕ, ◌++◌, ◌∙◌, ◌∷◌, ◌≡◌, ◌≢◌}
-
--- No value is both a media type and rejected.
-not_both : (value : List ℕ) (error : FieldError) → IsUtf8 value → IsHttpMediaType value → error ≢ NoMemory
-    → ¬ (HttpExplains value error)
-not_both value (NotUtf8 pos) utf8 is some why = why.0 utf8
-not_both value (Invalid fault) utf8 is some why = no_fault value fault is why.1
-not_both value NoMemory utf8 is some why = some refl
-
--- A rejected value has one error.
-one_error : (value : List ℕ) (error other : FieldError) → error ≢ NoMemory → other ≢ NoMemory → HttpExplains value error
-    → HttpExplains value other → error ≡ other
-one_error value NoMemory other some more why too = absurd (some refl)
-one_error value error NoMemory some more why too = absurd (more refl)
-one_error value (NotUtf8 pos) (NotUtf8 at) some more why too =
-    ap NotUtf8 (sym (utf8_valid_len-IsValidUpTo value pos why.1) ∙ utf8_valid_len-IsValidUpTo value at too.1)
-one_error value (NotUtf8 pos) (Invalid fault) some more why too = absurd (why.0 too.0)
-one_error value (Invalid fault) (NotUtf8 pos) some more why too = absurd (too.0 why.0)
-one_error value (Invalid fault) (Invalid other) some more why too =
-    let only = (one_http_fault value (λ is. no_fault value fault is why.1)).2 in ap Invalid (only fault why.1 ∙ sym (only other too.1))
+use Rattle.mime_headers.proofs.Common.{AddsChoice, AddsEntry, AddsHead, AddsReading, AddsType, Bool, Err, FieldError, FoldsTo, HasBoundary, IsAnswer, IsRead, IsReport, IsReportOf, List, MediaType, None, Ok, Option, Result, Some, State, Verdict, [], ap, ap₂, arith, bare_lines, codes, false, heads_of, is_cut, length, media_rows, nat_lt, no_field_error, offer_rows, one_field_error, one_printed_text, one_ranking, only_cut, refl, sym, trimmed, true, with_entry, ℕ, ◌++◌, ◌∙◌, ◌∷◌, ◌≡◌}
 
 -- A value is read in one way.
 one_reading : (value : List ℕ) (one other : Result MediaType FieldError) → IsRead value one → IsRead value other → one ≡ other
 one_reading value (Ok media) (Ok other) is too = ap Ok (one_printed_text value media other is.1 is.2 too.1 too.2)
-one_reading value (Ok media) (Err error) is why = absurd (not_both value error is.0 (media, is.1) why.0 why.1)
-one_reading value (Err error) (Ok media) why is = absurd (not_both value error is.0 (media, is.1) why.0 why.1)
-one_reading value (Err error) (Err other) why too = ap Err (one_error value error other why.0 too.0 why.1 too.1)
+one_reading value (Ok media) (Err error) is why = absurd (no_field_error value error is.0 (media, is.1) why.0 why.1)
+one_reading value (Err error) (Ok media) why is = absurd (no_field_error value error is.0 (media, is.1) why.0 why.1)
+one_reading value (Err error) (Err other) why too = ap Err (one_field_error value error other why.0 too.0 why.1 too.1)
 
 -- A media type has one boundary or none.
 one_boundary : (media : MediaType) (one other : Option (List ℕ)) → HasBoundary media one → HasBoundary media other → one ≡ other

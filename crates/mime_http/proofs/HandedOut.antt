@@ -6,6 +6,8 @@ pub use Rattle.mime_http.proofs.Contents.{content_of_escaped, unescaped_same, un
 -- Lines are cut in one way, and each line is; a search finds the first of two marks.
 pub use Rattle.mime_http.proofs.Cuts.{one_cut, only_cut, mark_found}
 pub use Rattle.mime_http.specs.LineCut.{is_mark}
+-- A header's value that is a media type has no error, and any other has one.
+pub use Rattle.mime_http.proofs.FieldErrors.{no_field_error, one_field_error}
 -- The laws of a header's value: it is one media type, of which one text is printed, which is read as it, also what is written anew.
 pub use Rattle.mime_http.proofs.HttpLaws.{one_printed_text, printed_is_read, same_anew, written_reads}
 -- A text is a media type or isn't, and so each line has one header, with one first bad entry if an entry is bad.

@@ -4,6 +4,7 @@ pub mod Common
 pub mod Contents
 pub mod Cuts
 pub mod Demanded
+pub mod FieldErrors
 pub mod Highest
 pub mod HttpFacts
 pub mod HttpLaws
