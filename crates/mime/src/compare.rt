@@ -106,11 +106,13 @@ fn has_list_of(mime: &Mime, s: &str) -> bool
 }
 
 /// Returns `true` if a string is equal to a value with parameters. The essences are compared, then the parameters, and
-/// then the string is scanned. This function isn't inlined: few strings need it.
+/// then the string is scanned. If `equal_ignoring_case` is true, the string equals the kept text ignoring ASCII case,
+/// so it is accepted, and isn't scanned. This function isn't inlined: few strings need it.
 #[inline(never)]
-fn eq_by_parts(mime: &Mime, s: &str) -> bool
+fn eq_by_parts(mime: &Mime, s: &str, equal_ignoring_case: bool) -> bool
     requires reads { Reads mime.now.media.kept mime.now.media }
     requires some { mime.now.media.pairs ≢ [] }
+    requires equal { IsTrue equal_ignoring_case → lowered mime.now.media.kept ≡ lowered s.now }
     ensures { IsTrue result ↔ TextIs mime.now.media s.now }
 {
     let essence = mime.essence_str();
@@ -124,7 +126,7 @@ fn eq_by_parts(mime: &Mime, s: &str) -> bool
     ) {
         return false;
     }
-    has_list_of(mime, s)
+    equal_ignoring_case || has_list_of(mime, s)
 }
 
 /// Returns `true` if a byte isn't a space, a tab or a quote. If this function returns `true` for both bytes at which
@@ -176,8 +178,8 @@ fn eq_other_text(mime: &Mime, s: &str) -> bool
 {
     match compare_texts(mime.as_str(), s) {
         Compared::Different => false,
-        Compared::Equal => mime.pairs().is_lone_charset() || eq_by_parts(mime, s),
-        Compared::Undecided => eq_by_parts(mime, s),
+        Compared::Equal => mime.pairs().is_lone_charset() || eq_by_parts(mime, s, true),
+        Compared::Undecided => eq_by_parts(mime, s, false),
     }
 }
 

@@ -179,6 +179,7 @@ pub fn kept_text_is()
 
 /// A look-up in a list of parameters has at most one result: a value, or `None`. It has a result if the key either
 /// accepts or rejects each name: `TextKey("P")` finds `1` in `a/b;p=1;p=2`, and nothing else.
+#[tactic(auto, using(crate::proofs::LawsLemmas::Keys::one_answer, crate::proofs::LawsLemmas::Keys::has_answer))]
 pub fn one_answer<K: ParamKey>(key: &K)
     ensures most { OneAnswer (K.Accepts key.now) }
     ensures least { HasAnswer (K.Accepts key.now) }
@@ -186,6 +187,7 @@ pub fn one_answer<K: ParamKey>(key: &K)
 
 /// A key that is a string, a `TextKey` or a `Name` either accepts or rejects each name: `"P"` accepts `p` and rejects
 /// `q`.
+#[tactic(auto, using(crate::proofs::LawsLemmas::Keys::text_decides))]
 pub fn keys_decide()
     ensures string { (key : Bor (List ℕ)) → IsDecided (⟦<&'static str as ParamKey>⟧.Accepts key) }
     ensures text { (key : TextKey) → IsDecided (⟦<TextKey<'static> as ParamKey>⟧.Accepts key) }
@@ -198,6 +200,7 @@ pub fn mime_equality()
 {}
 
 /// The `Ordering` of two values says which is before the other, or that they are equal: `a/b` is less than `a/c`.
+#[tactic(auto, using(crate::proofs::ValueLemmas::Traits::tells_media))]
 pub fn mime_order()
     ensures { (first second : OwnedMedia) → IsOrderOf first.media second.media (⟦<Mime as Ord>⟧.cmp first second) }
 {}

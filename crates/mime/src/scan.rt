@@ -71,6 +71,7 @@ fn token(reader: &mut ByteReader<'_>, with_plus: bool) -> Option<u8>
 }
 
 /// Reads optional white space (OWS of RFC 7230, 3.2.3: spaces and tabs), and returns the byte that ends it.
+#[tactic(auto, using(crate::proofs::ScanLemmas::Passing::passing_more))]
 #[inline(always)]
 fn spaces(reader: &mut ByteReader<'_>) -> Option<u8>
     ensures { Passes is_space reader.old reader.new result }
@@ -84,6 +85,7 @@ fn spaces(reader: &mut ByteReader<'_>) -> Option<u8>
 }
 
 /// Reads quoted text (qdtext of RFC 7230, 3.2.6), and returns the byte that ends it.
+#[tactic(auto, using(crate::proofs::ScanLemmas::Passing::passing_more))]
 #[inline(always)]
 fn quoted_text(reader: &mut ByteReader<'_>) -> Option<u8>
     ensures { Passes is_quoted_text_byte reader.old reader.new result }
@@ -178,6 +180,7 @@ pub(crate) fn parameters(reader: &mut ByteReader<'_>, before: Positions) -> Scan
 }
 
 /// Reads ASCII characters that can't begin a media type, and returns the byte after them.
+#[tactic(auto, using(crate::proofs::ScanLemmas::Passing::passing_more))]
 #[inline(always)]
 pub(crate) fn separators(reader: &mut ByteReader<'_>) -> Option<u8>
     ensures { Passes is_ascii_not_token reader.old reader.new result }

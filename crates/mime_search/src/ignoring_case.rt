@@ -7,12 +7,20 @@ ghost use Rattle.mime_search.specs.Differences.{difference_bit, lowered, DifferF
 use crate::class::{BLOCK, Class};
 use crate::search::first_stop;
 
+/// The bit in which a lowercase ASCII letter and its capital differ.
+const CASE_BIT: u8 = 0x20;
+
 /// Returns 1 if two bytes differ ignoring ASCII case, else 0.
 #[inline(always)]
 fn difference(x: u8, y: u8) -> u8
     ensures { result ≡ difference_bit x y }
 {
-    u8::from(x.to_ascii_lowercase() != y.to_ascii_lowercase())
+    let case = if (x | CASE_BIT).is_ascii_lowercase() {
+        CASE_BIT
+    } else {
+        0
+    };
+    u8::from((x ^ y) & !case != 0)
 }
 
 /// Returns, for each position in the first block of two byte strings, 1 if their bytes differ ignoring ASCII case, else

@@ -103,6 +103,17 @@ text_is-by_parts kept text value reads some =
           },
     )
 
+-- a text that differs from the kept text only in case is accepted
+pub accepted_at-case : (kept text : List ℕ) (value : MediaType) → Reads kept value → value.pairs ≢ []
+    → lowered kept ≡ lowered text
+    → IsAcceptedAt text (length value.essence) (length value.pairs)
+accepted_at-case kept text value reads some is =
+    let found = case_read text kept value reads (sym is) in
+    let counted = case_read-count text value found in
+    subst (λ n. IsAcceptedAt text n (length value.pairs)) (ap length (sym found.essence))
+    (subst (IsAcceptedAt text (length found.read.essence)) (sym counted)
+    (accepted_at text found.read found.reads (λ none. some (nil_from_length value.pairs (counted ∙ ap length none)))))
+
 -- a text that differs from the kept text only in case is equal to the value, if the only parameter is a charset
 pub text_is-lone_charset : (kept text : List ℕ) (value : MediaType) → Reads kept value → value.pairs ≢ []
     → lowered kept ≡ lowered text

@@ -45,10 +45,6 @@ pub takes-backslash : IsTrue (takes false backslash_byte)
 unfolding is_quoted_byte
 takes-backslash = refl
 
--- what is taken and is no backslash is quoted text
-text-taken : (b : ℕ) → IsTrue (takes false b) → IsFalse (b == backslash_byte) → IsTrue (is_quoted_text_byte b)
-text-taken b taken other = grind (arith, nat_tests)
-
 -- no other byte is taken
 pub not_taken : (b : ℕ) → IsFalse (is_quoted_text_byte b) → IsFalse (b == backslash_byte) → IsFalse (takes false b)
 not_taken b no_text other = grind (arith, nat_tests)
@@ -92,7 +88,7 @@ content_from false (b ∷ bytes) all done =
     go : (backslash : Bool) → b == backslash_byte ≡ backslash → IsTrue (takes false b) → ContentFrom backslash bytes
         → IsContent (b ∷ bytes)
     go true same taken more = subst (λ first. IsContent (first ∷ bytes)) (sym (eqb-true b backslash_byte same)) more
-    go false other taken more = text_byte b bytes (text-taken b taken other) more
+    go false other taken more = text_byte b bytes (grind (arith, nat_tests, taken, other)) more
 
 -- Open content that awaits no byte is content.
 pub IsContent-taken : (content : List ℕ) → IsOpenContent content → awaits_after false content ≡ false → IsContent content

@@ -25,10 +25,6 @@ drop-from : (bytes : List ℕ) (p b : ℕ) → slice_get bytes p ≡ Some b → 
 drop-from bytes p b there =
     drop_more bytes p b (slice_get_within bytes p b there) ∙ ap (λ x. x ∷ drop (p + 1) bytes) (get_or_from_slice_get bytes p b b there)
 
--- the type is the tree's, and what follows the slash is its subtype
-type_of-read : (text : List ℕ) (value : MediaType) (reads : Reads text value) → type_of value ≡ lowered reads.tree.top
-type_of-read text value reads = grind (arith, common_steps)
-
 -- What follows the slash is the subtype of the tree.
 after_slash-read : (text : List ℕ) (value : MediaType) (reads : Reads text value)
     → drop (value.slash + 1) value.essence ≡ lowered reads.tree.sub
@@ -155,9 +151,10 @@ kept_is_safe text value reads =
     let walked = walk-accepted value.kept (value, kept_is_read text value reads) in
     let low = IsWellFormed-lowered_tree reads.tree reads.well_formed in
     let after = subst IsToken (sym (after_slash-read text value reads)) low.1 in
+    let top : type_of value ≡ lowered reads.tree.top = grind (arith, common_steps) in
     record {
       kept = walked-safe (in_type []) walked.0 value.kept walked.2.0;
-      top = subst IsToken (sym (type_of-read text value reads)) low.0;
+      top = subst IsToken (sym top) low.0;
       sub = token-take _ (drop (value.slash + 1) value.essence) (subtype_some text value value.plus reads refl) after;
       suffix = suffix_bytes (suffix_of value)
           (list_all-parts is_token_byte (subtype_of value) (suffix_text (suffix_of value))

@@ -307,6 +307,7 @@ impl<'a> Pairs<'a> {
 
     /// Returns an iterator over the first `count` pairs of `text` after position `semicolon`, or over no pairs if
     /// `semicolon` is `None`.
+    #[tactic(auto, using(crate::proofs::BytesLemmas::boundary_after))]
     #[inline(always)]
     pub(crate) fn of_text(text: &'a str, semicolon: Option<usize>, count: usize) -> Pairs<'a>
         requires { IfSome semicolon (λ at. slice_get text.now at ≡ Some semicolon_byte) }
