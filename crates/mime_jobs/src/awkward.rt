@@ -2,170 +2,50 @@
 
 use crate::digest::Digest;
 use crate::random::Random;
-use crate::texts::Text;
+use crate::texts::{Text, media_types_of};
 use mime::{BOUNDARY, Bad, CHARSET, Mime, MimeIter, TEXT_PLAIN_UTF_8, mime_eq_str};
 use mime_http::{Accept, content_type};
 use std::alloc::{AllocError, Global};
 use std::hash::{FoldHasher, Hash, Hasher};
 
 /// The shape of a long string: its start, the string that it repeats, and its end.
-struct Shape {
-    start: &'static str,
-    unit: &'static str,
-    end: &'static str,
-}
+struct Shape(&'static str, &'static str, &'static str);
 
 /// The shapes of values of `Content-Type`.
 static VALUES: [Shape; 17] = [
-    Shape {
-        start: "a/#;p=\"",
-        unit: "\\\"",
-        end: "\"",
-    },
-    Shape {
-        start: "a/#;p=\"",
-        unit: "\\\\",
-        end: "\"; charset=utf-8",
-    },
-    Shape {
-        start: "a/#;p=\"",
-        unit: "\\x",
-        end: "\"",
-    },
-    Shape {
-        start: "a/#;",
-        unit: " ",
-        end: "p=x",
-    },
-    Shape {
-        start: "a/#",
-        unit: ";p=x",
-        end: "",
-    },
-    Shape {
-        start: "a/#",
-        unit: ";",
-        end: "p=x",
-    },
-    Shape {
-        start: "a/#",
-        unit: " ",
-        end: ";p=x",
-    },
-    Shape {
-        start: "a/#",
-        unit: "x",
-        end: "",
-    },
-    Shape {
-        start: "a/#",
-        unit: "+x",
-        end: "",
-    },
-    Shape {
-        start: "a/#;boundary=",
-        unit: "y",
-        end: "",
-    },
-    Shape {
-        start: "a/#;boundary=\"",
-        unit: ",",
-        end: "\"",
-    },
-    Shape {
-        start: "a/#;p=\"",
-        unit: "é",
-        end: "\"",
-    },
-    Shape {
-        start: "a/#",
-        unit: "; name=value",
-        end: "; charset=utf-8",
-    },
-    Shape {
-        start: "A/#",
-        unit: "; Name=Value",
-        end: "; Charset=UTF-8",
-    },
-    Shape {
-        start: "a/#; charset=utf-8; p=\"x",
-        unit: " x",
-        end: "",
-    },
-    Shape {
-        start: "a/#;p=",
-        unit: "x",
-        end: ",",
-    },
-    Shape {
-        start: "a/#",
-        unit: " ; p=x",
-        end: " ; p",
-    },
+    Shape("a/#;p=\"", "\\\"", "\""),
+    Shape("a/#;p=\"", "\\\\", "\"; charset=utf-8"),
+    Shape("a/#;p=\"", "\\x", "\""),
+    Shape("a/#;", " ", "p=x"),
+    Shape("a/#", ";p=x", ""),
+    Shape("a/#", ";", "p=x"),
+    Shape("a/#", " ", ";p=x"),
+    Shape("a/#", "x", ""),
+    Shape("a/#", "+x", ""),
+    Shape("a/#;boundary=", "y", ""),
+    Shape("a/#;boundary=\"", ",", "\""),
+    Shape("a/#;p=\"", "é", "\""),
+    Shape("a/#", "; name=value", "; charset=utf-8"),
+    Shape("A/#", "; Name=Value", "; Charset=UTF-8"),
+    Shape("a/#; charset=utf-8; p=\"x", " x", ""),
+    Shape("a/#;p=", "x", ","),
+    Shape("a/#", " ; p=x", " ; p"),
 ];
 
 /// The shapes of values of `Accept`.
 static LISTS: [Shape; 12] = [
-    Shape {
-        start: "a/#,",
-        unit: "a/b;q=0.5,",
-        end: "",
-    },
-    Shape {
-        start: "a/#",
-        unit: ", text/html;level=1;q=0.5",
-        end: "",
-    },
-    Shape {
-        start: "a/#",
-        unit: ", */*;q=0.1;x=\"a,b\"",
-        end: "",
-    },
-    Shape {
-        start: "a/#",
-        unit: ", bad",
-        end: "",
-    },
-    Shape {
-        start: "a/#",
-        unit: ", text/ html",
-        end: "",
-    },
-    Shape {
-        start: "a/#",
-        unit: ",",
-        end: "",
-    },
-    Shape {
-        start: "a/#,",
-        unit: "\"",
-        end: "",
-    },
-    Shape {
-        start: "a/#;p=\"",
-        unit: "\\",
-        end: "",
-    },
-    Shape {
-        start: "a/#,",
-        unit: ";",
-        end: "",
-    },
-    Shape {
-        start: "a/#,",
-        unit: " ",
-        end: "c/d",
-    },
-    Shape {
-        start: "a/#,b/c;p=\"",
-        unit: "\\\"",
-        end: "",
-    },
-    Shape {
-        start: "a/#",
-        unit: " ; q=0.5 , text/html",
-        end: "",
-    },
+    Shape("a/#,", "a/b;q=0.5,", ""),
+    Shape("a/#", ", text/html;level=1;q=0.5", ""),
+    Shape("a/#", ", */*;q=0.1;x=\"a,b\"", ""),
+    Shape("a/#", ", bad", ""),
+    Shape("a/#", ", text/ html", ""),
+    Shape("a/#", ",", ""),
+    Shape("a/#,", "\"", ""),
+    Shape("a/#;p=\"", "\\", ""),
+    Shape("a/#,", ";", ""),
+    Shape("a/#,", " ", "c/d"),
+    Shape("a/#,b/c;p=\"", "\\\"", ""),
+    Shape("a/#", " ; q=0.5 , text/html", ""),
 ];
 
 static OFFERS: [&str; 4] = [
@@ -182,7 +62,7 @@ fn texts_of(alloc: Global, shapes: &[Shape], random: &mut Random) -> Result<Vec<
         for (size, least) in [1900, 7500, 30_000].iter().enumerate() {
             let size_of = *least + random.below(*least);
             let number = at.wrapping_mul(3).wrapping_add(size);
-            let Shape { start, unit, end } = *shape;
+            let Shape(start, unit, end) = *shape;
             texts.push(Text::long(alloc, start, unit, end, size_of, number, random)?)?;
         }
     }
@@ -257,12 +137,7 @@ pub(crate) fn awkward(
     rounds: u64,
     digest: &mut Digest,
 ) -> Result<(), AllocError> {
-    let mut offers = Vec::new(alloc);
-    for text in &OFFERS {
-        if let Ok(mime) = Mime::from_str(alloc, text) {
-            offers.push(mime)?;
-        }
-    }
+    let offers = media_types_of(alloc, &OFFERS)?;
     let mut values = texts_of(alloc, &VALUES, random)?;
     let mut lists = texts_of(alloc, &LISTS, random)?;
     for _ in 0..rounds {

@@ -2,7 +2,7 @@
 
 use crate::digest::Digest;
 use crate::random::Random;
-use crate::texts::{Text, texts_of};
+use crate::texts::{Text, media_types_of, texts_of};
 use mime::Mime;
 use mime_http::Accept;
 use std::alloc::{AllocError, Global};
@@ -76,21 +76,10 @@ static OFFERS: [&[&str]; 6] = [
     ],
 ];
 
-/// Returns the offers read from these texts.
-fn offers_of(alloc: Global, texts: &[&str]) -> Result<Vec<Mime>, AllocError> {
-    let mut offers = Vec::new(alloc);
-    for text in texts {
-        if let Ok(mime) = Mime::from_str(alloc, text) {
-            offers.push(mime)?;
-        }
-    }
-    Ok(offers)
-}
-
 fn all_offers(alloc: Global) -> Result<Vec<Vec<Mime>>, AllocError> {
     let mut all = Vec::new(alloc);
     for texts in &OFFERS {
-        all.push(offers_of(alloc, texts)?)?;
+        all.push(media_types_of(alloc, texts)?)?;
     }
     Ok(all)
 }

@@ -3,6 +3,7 @@
 ghost use Rattle.std.specs.Prelude.{◌<◌};
 
 use crate::random::Random;
+use mime::Mime;
 use std::alloc::{AllocError, Global};
 
 /// The number of letters in a mark.
@@ -154,4 +155,15 @@ pub(crate) fn texts_of(
         }
     }
     Ok(texts)
+}
+
+/// Returns the media types that strings are read as.
+pub(crate) fn media_types_of(alloc: Global, strings: &[&str]) -> Result<Vec<Mime>, AllocError> {
+    let mut media_types = Vec::new(alloc);
+    for text in strings {
+        if let Ok(mime) = Mime::from_str(alloc, text) {
+            media_types.push(mime)?;
+        }
+    }
+    Ok(media_types)
 }

@@ -2,7 +2,7 @@
 
 use crate::digest::Digest;
 use crate::random::Random;
-use crate::texts::{Text, texts_of};
+use crate::texts::{Text, media_types_of, texts_of};
 use mime::Mime;
 use mime_http::{boundary, unescape, with_boundary, with_charset, with_parameter};
 use std::alloc::{AllocError, Global};
@@ -151,12 +151,7 @@ pub(crate) fn writing(
     rounds: u64,
     digest: &mut Digest,
 ) -> Result<(), AllocError> {
-    let mut bases = Vec::new(alloc);
-    for text in &BASES {
-        if let Ok(mime) = Mime::from_str(alloc, text) {
-            bases.push(mime)?;
-        }
-    }
+    let bases = media_types_of(alloc, &BASES)?;
     let mut texts = Texts {
         files: texts_of(alloc, random, &FILES, COUNT)?,
         charsets: texts_of(alloc, random, &CHARSETS, COUNT)?,
