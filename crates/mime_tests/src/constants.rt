@@ -139,28 +139,23 @@ impl fmt::Debug for Shown<'_> {
     }
 }
 
-/// A trait for types whose values may be sent to other threads and shared between threads. An impl for any other type doesn't compile.
+/// A trait for types whose values may be sent to other threads and shared between threads. An impl for a tuple with any other type doesn't
+/// compile.
 trait CrossesThreads: Send + Sync {}
 
-impl CrossesThreads for Mime {}
-
-impl CrossesThreads for KnownText<'_> {}
-
-impl CrossesThreads for Params<'_> {}
-
-impl CrossesThreads for Name<'_> {}
-
-impl CrossesThreads for Atom {}
-
-impl CrossesThreads for MimeIter<'_> {}
-
-impl CrossesThreads for Bad<'_> {}
-
-impl CrossesThreads for TextKey<'_> {}
-
-impl CrossesThreads for ParseError {}
-
-impl CrossesThreads for FromStrError {}
+impl CrossesThreads
+    for (
+        Mime,
+        KnownText<'_>,
+        Params<'_>,
+        Name<'_>,
+        Atom,
+        MimeIter<'_>,
+        Bad<'_>,
+        TextKey<'_>,
+        ParseError,
+        FromStrError,
+    ) {}
 
 /// Shows the copies of the constant media types.
 pub(crate) fn show_copies(out: &mut String) {

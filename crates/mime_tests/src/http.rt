@@ -1,18 +1,30 @@
 //! The rows about `mime_http`. A bar is written after each answer.
 
 use crate::fields::string_at;
-use crate::values::read_or_not;
+use crate::values::{read, read_or_not};
 use mime::Mime;
-use mime_http::{
-    Accept, FieldError, RankedOffer, boundary, content_type, covers, lacked, rank_offers, unescape,
-    weight_of, with_boundary, with_charset, with_parameter,
-};
+use mime_http::{Accept, FieldError, boundary, lacked, rank_offers, unescape};
 use std::alloc::{AllocError, Global};
 use std::fmt::{Display, Write};
 
 /// Shows an answer, and a bar after it.
 pub(crate) fn show<T: Display>(out: &mut String, answer: &T) {
     let _ = write!(out, "{answer}|");
+}
+
+/// Shows an answer about a string, or that the string isn't read.
+pub(crate) fn show_read<T: Display + Drop>(out: &mut String, answer: Option<T>) {
+    match answer {
+        Some(answer) => show(out, &answer),
+        None => show_text(out, Some("not read")),
+    }
+}
+
+/// Shows an answer, or nothing if memory ran out.
+pub(crate) fn show_found<T: Display + Drop>(out: &mut String, answer: Result<T, AllocError>) {
+    if let Ok(answer) = answer {
+        show(out, &answer);
+    }
 }
 
 /// Shows a text, or `none`.
@@ -35,13 +47,19 @@ pub(crate) fn lines_of(alloc: Global, field: &str) -> Result<Vec<&[u8]>, AllocEr
     Ok(lines)
 }
 
+/// Returns the media types that two strings are read as, or `None` if one isn't.
+pub(crate) fn read_both(alloc: Global, one: &str, other: &str) -> Option<(Mime, Mime)> {
+    let first = read(alloc, one)?;
+    Some((first, read(alloc, other)?))
+}
+
 /// Reads the `Accept` header whose lines are in a field.
 fn header_of(alloc: Global, field: &str) -> Result<Accept, AllocError> {
     Accept::from_lines(alloc, &lines_of(alloc, field)?)
 }
 
 /// Returns a text in ISO 8859-1, which has one byte for each character.
-fn latin_1(alloc: Global, text: &str) -> Vec<u8> {
+pub(crate) fn latin_1(alloc: Global, text: &str) -> Vec<u8> {
     let mut bytes = Vec::new(alloc);
     for character in text.chars() {
         let _ = bytes.push(u8::try_from(character).unwrap_or(b'?'));
@@ -66,10 +84,6 @@ pub(crate) fn show_value(out: &mut String, read: Result<Mime, FieldError>) {
         Ok(mime) => show(out, &mime),
         Err(error) => show(out, &error),
     }
-}
-
-pub(crate) fn show_content_type_in_latin_1(alloc: Global, out: &mut String, text: &str) {
-    show_value(out, content_type(alloc, &latin_1(alloc, text)));
 }
 
 /// Shows the ranges of a header, and then its bad entries.
@@ -119,29 +133,25 @@ fn show_bad(out: &mut String, bad: &[Vec<u8>]) {
     }
 }
 
-/// Shows the weights of a row's offers for its header.
-pub(crate) fn show_weights(alloc: Global, out: &mut String, strings: &[String]) {
-    let Ok(accept) = header_of(alloc, string_at(strings, 0)) else {
-        return;
-    };
-    let Ok(offers) = offers_of(alloc, strings) else {
-        return;
-    };
-    for offer in &offers {
-        show(out, &accept.weight(offer));
-    }
+/// Reads a row's header, and its offers.
+fn request_of(alloc: Global, strings: &[String]) -> Result<(Accept, Vec<Mime>), AllocError> {
+    let accept = header_of(alloc, string_at(strings, 0))?;
+    Ok((accept, offers_of(alloc, strings)?))
 }
 
-/// Returns the position of the best offer among a row's offers.
-fn best_of(alloc: Global, strings: &[String]) -> Result<Option<usize>, AllocError> {
-    let accept = header_of(alloc, string_at(strings, 0))?;
-    Ok(accept.best(&offers_of(alloc, strings)?))
+/// Shows the weights of a row's offers for its header.
+pub(crate) fn show_weights(alloc: Global, out: &mut String, strings: &[String]) {
+    if let Ok((accept, offers)) = request_of(alloc, strings) {
+        for offer in &offers {
+            show(out, &accept.weight(offer));
+        }
+    }
 }
 
 /// Shows the position of the best offer among a row's offers, or `none`.
 pub(crate) fn show_best(alloc: Global, out: &mut String, strings: &[String]) {
-    if let Ok(best) = best_of(alloc, strings) {
-        show_position(out, best);
+    if let Ok((accept, offers)) = request_of(alloc, strings) {
+        show_position(out, accept.best(&offers));
     }
 }
 
@@ -152,12 +162,6 @@ fn show_position(out: &mut String, position: Option<usize>) {
     }
 }
 
-/// Returns the positions, among a row's offers, of those that the header accepts, the best first.
-fn order_of(alloc: Global, strings: &[String]) -> Result<Vec<usize>, AllocError> {
-    let accept = header_of(alloc, string_at(strings, 0))?;
-    accept.order(alloc, &offers_of(alloc, strings)?)
-}
-
 /// Shows the parameter that keeps a range from deciding the weight of an offer. An empty `decider` stands for none.
 pub(crate) fn show_lacked(
     alloc: Global,
@@ -166,13 +170,10 @@ pub(crate) fn show_lacked(
     decider: &str,
     offer: &str,
 ) {
-    let Some(range) = read_or_not(alloc, out, range) else {
-        return;
+    let Some((range, offer)) = read_both(alloc, range, offer) else {
+        return show_text(out, Some("not read"));
     };
-    let Some(offer) = read_or_not(alloc, out, offer) else {
-        return;
-    };
-    let decider = Mime::from_str(alloc, decider).ok();
+    let decider = read(alloc, decider);
     let Some((name, value)) = lacked(&range, decider.as_ref(), &offer) else {
         return show_text(out, None);
     };
@@ -180,45 +181,32 @@ pub(crate) fn show_lacked(
     show(out, &value.text);
 }
 
-/// Shows the positions, among a row's offers, of those that the header accepts, the best first.
-pub(crate) fn show_order(alloc: Global, out: &mut String, strings: &[String]) {
-    if let Ok(order) = order_of(alloc, strings) {
-        for at in &order {
+/// Shows positions, in their order.
+pub(crate) fn show_positions(out: &mut String, positions: Result<Vec<usize>, AllocError>) {
+    if let Ok(positions) = positions {
+        for at in &positions {
             show(out, at);
         }
     }
 }
 
-/// Returns the ranking of a row's offers.
-fn ranking_of(alloc: Global, strings: &[String]) -> Result<Vec<RankedOffer>, AllocError> {
-    let accept = header_of(alloc, string_at(strings, 0))?;
-    rank_offers(alloc, accept.ranges(), &offers_of(alloc, strings)?)
+/// Shows the positions, among a row's offers, of those that the header accepts, the best first.
+pub(crate) fn show_order(alloc: Global, out: &mut String, strings: &[String]) {
+    if let Ok((accept, offers)) = request_of(alloc, strings) {
+        show_positions(out, accept.order(alloc, &offers));
+    }
 }
 
 /// Shows the position of each offer in a row's ranking, its weight, and the position of the range that decides its weight.
 pub(crate) fn show_ranking(alloc: Global, out: &mut String, strings: &[String]) {
-    if let Ok(ranking) = ranking_of(alloc, strings) {
+    if let Ok((accept, offers)) = request_of(alloc, strings)
+        && let Ok(ranking) = rank_offers(alloc, accept.ranges(), &offers)
+    {
         for one in &ranking {
             show(out, &one.offer);
             show(out, &one.weight);
             show_position(out, one.range);
         }
-    }
-}
-
-pub(crate) fn show_covers(alloc: Global, out: &mut String, range: &str, offer: &str) {
-    let Some(range) = read_or_not(alloc, out, range) else {
-        return;
-    };
-    let Some(offer) = read_or_not(alloc, out, offer) else {
-        return;
-    };
-    show(out, &covers(&range, &offer));
-}
-
-pub(crate) fn show_weight_of(alloc: Global, out: &mut String, range: &str) {
-    if let Some(range) = read_or_not(alloc, out, range) {
-        show(out, &weight_of(&range));
     }
 }
 
@@ -252,35 +240,12 @@ pub(crate) fn show_boundary(alloc: Global, out: &mut String, field: &str) {
     }
 }
 
-/// Shows a media type that was made, or `none`.
-fn show_made(out: &mut String, made: Result<Option<Mime>, AllocError>) {
+/// Shows a media type that was made, `none`, or that the string isn't read to which a parameter was to be added.
+pub(crate) fn show_made(out: &mut String, made: Option<Result<Option<Mime>, AllocError>>) {
     match made {
-        Ok(Some(mime)) => show(out, &mime),
-        Ok(None) => show_text(out, None),
-        Err(_) => (),
-    }
-}
-
-pub(crate) fn show_with_boundary(alloc: Global, out: &mut String, field: &str, boundary: &str) {
-    if let Some(mime) = read_or_not(alloc, out, field) {
-        show_made(out, with_boundary(alloc, &mime, boundary));
-    }
-}
-
-pub(crate) fn show_with_charset(alloc: Global, out: &mut String, field: &str, charset: &str) {
-    if let Some(mime) = read_or_not(alloc, out, field) {
-        show_made(out, with_charset(alloc, &mime, charset));
-    }
-}
-
-pub(crate) fn show_with_parameter(
-    alloc: Global,
-    out: &mut String,
-    field: &str,
-    name: &str,
-    value: &str,
-) {
-    if let Some(mime) = read_or_not(alloc, out, field) {
-        show_made(out, with_parameter(alloc, &mime, name, value));
+        Some(Ok(Some(mime))) => show(out, &mime),
+        Some(Ok(None)) => show_text(out, None),
+        Some(Err(_)) => (),
+        None => show_text(out, Some("not read")),
     }
 }

@@ -2,33 +2,25 @@
 
 use crate::constants::ATOMS;
 use crate::fields::string_at;
-use crate::http::{lines_of, offers_of, show, show_text, shown};
+use crate::http::{lines_of, offers_of, show, show_found, show_positions, show_text, shown};
 use crate::values::read_or_not;
 use mime::Mime;
-use mime_examples::accepted::explained;
 use mime_examples::bare::bare_of;
-use mime_examples::build::vendor_json;
-use mime_examples::callers::{has_param, printed};
 use mime_examples::caret::caret_line;
 use mime_examples::compress::is_compressible;
 use mime_examples::counts::{count, no_counts, sorted};
-use mime_examples::disposition::{Disposition, read_disposition};
+use mime_examples::disposition::Disposition;
 use mime_examples::document::received;
 use mime_examples::field_caret::caret_below;
 use mime_examples::file_name::{file_name, with_file_name, written_and_read};
 use mime_examples::files::type_of_file;
 use mime_examples::handler::handler_of;
 use mime_examples::header::header_text;
-use mime_examples::html::accepts_html;
-use mime_examples::json::is_json;
 use mime_examples::key::quality_of;
-use mime_examples::multipart::{disposition_of, may_delimit, parts};
+use mime_examples::multipart::parts;
 use mime_examples::negotiate::chosen;
 use mime_examples::order::in_order;
 use mime_examples::parts::described;
-use mime_examples::plain::is_plain;
-use mime_examples::reply::{form_with, page_in};
-use mime_examples::route::takes;
 use mime_examples::static_file::type_for;
 use mime_http::content_type;
 use std::alloc::{AllocError, Global};
@@ -65,26 +57,25 @@ pub(crate) fn show_caret_line(alloc: Global, out: &mut String, text: &str) {
     let Some(error) = Mime::from_str(alloc, text).err() else {
         return show_text(out, None);
     };
-    if let Ok(line) = caret_line(alloc, text, &error) {
-        show_text(out, Some(line.as_str()));
-    }
+    show_found(out, caret_line(alloc, text, &error));
 }
 
 pub(crate) fn show_caret_below(alloc: Global, out: &mut String, value: &str) {
     let Some(error) = content_type(alloc, value.as_bytes()).err() else {
         return show_text(out, None);
     };
-    if let Ok(lines) = caret_below(alloc, value.as_bytes(), &error) {
-        show_text(out, Some(lines.as_str()));
-    }
+    show_found(out, caret_below(alloc, value.as_bytes(), &error));
+}
+
+/// Returns the lines of a row's header, and its offers.
+fn request_of(alloc: Global, strings: &[String]) -> Result<(Vec<&[u8]>, Vec<Mime>), AllocError> {
+    let lines = lines_of(alloc, string_at(strings, 0))?;
+    Ok((lines, offers_of(alloc, strings)?))
 }
 
 /// Shows the offer that a server sends, or the status of its reply.
 pub(crate) fn show_chosen(alloc: Global, out: &mut String, strings: &[String]) {
-    let Ok(lines) = lines_of(alloc, string_at(strings, 0)) else {
-        return;
-    };
-    let Ok(offers) = offers_of(alloc, strings) else {
+    let Ok((lines, offers)) = request_of(alloc, strings) else {
         return;
     };
     match chosen(alloc, &lines, &offers) {
@@ -118,46 +109,14 @@ pub(crate) fn show_counts(rt: &HostRuntime, out: &mut String, strings: &[String]
 }
 
 pub(crate) fn show_described(alloc: Global, out: &mut String, field: &str) {
-    let Some(mime) = read_or_not(alloc, out, field) else {
-        return;
-    };
-    if let Ok(lines) = described(alloc, &mime) {
-        show_text(out, Some(lines.as_str()));
-    }
-}
-
-pub(crate) fn show_accepts_html(alloc: Global, out: &mut String, field: &str) {
-    let Ok(lines) = lines_of(alloc, field) else {
-        return;
-    };
-    if let Ok(accepts) = accepts_html(alloc, &lines) {
-        show(out, &accepts);
+    if let Some(mime) = read_or_not(alloc, out, field) {
+        show_found(out, described(alloc, &mime));
     }
 }
 
 pub(crate) fn show_handler_of(alloc: Global, out: &mut String, field: &str) {
     if let Some(mime) = read_or_not(alloc, out, field) {
         let _ = write!(out, "{:?}|", handler_of(&mime));
-    }
-}
-
-pub(crate) fn show_is_json(alloc: Global, out: &mut String, field: &str) {
-    if let Some(mime) = read_or_not(alloc, out, field) {
-        show(out, &is_json(&mime));
-    }
-}
-
-pub(crate) fn show_is_plain(alloc: Global, out: &mut String, field: &str) {
-    if let Some(mime) = read_or_not(alloc, out, field) {
-        show(out, &is_plain(&mime));
-    }
-}
-
-/// Shows whether the media type of a text has a parameter of this name.
-pub(crate) fn show_has_param(alloc: Global, out: &mut String, text: &str, name: &str) {
-    match printed(alloc, text) {
-        Ok(mime) => show(out, &has_param(&mime, name)),
-        Err(error) => show(out, &error),
     }
 }
 
@@ -207,27 +166,6 @@ pub(crate) fn show_is_compressible(out: &mut String) {
     }
 }
 
-/// Shows a media type that was made, `none`, or the error.
-fn show_made(out: &mut String, made: Result<Option<Mime>, AllocError>) {
-    match made {
-        Ok(Some(mime)) => show(out, &mime),
-        Ok(None) => show_text(out, None),
-        Err(error) => show(out, &error),
-    }
-}
-
-pub(crate) fn show_vendor_json(alloc: Global, out: &mut String, name: &str) {
-    show_made(out, vendor_json(alloc, name));
-}
-
-pub(crate) fn show_page_in(alloc: Global, out: &mut String, charset: &str) {
-    show_made(out, page_in(alloc, charset));
-}
-
-pub(crate) fn show_form_with(alloc: Global, out: &mut String, boundary: &str) {
-    show_made(out, form_with(alloc, boundary));
-}
-
 /// Shows a media type with a file's name, and the names that `file_name` and `written_and_read` return.
 pub(crate) fn show_file_name(alloc: Global, out: &mut String, field: &str, name: &str) {
     let Some(mime) = read_or_not(alloc, out, field) else {
@@ -248,7 +186,7 @@ pub(crate) fn show_file_name(alloc: Global, out: &mut String, field: &str, name:
 }
 
 /// Shows the names of a field and of its file, `none`, or the error.
-fn show_names_of(out: &mut String, answer: Result<Option<Disposition>, AllocError>) {
+pub(crate) fn show_names_of(out: &mut String, answer: Result<Option<Disposition>, AllocError>) {
     match answer {
         Ok(Some(found)) => {
             show_text(out, Some(shown(&found.name)));
@@ -257,14 +195,6 @@ fn show_names_of(out: &mut String, answer: Result<Option<Disposition>, AllocErro
         Ok(None) => show_text(out, None),
         Err(error) => show(out, &error),
     }
-}
-
-pub(crate) fn show_disposition(alloc: Global, out: &mut String, value: &str) {
-    show_names_of(out, read_disposition(alloc, value.as_bytes()));
-}
-
-pub(crate) fn show_disposition_of(alloc: Global, out: &mut String, part: &str) {
-    show_names_of(out, disposition_of(alloc, part.as_bytes()));
 }
 
 /// Shows the parts of a body, and whether it is whole.
@@ -284,39 +214,9 @@ pub(crate) fn show_body_parts(alloc: Global, out: &mut String, field: &str, body
     }
 }
 
-pub(crate) fn show_may_delimit(out: &mut String, boundary: &str, part: &str) {
-    show(out, &may_delimit(boundary.as_bytes(), part.as_bytes()));
-}
-
 /// Shows the positions of the acceptable offers, the best first.
 pub(crate) fn show_in_order(alloc: Global, out: &mut String, strings: &[String]) {
-    let Ok(lines) = lines_of(alloc, string_at(strings, 0)) else {
-        return;
-    };
-    let Ok(offers) = offers_of(alloc, strings) else {
-        return;
-    };
-    if let Ok(order) = in_order(alloc, &lines, &offers) {
-        for at in &order {
-            show(out, at);
-        }
-    }
-}
-
-pub(crate) fn show_takes(alloc: Global, out: &mut String, range: &str, body: &str) {
-    let Some(range) = read_or_not(alloc, out, range) else {
-        return;
-    };
-    if let Some(body) = read_or_not(alloc, out, body) {
-        show(out, &takes(&range, &body));
-    }
-}
-
-pub(crate) fn show_explained(alloc: Global, out: &mut String, field: &str) {
-    let Ok(lines) = lines_of(alloc, field) else {
-        return;
-    };
-    if let Ok(said) = explained(alloc, &lines) {
-        show_text(out, Some(said.as_str()));
+    if let Ok((lines, offers)) = request_of(alloc, strings) {
+        show_positions(out, in_order(alloc, &lines, &offers));
     }
 }

@@ -55,12 +55,20 @@ fn relation<T: Ord + Hash>(one: &T, other: &T) -> char {
     }
 }
 
+/// Returns the values that two fields stand for, or writes the first fault and returns `None`.
+fn values_or_fault(
+    alloc: Global,
+    out: &mut String,
+    field: &str,
+    other: &str,
+) -> Option<(Mime, Mime)> {
+    let value = value_or_fault(alloc, out, field)?;
+    Some((value, value_or_fault(alloc, out, other)?))
+}
+
 /// Shows how two values compare, and whether the first is equal to the second field as a string.
 pub(crate) fn show_compared(alloc: Global, out: &mut String, field: &str, text: &str) {
-    let Some(one) = value_or_fault(alloc, out, field) else {
-        return;
-    };
-    let Some(other) = value_or_fault(alloc, out, text) else {
+    let Some((one, other)) = values_or_fault(alloc, out, field, text) else {
         return;
     };
     show_debug(out, &(relation(&one, &other), mime_eq_str(&one, text)));
@@ -90,10 +98,7 @@ pub(crate) fn show_names(out: &mut String, one: &str, other: &str) {
 /// Shows whether two values are equal, both by `==` and by `cmp`, whether they feed a hasher the same bytes, and whether the first is equal
 /// to the second field as a string.
 pub(crate) fn show_pair(alloc: Global, out: &mut String, field: &str, text: &str) {
-    let Some(one) = value_or_fault(alloc, out, field) else {
-        return;
-    };
-    let Some(other) = value_or_fault(alloc, out, text) else {
+    let Some((one, other)) = values_or_fault(alloc, out, field, text) else {
         return;
     };
     let is_equal = one == other && one.cmp(&other).is_eq();
@@ -121,10 +126,7 @@ fn is_ordered(alloc: Global, one: &Mime, other: Mime) -> bool {
 
 /// Shows whether a value is found in sets that contain only a second value.
 pub(crate) fn show_sets(alloc: Global, out: &mut String, field: &str, text: &str) {
-    let Some(one) = value_or_fault(alloc, out, field) else {
-        return;
-    };
-    let Some(other) = value_or_fault(alloc, out, text) else {
+    let Some((one, other)) = values_or_fault(alloc, out, field, text) else {
         return;
     };
     if let Ok(clone) = other.clone() {

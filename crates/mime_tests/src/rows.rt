@@ -23,33 +23,31 @@
 //! Between the lines `now` and `end`, only the calls of a row allocate. tools/refused_requests refuses and counts the requests for memory
 //! between these lines. The answers are printed after these lines. If memory runs out, an answer is left out, or says so.
 
-use crate::constants::{show_bytes, show_copies};
 use crate::fields::string_at;
 use crate::http::{
-    show, show_accept, show_accept_in_latin_1, show_best, show_boundary,
-    show_content_type_in_latin_1, show_counting_bad, show_covers, show_lacked, show_order,
-    show_ranking, show_text, show_unescaped, show_unescaped_in_room, show_value, show_weight_of,
-    show_weights, show_with_boundary, show_with_charset, show_with_parameter, show_without_bad,
-    shown,
+    latin_1, lines_of, read_both, show, show_found, show_made, show_read, show_text, shown,
 };
-use crate::items::{show_again, show_items, show_list};
-use crate::recipes::{
-    show_accepts_html, show_bare_of, show_body_parts, show_caret_below, show_caret_line,
-    show_chosen, show_counts, show_described, show_disposition, show_disposition_of,
-    show_explained, show_file_name, show_form_with, show_handler_of, show_has_param, show_in_order,
-    show_is_compressible, show_is_json, show_is_plain, show_may_delimit, show_page_in,
-    show_quality_of, show_received, show_status, show_takes, show_type_for, show_type_of_file,
-    show_vendor_json, show_whether,
-};
-use crate::relations::{show_against, show_compared, show_names, show_pair, show_sets};
-use crate::short::show_short_verdicts;
-use crate::values::{show_clone, show_found, show_long, show_parse, show_parts, show_printed};
+use crate::recipes::{show_names_of, show_status, show_whether};
+use crate::values::read;
+use crate::{constants, http, items, recipes, relations, short, values};
 use mime::MimeIter;
+use mime_examples::accepted::explained;
 use mime_examples::answer::{refusal, refusal_of_body, status_of};
-use mime_examples::callers::{has_suffix, reads_alike};
+use mime_examples::build::vendor_json;
+use mime_examples::callers::{has_param, has_suffix, printed, reads_alike};
+use mime_examples::disposition::read_disposition;
+use mime_examples::html::accepts_html;
+use mime_examples::json::is_json;
+use mime_examples::multipart::{disposition_of, may_delimit};
+use mime_examples::plain::is_plain;
 use mime_examples::reader::reader_of;
+use mime_examples::reply::{form_with, page_in};
+use mime_examples::route::takes;
 use mime_examples::utf8::says_utf8;
-use mime_http::{FieldError, content_type, has_quoted_weight, is_boundary, trimmed};
+use mime_http::{
+    FieldError, content_type, covers, has_quoted_weight, is_boundary, trimmed, weight_of,
+    with_boundary, with_charset, with_parameter,
+};
 use std::alloc::Global;
 
 /// Writes the answers to a row.
@@ -71,23 +69,23 @@ fn show_of_library(alloc: Global, out: &mut String, word: &str, strings: &[Strin
     let two = string_at(strings, 1);
     let three = string_at(strings, 2);
     match word {
-        "again" => show_again(alloc, out, one),
-        "against" => show_against(alloc, out, one, two),
-        "bytes" => show_bytes(out),
-        "clone" => show_clone(alloc, out, one),
-        "compare" => show_compared(alloc, out, one, two),
-        "copies" => show_copies(out),
-        "items" => show_items(out, MimeIter::new(alloc, one)),
-        "key" => show_found(alloc, out, one, two, three),
-        "list" => show_list(alloc, out, strings),
-        "long" => show_long(alloc, out, one, two),
-        "names" => show_names(out, one, two),
-        "pair" => show_pair(alloc, out, one, two),
-        "parts" => show_parts(alloc, out, one),
-        "print" => show_printed(alloc, out, one),
-        "read" => show_parse(alloc, out, one),
-        "sets" => show_sets(alloc, out, one, two),
-        "short_verdicts" => show_short_verdicts(alloc, out),
+        "again" => items::show_again(alloc, out, one),
+        "against" => relations::show_against(alloc, out, one, two),
+        "bytes" => constants::show_bytes(out),
+        "clone" => values::show_clone(alloc, out, one),
+        "compare" => relations::show_compared(alloc, out, one, two),
+        "copies" => constants::show_copies(out),
+        "items" => items::show_items(out, MimeIter::new(alloc, one)),
+        "key" => values::show_found(alloc, out, one, two, three),
+        "list" => items::show_list(alloc, out, strings),
+        "long" => values::show_long(alloc, out, one, two),
+        "names" => relations::show_names(out, one, two),
+        "pair" => relations::show_pair(alloc, out, one, two),
+        "parts" => values::show_parts(alloc, out, one),
+        "print" => values::show_printed(alloc, out, one),
+        "read" => values::show_parse(alloc, out, one),
+        "sets" => relations::show_sets(alloc, out, one, two),
+        "short_verdicts" => short::show_short_verdicts(alloc, out),
         _ => return false,
     }
     true
@@ -99,28 +97,43 @@ fn show_of_headers(alloc: Global, out: &mut String, word: &str, strings: &[Strin
     let two = string_at(strings, 1);
     let three = string_at(strings, 2);
     match word {
-        "accept" => show_accept(alloc, out, one),
-        "accept in Latin-1" => show_accept_in_latin_1(alloc, out, one),
-        "best" => show_best(alloc, out, strings),
-        "boundary" => show_boundary(alloc, out, one),
-        "content_type" => show_value(out, content_type(alloc, one.as_bytes())),
-        "content_type in Latin-1" => show_content_type_in_latin_1(alloc, out, one),
-        "covers" => show_covers(alloc, out, one, two),
-        "from_line_counting_bad" => show_counting_bad(alloc, out, one),
-        "from_lines_without_bad" => show_without_bad(alloc, out, one),
+        "accept" => http::show_accept(alloc, out, one),
+        "accept in Latin-1" => http::show_accept_in_latin_1(alloc, out, one),
+        "best" => http::show_best(alloc, out, strings),
+        "boundary" => http::show_boundary(alloc, out, one),
+        "content_type" => http::show_value(out, content_type(alloc, one.as_bytes())),
+        "content_type in Latin-1" => http::show_value(
+            out,
+            content_type(alloc, &latin_1(alloc, one)),
+        ),
+        "covers" => show_read(
+            out,
+            read_both(alloc, one, two).map(|(range, offer)| covers(&range, &offer)),
+        ),
+        "from_line_counting_bad" => http::show_counting_bad(alloc, out, one),
+        "from_lines_without_bad" => http::show_without_bad(alloc, out, one),
         "has_quoted_weight" => show(out, &has_quoted_weight(one.as_bytes())),
         "is_boundary" => show(out, &is_boundary(one.as_bytes())),
-        "lacked" => show_lacked(alloc, out, one, two, three),
-        "order" => show_order(alloc, out, strings),
-        "rank_offers" => show_ranking(alloc, out, strings),
+        "lacked" => http::show_lacked(alloc, out, one, two, three),
+        "order" => http::show_order(alloc, out, strings),
+        "rank_offers" => http::show_ranking(alloc, out, strings),
         "trimmed" => show_text(out, Some(shown(trimmed(one.as_bytes())))),
-        "unescape" => show_unescaped(alloc, out, one, two),
-        "unescape in room" => show_unescaped_in_room(alloc, out, one, two),
-        "weight" => show_weights(alloc, out, strings),
-        "weight_of" => show_weight_of(alloc, out, one),
-        "with_boundary" => show_with_boundary(alloc, out, one, two),
-        "with_charset" => show_with_charset(alloc, out, one, two),
-        "with_parameter" => show_with_parameter(alloc, out, one, two, three),
+        "unescape" => http::show_unescaped(alloc, out, one, two),
+        "unescape in room" => http::show_unescaped_in_room(alloc, out, one, two),
+        "weight" => http::show_weights(alloc, out, strings),
+        "weight_of" => show_read(out, read(alloc, one).map(|range| weight_of(&range))),
+        "with_boundary" => show_made(
+            out,
+            read(alloc, one).map(|mime| with_boundary(alloc, &mime, two)),
+        ),
+        "with_charset" => show_made(
+            out,
+            read(alloc, one).map(|mime| with_charset(alloc, &mime, two)),
+        ),
+        "with_parameter" => show_made(
+            out,
+            read(alloc, one).map(|mime| with_parameter(alloc, &mime, two, three)),
+        ),
         _ => return false,
     }
     true
@@ -132,41 +145,50 @@ fn show_of_recipes(rt: &HostRuntime, out: &mut String, word: &str, strings: &[St
     let one = string_at(strings, 0);
     let two = string_at(strings, 1);
     match word {
-        "accepts_html" => show_accepts_html(alloc, out, one),
-        "bare_of" => show_bare_of(alloc, out, one),
-        "caret_below" => show_caret_below(alloc, out, one),
-        "caret_line" => show_caret_line(alloc, out, one),
-        "chosen" => show_chosen(alloc, out, strings),
-        "count" => show_counts(rt, out, strings),
-        "described" => show_described(alloc, out, one),
-        "disposition_of" => show_disposition_of(alloc, out, one),
-        "explained" => show_explained(alloc, out, one),
-        "file_name" => show_file_name(alloc, out, one, two),
-        "form_with" => show_form_with(alloc, out, one),
-        "handler_of" => show_handler_of(alloc, out, one),
-        "has_param" => show_has_param(alloc, out, one, two),
+        "accepts_html" => show_found(
+            out,
+            lines_of(alloc, one).and_then(|lines| accepts_html(alloc, &lines)),
+        ),
+        "bare_of" => recipes::show_bare_of(alloc, out, one),
+        "caret_below" => recipes::show_caret_below(alloc, out, one),
+        "caret_line" => recipes::show_caret_line(alloc, out, one),
+        "chosen" => recipes::show_chosen(alloc, out, strings),
+        "count" => recipes::show_counts(rt, out, strings),
+        "described" => recipes::show_described(alloc, out, one),
+        "disposition_of" => show_names_of(out, disposition_of(alloc, one.as_bytes())),
+        "explained" => show_found(
+            out,
+            lines_of(alloc, one).and_then(|lines| explained(alloc, &lines)),
+        ),
+        "file_name" => recipes::show_file_name(alloc, out, one, two),
+        "form_with" => show_made(out, Some(form_with(alloc, one))),
+        "handler_of" => recipes::show_handler_of(alloc, out, one),
+        "has_param" => show_whether(out, printed(alloc, one).map(|mime| has_param(&mime, two))),
         "has_suffix" => show_whether(out, has_suffix(alloc, one)),
-        "in_order" => show_in_order(alloc, out, strings),
-        "is_compressible" => show_is_compressible(out),
-        "is_json" => show_is_json(alloc, out, one),
-        "is_plain" => show_is_plain(alloc, out, one),
-        "may_delimit" => show_may_delimit(out, one, two),
-        "multipart::parts" => show_body_parts(alloc, out, one, two),
-        "page_in" => show_page_in(alloc, out, one),
-        "quality_of" => show_quality_of(alloc, out, one),
-        "read_disposition" => show_disposition(alloc, out, one),
+        "in_order" => recipes::show_in_order(alloc, out, strings),
+        "is_compressible" => recipes::show_is_compressible(out),
+        "is_json" => show_read(out, read(alloc, one).map(|mime| is_json(&mime))),
+        "is_plain" => show_read(out, read(alloc, one).map(|mime| is_plain(&mime))),
+        "may_delimit" => show(out, &may_delimit(one.as_bytes(), two.as_bytes())),
+        "multipart::parts" => recipes::show_body_parts(alloc, out, one, two),
+        "page_in" => show_made(out, Some(page_in(alloc, one))),
+        "quality_of" => recipes::show_quality_of(alloc, out, one),
+        "read_disposition" => show_names_of(out, read_disposition(alloc, one.as_bytes())),
         "reader_of" => show_text(out, Some(reader_of(one))),
         "reads_alike" => show_whether(out, reads_alike(alloc, one)),
-        "received" => show_received(alloc, out, one, two),
+        "received" => recipes::show_received(alloc, out, one, two),
         "refusal" => show_status(out, refusal(alloc, one.as_bytes())),
         "refusal_of_body" => show_status(out, refusal_of_body(alloc, Some(one.as_bytes()))),
         "refusal_of_body without a header" => show_status(out, refusal_of_body(alloc, None)),
         "says_utf8" => show_whether(out, says_utf8(alloc, one.as_bytes())),
         "status_of no memory" => show(out, &status_of(&FieldError::NoMemory)),
-        "takes" => show_takes(alloc, out, one, two),
-        "type_for" => show_type_for(alloc, out, one, two),
-        "type_of_file" => show_type_of_file(alloc, out, one),
-        "vendor_json" => show_vendor_json(alloc, out, one),
+        "takes" => show_read(
+            out,
+            read_both(alloc, one, two).map(|(range, body)| takes(&range, &body)),
+        ),
+        "type_for" => recipes::show_type_for(alloc, out, one, two),
+        "type_of_file" => recipes::show_type_of_file(alloc, out, one),
+        "vendor_json" => show_made(out, Some(vendor_json(alloc, one))),
         _ => return false,
     }
     true

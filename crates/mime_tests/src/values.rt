@@ -29,15 +29,18 @@ pub(crate) fn value_or_fault(alloc: Global, out: &mut String, field: &str) -> Op
     }
 }
 
+/// Returns the media type that a string is read as, or `None`.
+pub(crate) fn read(alloc: Global, text: &str) -> Option<Mime> {
+    Mime::from_str(alloc, text).ok()
+}
+
 /// Returns the media type that a string is read as, or writes `not read` and returns `None`.
 pub(crate) fn read_or_not(alloc: Global, out: &mut String, text: &str) -> Option<Mime> {
-    match Mime::from_str(alloc, text) {
-        Ok(mime) => Some(mime),
-        Err(_) => {
-            let _ = out.push_str("not read|");
-            None
-        }
+    let mime = read(alloc, text);
+    if mime.is_none() {
+        let _ = out.push_str("not read|");
     }
+    mime
 }
 
 /// Writes a media type.
