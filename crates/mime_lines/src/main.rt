@@ -34,18 +34,7 @@ fn asked_mode(mut arguments: Args) -> Option<Mode>
     let _program = arguments.next();
     match arguments.next() {
         None => Some(Mode::Parts),
-        Some(word) => named_mode(word.as_str()),
-    }
-}
-
-/// Returns the mode that an argument names, or `None` if it names no mode.
-fn named_mode(word: &str) -> Option<Mode>
-    ensures { result ≡ mode_named word.now }
-{
-    if word == "list" {
-        Some(Mode::List)
-    } else {
-        None
+        Some(word) => (word.as_str() == "list").then_some(Mode::List),
     }
 }
 
