@@ -5,8 +5,7 @@ use Rattle.std.specs.Io.KnownBytes.{Consumes}
 
 -- What is consumed first and what is consumed next are consumed together.
 pub consumed_together : (left between after : Option (List ℕ)) (xs ys : List ℕ) → Consumes left between xs
-    → Consumes between after ys
-    → Consumes left after (xs ++ ys)
+    → Consumes between after ys → Consumes left after (xs ++ ys)
 consumed_together None between after xs ys p q = tt
 consumed_together (Some x) None after xs ys p q = absurd p
 consumed_together (Some x) (Some y) None xs ys p q = absurd q

@@ -17,8 +17,7 @@ rows_of_value :
       plus = Some 9;
       pairs = (codes "q", codes "1") ∷ [];
       kept = codes "text/html+xml;q=1";
-    })
-    ≡ codes "ok text/html+xml;q=1\ntype text\nsubtype html\nsuffix xml\nparam q=1\n"
+    }) ≡ codes "ok text/html+xml;q=1\ntype text\nsubtype html\nsuffix xml\nparam q=1\n"
 rows_of_value = refl
 
 -- The row of a good item is its kept text, and that of a bad one its piece.
@@ -27,8 +26,7 @@ rows_of_items :
     bad (codes "invalid")
     ∷ good (codes "TEXT/HTML;") (record { essence = codes "text/html"; slash = 4; plus = None; pairs = []; kept = codes "text/html" })
     ∷ []
-    )
-    ≡ codes "bad invalid\nok text/html\n"
+    ) ≡ codes "bad invalid\nok text/html\n"
 rows_of_items = refl
 
 -- The word `list` names a mode.
@@ -78,8 +76,7 @@ rejected_by_laws completed viable text fault lacks = completed text fault lacks
 
 -- A text has one report.
 one_report : OneReading → OneFault → CompletedIsRejected → AcceptedIsViable → OneCut
-    → (mode : Mode) (text first second : List ℕ)
-    → ReportsText mode text first → ReportsText mode text second → first ≡ second
+    → (mode : Mode) (text first second : List ℕ) → ReportsText mode text first → ReportsText mode text second → first ≡ second
 one_report reading one completed viable cut mode text first second (read value reads) (read other again) =
     ap value_rows (reading text value other reads again)
 one_report reading one completed viable cut mode text first second (read value reads) (rejected fault is) =

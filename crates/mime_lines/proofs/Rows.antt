@@ -18,8 +18,7 @@ given_rows-items_of ((name, value) ∷ pairs) =
 
 -- The report on a text is the report on its line.
 pub reported-line : {E : Type 0} (result : Result (Unit {0}) E) (mode : Mode) (text line old new : List ℕ) → text ≡ line
-    → IsUtf8 line
-    → OnOk result (Adds (ReportsText mode text) old new) → OnOk result (Adds (ReportsLine mode line) old new)
+    → IsUtf8 line → OnOk result (Adds (ReportsText mode text) old new) → OnOk result (Adds (ReportsLine mode line) old new)
 reported-line (Ok done) mode text line old new is utf8 (rows, report, added) =
     (rows, is_text utf8 (subst (λ t. ReportsText mode t rows) is report), added)
 reported-line (Err error) mode text line old new is utf8 added = tt
@@ -51,8 +50,7 @@ pub record IsListing (text left old new : List ℕ) : Type 0 where
 
 -- The row of the next item goes before those of the others.
 pub listing-step : (text left next old new added rows : List ℕ) (item : CutItem) → IsListing text left old new
-    → IsFirstItem left item next
-    → rows ≡ item_row item → added ≡ new ++ rows → IsListing text next old added
+    → IsFirstItem left item next → rows ≡ item_row item → added ≡ new ++ rows → IsListing text next old added
 listing-step text left next old new added rows item listing first is joined = record {
   onward = λ items rest cut.
       let all = listing.onward (item ∷ items) rest (first items rest cut) in (
@@ -72,8 +70,7 @@ listing-end text left old new listing (rest, cut) =
 
 -- If no parameters are left, all rows are added.
 pub param_rows-end : (old new : List ℕ) (all left : List Item) (pairs : List (List ℕ × List ℕ)) → left ≡ []
-    → all ≡ items_of pairs
-    → new ++ given_rows left ≡ old ++ given_rows all → new ≡ old ++ param_rows pairs
+    → all ≡ items_of pairs → new ++ given_rows left ≡ old ++ given_rows all → new ≡ old ++ param_rows pairs
 param_rows-end old new all left pairs none items added =
     sym (append-nil new) ∙ ap (λ xs. new ++ given_rows xs) (sym none) ∙ added ∙ ap (λ xs. old ++ given_rows xs) items
     ∙ ap (λ rows. old ++ rows) (given_rows-items_of pairs)

@@ -4,5 +4,4 @@ use Rattle.mime_io.proofs.Reported.{reported}
 use Rattle.mime_lines.proofs.report.push_line.Goals as goal
 
 pub returns-in-Err : goal.returns-in-Err
-returns-in-Err c =
-    reported (ReportsLine c.args.mode c.args.line.now) _ _ _ _ (not_text c.in-Err.ensures.cases.0) c.push_row.ensures
+returns-in-Err c = reported (ReportsLine c.args.mode c.args.line.now) _ _ _ _ (not_text c.in-Err.ensures.cases.0) c.push_row.ensures
