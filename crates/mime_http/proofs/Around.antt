@@ -1,5 +1,7 @@
 -- White space around a text, and ASCII bytes in a text in UTF-8.
-use Rattle.mime_http.proofs.Common.{drop, prefix_len, one-add, take_rest, AreSpaces, IsToken, AreTokenBytes-from_token, AreTokenBytes, IsAscii, IsAscii-cons, IsAscii-nil, IsCharBoundary-after_ascii, IsCharBoundary-before_ascii, IsUtf8, IsUtf8-append, IsUtf8-drop, IsUtf8-from_ascii, IsUtf8-take, List, [], and_parts, append-nil, arith, drop-append-add, get_or, get_or_from_slice_get, is_space, is_token_byte, length, length-append, nat_tests, refl, slice_get-prefix, take-append_seam, ℕ, ⊤, ◌++◌, ◌+◌, ◌<◌, ◌∷◌, and_from, ap, cond_both, false, if◌then◌else◌, list_all-append, suc, take, take_all, take_more, trim_end, trim_start, trimmed, ◌-◌, ◌≡◌, ◌≤◌, HttpReads, MediaType, append_assoc, list_all, sym, ◌∙◌, IsUtf8-nil}
+use Rattle.mime_search.{specs.Classes.end_of_run, specs.declared.class.Class.Class}
+use Rattle.std.proofs.lemmas.List.{take-take}
+use Rattle.mime_http.proofs.Common.{is_stop, length-drop, length-take-le, not, take-append-drop, drop, prefix_len, one-add, take_rest, AreSpaces, IsToken, AreTokenBytes-from_token, AreTokenBytes, IsAscii, IsAscii-cons, IsAscii-nil, IsCharBoundary-after_ascii, IsCharBoundary-before_ascii, IsUtf8, IsUtf8-append, IsUtf8-drop, IsUtf8-from_ascii, IsUtf8-take, List, [], and_parts, append-nil, arith, drop-append-add, get_or, get_or_from_slice_get, is_space, is_token_byte, length, length-append, nat_tests, refl, slice_get-prefix, take-append_seam, ℕ, ⊤, ◌++◌, ◌+◌, ◌<◌, ◌∷◌, and_from, ap, cond_both, false, if◌then◌else◌, list_all-append, suc, take, take_all, take_more, trim_end, trim_start, trimmed, ◌-◌, ◌≡◌, ◌≤◌, HttpReads, MediaType, append_assoc, list_all, sym, ◌∙◌, IsUtf8-nil}
 use Rattle.mime_http.proofs.{Runs.spaces-append}
 
 -- ---- ASCII bytes
@@ -109,6 +111,30 @@ pub nothing_after : (piece : List ℕ) → (0 < length piece → is_space (get_o
     → trim_end piece ≡ piece
 nothing_after [] other = refl
 nothing_after (b ∷ bytes) other = grind (arith, take_all (length bytes) bytes, last_trimmed (b ∷ bytes) (suc (length bytes)))
+
+-- White space at the end is left out.
+white_trimmed : (bytes white : List ℕ) → AreSpaces white → trim_end (bytes ++ white) ≡ trim_end bytes
+white_trimmed [] [] all = refl
+white_trimmed [] (b ∷ white) all = rw all refl
+white_trimmed (b ∷ bytes) white all = grind (arith, white_trimmed bytes white all, list_all-append is_space (b ∷ bytes) white, all)
+
+-- Bytes at none of which a search for other bytes stops are white space.
+run_of_white : (class : Class) → ((b : ℕ) → is_stop class b ≡ not (is_space b)) → (bytes : List ℕ)
+    → prefix_len (λ b. not (is_stop class b)) bytes ≡ length bytes → AreSpaces bytes
+run_of_white class stops [] all = refl
+run_of_white class stops (b ∷ bytes) all =
+    grind (arith, stops b, one-add (prefix_len (λ b. not (is_stop class b)) bytes), run_of_white class stops bytes, all)
+
+-- A block in which a search for other bytes doesn't stop is left out.
+pub block_trimmed : (class : Class) → ((b : ℕ) → is_stop class b ≡ not (is_space b)) → (piece : List ℕ) (start end : ℕ)
+    → start ≤ end → end ≤ length piece → end_of_run class (take end piece) start ≡ end
+    → trim_end (take start piece) ≡ trim_end (take end piece)
+block_trimmed class stops piece start end least within is =
+    let block : List ℕ = drop start (take end piece) in
+    let long : length block ≡ end - start = grind (arith, length-drop start (take end piece), length-take-le end piece) in
+    let white = run_of_white class stops block (omega (arith, is, long)) in
+    sym (ap trim_end (sym (take-append-drop start (take end piece))) ∙ white_trimmed (take start (take end piece)) block white
+    ∙ ap trim_end (take-take start end piece least))
 
 -- ---- the white space around a value
 

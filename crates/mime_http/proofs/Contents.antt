@@ -58,8 +58,7 @@ unescaped_same bytes none = grind (arith, unescaped_before bytes (length bytes),
 pub unescaped_end : (front value : List ℕ) (start at : ℕ) → start ≡ length front → at ≤ length value
     → ((i : ℕ) → i < at → get_or value i 0 ≢ 92) → {bytes : List ℕ} → bytes ≡ value
     → take (start + at) (front ++ value) ++ unescaped (take (length bytes - at) (drop at bytes)) ≡ front ++ unescaped value
-unescaped_end front value start at long within none is =
-    grind (arith, take-append-add, append_assoc, unescaped_before, take_rest, is)
+unescaped_end front value start at long within none is = grind (arith, take-append-add, append_assoc, unescaped_before, take_rest, is)
 
 -- Two bytes mean one byte at least, but a backslash at the end means none.
 pub length-unescaped : (bytes : List ℕ) → length bytes ≤ 2 * length (unescaped bytes) + 1
@@ -136,11 +135,9 @@ quoted_len (b ∷ bytes) few = grind (arith, nat_tests, or_zero_r b, few 0, quot
 
 -- Of a class of all token bytes, a run from within a token at the start ends at the end exactly if all bytes are of the class.
 pub run_after : (class : ℕ → Bool) → ((b : ℕ) → is_token_byte b ≡ true → class b ≡ true)
-    → (value : List ℕ) (plain : ℕ)
-    → plain ≤ prefix_len is_token_byte value
+    → (value : List ℕ) (plain : ℕ) → plain ≤ prefix_len is_token_byte value
     → (plain + prefix_len class (drop plain value) == length value) ≡ list_all class value
-run_after class wider value plain passed =
-    grind (arith, run_goes_on is_token_byte class wider value 0 plain, whole_run class value, passed)
+run_after class wider value plain passed = grind (arith, run_goes_on is_token_byte class wider value 0 plain, whole_run class value, passed)
 
 -- Bytes of quoted text are those of a quoted string that need no backslash.
 pub quoted_text : (bytes : List ℕ) → list_all is_quoted_text_byte bytes ≡ (list_all is_quoted_byte bytes && list_all is_plain bytes)
@@ -152,21 +149,32 @@ token_safe : (value : List ℕ) → is_token_value value ≡ true → list_all i
 token_safe value is = safe_text value (token_text value (token_from_test value is))
 
 -- The run of token bytes, and what two searches find after it, decide the form of a value.
-pub form_found : (value : List ℕ) → ((i : ℕ) → get_or value i 0 < 256) → {plain control special : ℕ}
-    → plain ≡ 0 + prefix_len is_token_byte value
-    → control ≡ plain + prefix_len (λ b. not (is_stop CONTROLS b)) (drop plain value)
-    → special ≡ plain + prefix_len is_plain (drop plain value)
-    → (if plain == length value && nat_lt 0 plain then Some Token else
+pub form_found : {value bytes : List ℕ} → bytes ≡ value → ((i : ℕ) → get_or value i 0 < 256) → {plain control special : ℕ}
+    → plain ≡ 0 + prefix_len is_token_byte bytes → control ≡ plain + prefix_len (λ b. not (is_stop CONTROLS b)) (drop plain bytes)
+    → special ≡ plain + prefix_len is_plain (drop plain bytes) → (if plain == length value && nat_lt 0 plain then Some Token else
     if control == length value then Some (if special == length value then Quoted else Escaped) else None)
     ≡ (if list_all is_quoted_byte value then Some (form_of value) else None)
-form_found value few {plain} token control special =
-    let passed : plain ≤ prefix_len is_token_byte value = omega (arith, token) in
+form_found {value} same few {plain} token control special =
+    let passed : plain ≤ prefix_len is_token_byte value = omega (arith, rw same at token) in
     let wider : (b : ℕ) → is_token_byte b ≡ true → (is_quoted_byte b ≡ true) × (is_plain b ≡ true) =
     λ b is. and_parts (is_quoted_byte b) _ (token_byte_text b is) in
     let rest = quoted_len (drop plain value) (λ i. rw (get_or-drop plain value i) (few (plain + i))) in
     let quoted = run_after is_quoted_byte (λ b is. (wider b is).0) value plain passed in
     let unmarked = run_after is_plain (λ b is. (wider b is).1) value plain passed in
-    grind (arith, nat_tests, token, control, special, rest, quoted, unmarked, token_decides value, token_safe value, quoted_text value)
+    grind (
+      arith,
+      nat_tests,
+      same,
+      token,
+      control,
+      special,
+      rest,
+      quoted,
+      unmarked,
+      token_decides value,
+      token_safe value,
+      quoted_text value,
+    )
 
 -- A search for a quote or a backslash passes the bytes that need no backslash.
 plain_len : (class : Class) → ((b : ℕ) → is_stop class b ≡ (b == 34 || b == 92)) → (bytes : List ℕ)

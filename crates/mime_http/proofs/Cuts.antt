@@ -5,18 +5,18 @@ use Rattle.mime_search.{specs.Classes.is_stop, specs.Classes.end_of_run, specs.Q
 
 -- ---- what is a piece from a place on
 
--- a place outside strings
+-- This is a place outside strings.
 abbrev pub IsOutside : At → Type 0
 IsOutside Outside = ⊤
 IsOutside Equals = ⊤
 IsOutside place = ⊥
 
--- from a place on, no byte ends a piece, and they lead to a place outside strings
+-- From a place on, no byte ends a piece, and they lead to a place outside strings.
 abbrev pub IsWhole : At → List ℕ → Type 0
 IsWhole place [] = IsOutside place
 IsWhole place (b ∷ bytes) = (ends_piece place b ≡ false) × IsWhole (after place b) bytes
 
--- another byte than an equals sign opens no string
+-- Another byte than an equals sign opens no string.
 pub opens_none : (b : ℕ) (bytes : List ℕ) → (b == 61) ≡ false → opens_string (b ∷ bytes) ≡ false
 opens_none b [] other = refl
 opens_none b (c ∷ bytes) other = rw other refl
@@ -39,7 +39,7 @@ piece_passes (piece_string content piece inside rest) = (refl, (refl, string_pas
 
 -- ---- what passes is a piece
 
--- a string may have a byte or a pair more at its start
+-- A string may have a byte or a pair more at its start.
 more_text : {bytes : List ℕ} (b : ℕ) → (b == 34) ≡ false → (b == 92) ≡ false → IsPiece (61 ∷ 34 ∷ bytes)
     → IsPiece (61 ∷ 34 ∷ b ∷ bytes)
 more_text b quote single (piece_byte _ _ _ opens _) = absurd (true≢false opens)
@@ -51,7 +51,7 @@ more_pair : {bytes : List ℕ} (b : ℕ) → IsPiece (61 ∷ 34 ∷ bytes) → I
 more_pair b (piece_byte _ _ _ opens _) = absurd (true≢false opens)
 more_pair b (piece_string content piece inside rest) = piece_string (92 ∷ b ∷ content) piece (string_pair b content inside) rest
 
--- what bytes are from a place on, with those that lead there from outside strings
+-- This says what bytes are from a place on, with those that lead there from outside strings.
 abbrev pub Continues : At → List ℕ → Type 0
 Continues Outside bytes = IsPiece bytes
 Continues Equals bytes = IsPiece (61 ∷ bytes)
@@ -87,7 +87,7 @@ is_piece place (b ∷ bytes) whole = further place b bytes whole.0 (is_piece (af
 
 -- ---- the only cut
 
--- what passes with something after it is the first piece of a cut, if something else would end one there
+-- What passes with something after it is the first piece of a cut, if something else would end one there.
 first_piece : (bytes more rest : List ℕ) (place : At) (piece : List ℕ) {pieces : List (List ℕ)} → IsWhole place (bytes ++ more)
     → ((place : At) (piece : List ℕ) → IsWhole place more → cut_from place piece rest ≡ piece ∷ pieces)
     → cut_from place piece (bytes ++ rest) ≡ (piece ++ bytes) ∷ pieces
@@ -95,12 +95,12 @@ first_piece [] more rest place piece {pieces} whole ends = rw (append-nil piece)
 first_piece (b ∷ bytes) more rest place piece {pieces} whole ends =
     rw (whole.0, sym (append_assoc piece (b ∷ []) bytes)) (first_piece bytes more rest (after place b) (piece ++ (b ∷ [])) whole.1 ends)
 
--- a text that begins a piece is cut into itself
+-- A text that begins a piece is cut into itself.
 pub cut_of_piece : {text : List ℕ} → BeginsPiece text → cut text ≡ text ∷ []
 cut_of_piece {text} begins =
     rw (append-nil text) at (first_piece text begins.0 [] Outside [] {pieces = []} (piece_passes begins.1) (λ place piece whole. refl))
 
--- the pieces between commas are those of the cut
+-- The pieces between commas are those of the cut.
 pub only_cut : {lines pieces : List (List ℕ)} → AreBetweenCommas IsPiece BeginsPiece lines pieces → pieces ≡ flat_map cut lines
 only_cut no_line = refl
 only_cut (line_end text lines texts begins rest) = grind (arith, only_cut rest, cut_of_piece begins)
@@ -117,7 +117,7 @@ end_on place line at = at + piece_len place (drop at line)
 
 -- ---- outside strings
 
--- after an equals sign a byte other than a quote is as any byte outside strings
+-- After an equals sign a byte other than a quote is as any byte outside strings.
 no_quote_next : (bytes : List ℕ) → (get_or bytes 0 0 == 34) ≡ false → piece_len Equals bytes ≡ piece_len Outside bytes
 no_quote_next [] other = refl
 no_quote_next (c ∷ bytes) other = rw other refl
@@ -128,7 +128,7 @@ pub outside_byte : (line : List ℕ) (at : ℕ) → at < length line → (get_or
 outside_byte line at within on opens =
     grind (arith, nat_tests, drop_more line at 0 within, on, opens, get_or-drop (at + 1) line 0 0, no_quote_next (drop (at + 1) line))
 
--- a comma outside strings ends the piece, and so does the line's end
+-- A comma outside strings ends the piece, and so does the line's end.
 pub ends_outside : (line : List ℕ) (at : ℕ) → (at < length line → get_or line at 0 ≡ 44) → end_on Outside line at ≡ at
 ends_outside line at is_comma = grind (arith, nat_tests, drop_more line at 0, drop_of_length-le line {i = at}, is_comma)
 
@@ -147,7 +147,7 @@ piece_to [] other = refl
 piece_to (b ∷ []) other = grind (arith, nat_tests, other)
 piece_to (b ∷ c ∷ bytes) other = grind (arith, nat_tests, other, piece_to (c ∷ bytes))
 
--- bytes before the first comma or equals sign go on with a piece
+-- Bytes before the first comma or equals sign go on with a piece.
 run_outside : (bytes : List ℕ)
     → before_mark 44 61 bytes + piece_len Outside (drop (before_mark 44 61 bytes) bytes) ≡ piece_len Outside bytes
 run_outside [] = omega arith
@@ -185,8 +185,7 @@ string_closed line from to within is =
 
 -- A search that stops at two marks finds the first of them.
 pub mark_found : (class : Class) (one other : ℕ) → ((b : ℕ) → is_stop class b ≡ is_mark one other b)
-    → (line : List ℕ) (from to : ℕ)
-    → to ≡ end_of_run class line from → to ≡ from + before_mark one other (drop from line)
+    → (line : List ℕ) (from to : ℕ) → to ≡ end_of_run class line from → to ≡ from + before_mark one other (drop from line)
 mark_found class one other are line from to is = is ∙ (λ i. from + prefix_len (λ b. not (are b i)) (drop from line))
 
 -- Up to the next comma or equals sign, a piece goes on outside strings.
@@ -260,7 +259,7 @@ module _ (line : List ℕ) {end : ℕ} (is : end ≡ piece_len Outside line) whe
 
 -- ---- each line has a cut
 
--- the pieces of a line, before those of the next lines, are between commas
+-- The pieces of a line, before those of the next lines, are between commas.
 is_cut : (most : ℕ) (line : List ℕ) → length line < most → {lines pieces : List (List ℕ)}
     → AreBetweenCommas IsPiece BeginsPiece lines pieces → AreBetweenCommas IsPiece BeginsPiece (line ∷ lines) (cut line ++ pieces)
 is_cut zero line short rest = absurd (omega (arith, short))
@@ -270,8 +269,7 @@ is_cut (suc most) line short {lines} {pieces} rest =
     let first = first_entry line refl less in
     let others = is_cut most (drop (n + 1) line) (omega (arith, short, less, length-drop (n + 1) line)) rest in
     subst (λ text. AreBetweenCommas IsPiece BeginsPiece (text ∷ lines) (take n line ∷ (cut_after (drop n line) ++ pieces)))
-    (sym first.0)
-    (rw (drop_more line n 0 less) (comma (take n line) (drop (n + 1) line) lines _ first.1 others)))
+    (sym first.0) (rw (drop_more line n 0 less) (comma (take n line) (drop (n + 1) line) lines _ first.1 others)))
     (λ past. rw (take_all n line past, drop_of_length-le line past) (line_end line lines pieces (last_entry line refl past) rest))
     (cases_lt n (length line)))
 
@@ -280,6 +278,6 @@ pub are_cut : (lines : List (List ℕ)) → AreBetweenCommas IsPiece BeginsPiece
 are_cut [] = no_line
 are_cut (line ∷ lines) = is_cut (suc (length line)) line (omega arith) (are_cut lines)
 
--- lines are cut in one way
+-- Lines are cut in one way.
 pub one_cut : OneCut
 one_cut lines = (flat_map cut lines, are_cut lines, λ other is. only_cut is)

@@ -4,23 +4,23 @@ use Rattle.mime_http.proofs.Common.{IsFirstAccepted, Item, List, MediaType, None
 use Rattle.mime.{specs.declared.name.Name.Name, proofs.HandedOut.text_of-essence}
 use Rattle.mime_http.proofs.{Numbers.read_is, Written.lengths}
 
--- the count of parameters and the weight that were found
+-- This is the count of parameters and the weight that were found.
 abbrev pub found_of : ℕ → Option (List ℕ) → Option (ℕ × ℕ)
 found_of count weight = Some (count, unwrap_or (option_map thousandths_of weight) 1000)
 
--- what a range demands of an offer, if that has it, and the range's weight
+-- This is what a range demands of an offer, if that has it, and the range's weight.
 abbrev pub found_in : MediaType → List (List ℕ × List ℕ) → Option (ℕ × ℕ)
 found_in offer pairs =
     if list_all (has offer) (demanded pairs) then found_of (length (demanded pairs)) (first_value (codes "q") pairs) else None
 
--- the same, of which some was counted and a weight may be known, and these items are left
+-- This is the same, of which some was counted and a weight may be known, and these items are left.
 abbrev pub found_from : MediaType → ℕ → Option (List ℕ) → List Item → Option (ℕ × ℕ)
 found_from offer count weight [] = found_of count weight
 found_from offer count weight (item ∷ items) =
     if bytes_eq item.name (codes "q") then found_from offer count (option_or weight (Some item.value)) items else
     if has offer (item.name, item.value) then found_from offer (count + 1) weight items else None
 
--- the items of a range's pairs decide what is found
+-- The items of a range's pairs decide what is found.
 pub found_after : (offer : MediaType) (count : ℕ) (weight : Option (List ℕ)) (pairs : List (List ℕ × List ℕ))
     → found_from offer count weight (items_of pairs) ≡ (if list_all (has offer) (demanded pairs)
     then found_of (count + length (demanded pairs)) (option_or weight (first_value (codes "q") pairs)) else None)
@@ -33,7 +33,7 @@ found_after offer count weight (pair ∷ pairs) = grind (
 
 -- ---- what a look-up finds
 
--- a test of what is mapped is one of the list
+-- A test of what is mapped is one of the list.
 list_any-map : {X Y : Type 0} (p : Y → Bool) (f : X → Y) (xs : List X) → list_any p (map f xs) ≡ list_any (λ x. p (f x)) xs
 list_any-map p f [] = refl
 list_any-map p f (x ∷ xs) = grind (arith, list_any-map p f xs)
@@ -45,7 +45,7 @@ pub has_item : (offer : MediaType) (name value : List ℕ)
 has_item offer name value =
     list_any-map (λ item. bytes_eq item.name name && bytes_eq (unescaped item.value) (unescaped value)) item_of offer.pairs
 
--- the value of the first parameter that is accepted is the first of that name
+-- The value of the first parameter that is accepted is the first of that name.
 pub first_is : (name : List ℕ) (found : Option Name) (pairs : List (List ℕ × List ℕ))
     → IsFirstAccepted (λ text flag. (text ≡ name) × (flag ≡ true)) (items_of pairs) (option_map name_seen found)
     → option_map name_text found ≡ first_value name pairs
@@ -78,11 +78,9 @@ weight_alone media rest n d reads after is spaces digit =
 
 -- A range demands nothing else, and weighs these tenths, if the weight is written after this white space.
 pub weight_of_one_decimal : (n : List ℕ) (d weight : ℕ) (offer media : MediaType) (rest : List ℕ) → AreSpaces n
-    → Reads media.kept media
-    → rest ≡ drop (length media.essence) media.kept → length rest ≡ 6 + length n
+    → Reads media.kept media → rest ≡ drop (length media.essence) media.kept → length rest ≡ 6 + length n
     → HasBytesAt rest 0 (59 ∷ (n ++ (113 ∷ 61 ∷ 48 ∷ 46 ∷ d ∷ []))) → is_ascii_digit d ≡ true
-    → weight ≡ 100 * (d - 48)
-    → Some (0, weight) ≡ found_in offer media.pairs
+    → weight ≡ 100 * (d - 48) → Some (0, weight) ≡ found_in offer media.pairs
 weight_of_one_decimal n d weight offer media rest spaces reads after long bytes digit tenths =
     let whole = text_from_reads rest _ (omega (arith, long, length-append n (113 ∷ 61 ∷ 48 ∷ 46 ∷ d ∷ []))) bytes in
     let read : weight ≡ read_number (48 ∷ 46 ∷ d ∷ []) = rw digit (omega (arith, tenths)) in
@@ -91,7 +89,7 @@ weight_of_one_decimal n d weight offer media rest spaces reads after long bytes 
 
 -- ---- a media type covers itself
 
--- it has each of its own parameters, and covers itself, but for a weight
+-- It has each of its own parameters, and covers itself, but for a weight.
 pub covers_itself : CoversItself
 covers_itself media =
     let same_bytes = λ (bytes : List ℕ). (bytes_eq-Decides bytes bytes).1 refl in
@@ -104,7 +102,7 @@ covers_itself media =
 
 -- ---- what covers an offer is told by what both mean
 
--- the same of parameters as they are meant
+-- This is the same of parameters as they are meant.
 abbrev has_meant : List (List ℕ × List ℕ) → List ℕ × List ℕ → Bool
 has_meant meant pair = list_any (λ own. bytes_eq own.0 pair.0 && bytes_eq own.1 pair.1) meant
 

@@ -3,13 +3,12 @@ use Rattle.mime_http.proofs.Common.{All, All-contains, AllPass-from_list_all, li
 use Rattle.std.{proofs.lemmas.Cmp.upto, proofs.lemmas.List.Elements.All-cons, proofs.lemmas.List.Elements.All-nil, proofs.lemmas.List.Folds.list_all_at, proofs.lemmas.Bool.and_right, proofs.lemmas.Bool.and_left, proofs.lemmas.Bool.cases_cond, specs.Cmp.Lexicographic.options_total}
 use borrow.Author.Count.{below_more}
 
--- the value of an item's value is the one at its position
+-- The value of an item's value is the one at its position.
 pub value_at : {X Y Z : Type 0} (f : Y → Z) (g : X → Y) (xs : List X) (i : ℕ) (x : X) (d : Z) → i < length xs
-    → x ≡ get_or xs i x
-    → f (g x) ≡ get_or (map f (map g xs)) i d
+    → x ≡ get_or xs i x → f (g x) ≡ get_or (map f (map g xs)) i d
 value_at f g xs i x d within is = grind (arith, is, get_or-map f (map g xs) i (g x) d, get_or-map g xs i x (g x), length-map xs g)
 
--- the first place of what passes is the same in what is mapped
+-- The first place of what passes is the same in what is mapped.
 pub position-map : {X Y : Type 0} (p : Y → Bool) (f : X → Y) (xs : List X) → position p (map f xs) ≡ position (λ x. p (f x)) xs
 position-map {X} p f xs = rw (first xs, length-map xs f) refl
   where
@@ -19,11 +18,11 @@ position-map {X} p f xs = rw (first xs, length-map xs f) refl
 
 -- ---- ranks
 
--- the rank of what weighs nothing
+-- This is the rank of what weighs nothing.
 abbrev pub lowest : Rank
 lowest = (0, 0, 0, 0)
 
--- the rank of an offer
+-- This is the rank of an offer.
 abbrev pub rank_at : List Rank → ℕ → Rank
 rank_at ranks at = get_or ranks at lowest
 
@@ -31,7 +30,7 @@ rank_at ranks at = get_or ranks at lowest
 pub one_rank : (x y : Rank) → rank_cmp x y ≡ Equal → x ≡ y
 one_rank x y same = grind (arith, nat_tests)
 
--- ranks are in a total order, and so are those that may be missing
+-- Ranks are in a total order, and so are those that may be missing.
 pub ranks_total : IsTotalOrder rank_cmp
 ranks_total = then_total (then_total (then_total (on_total (λ rank. rank.0) nat_cmp_total) (on_total (λ rank. rank.1) nat_cmp_total))
     (on_total (λ rank. rank.2) nat_cmp_total)) (on_total (λ rank. rank.3) nat_cmp_total)
@@ -39,7 +38,7 @@ ranks_total = then_total (then_total (then_total (on_total (λ rank. rank.0) nat
 abbrev cmp : Option Rank → Option Rank → Ordering
 cmp = option_cmp rank_cmp
 
--- one isn't above another
+-- One isn't above another.
 abbrev NotAbove : Option Rank → Option Rank → Type 0
 NotAbove top one = is_gt (cmp one top) ≡ false
 
@@ -49,7 +48,7 @@ up_to = upto (options_total ranks_total)
 
 -- ---- the highest that a fold keeps
 
--- the top is the first or one of these, and none is above it
+-- The top is the first or one of these, and none is above it.
 record IsTop {X : Type 0} (f : X → Option Rank) (first : Option Rank) (xs : List X) (top : Option Rank) : Type 0 where
   among : (top ≡ first) ⊎ ((x : X) × Contains xs x × (f x ≡ top))
   least : NotAbove top first
@@ -76,14 +75,14 @@ folded : {X : Type 0} (f : X → Option Rank) (first : Option Rank) (xs : List X
 folded f first [] = refl
 folded f first (x ∷ xs) = grind (arith, folded f first xs, folded f (ord_max cmp first (f x)) xs)
 
--- whether no other rank is above one
+-- This says whether no other rank is above one.
 abbrev pub is_low : Rank → Rank → Bool
 is_low one other = is_le (rank_cmp other one)
 
 abbrev pub is_top : List Rank → Rank → Bool
 is_top all one = list_all (is_low one) all
 
--- what is found, if no other passes
+-- One that passes is found, if no other passes.
 find_one : {X : Type 0} (p : X → Bool) (xs : List X) (x : X) → list_any p xs ≡ true → All (λ y. p y ≡ true → y ≡ x) xs
     → find p xs ≡ Some x
 find_one p [] x some one = absurd cc
@@ -91,7 +90,7 @@ find_one p (y ∷ xs) x some one =
     ⊎_elim (λ passes. rw passes (ap Some (one 0 y (omega arith) passes)))
     (λ fails. rw fails (find_one p xs x (rw fails at some) (λ k d within. one (suc k) d (omega (arith, within))))) (cases_Bool (p y))
 
--- the highest is the one that none is above
+-- The highest is the one that none is above.
 found_top : (all : List Rank) → find (is_top all) all ≡ fold (ord_max cmp) None (map Some all)
 found_top [] = refl
 found_top (rank ∷ ranks) = by (fold (ord_max cmp) None (map Some all)) (top_of Some None all)
@@ -136,15 +135,15 @@ closest_is_closest ranges offer =
 
 -- ---- the best offer
 
--- whether a rank is the best: no other is above it, and it weighs more than 0
+-- This says whether a rank is the best: no other is above it, and it weighs more than 0.
 abbrev pub is_best : List Rank → Rank → Bool
 is_best all one = nat_lt 0 one.0 && is_top all one
 
--- whether a rank is above another
+-- This says whether a rank is above another.
 abbrev pub beats : Rank → Rank → Bool
 beats one other = is_gt (rank_cmp one other)
 
--- what is above one rank is above what isn't
+-- What is above one rank is above what isn't.
 above_both : (x y z : Rank) → beats x y ≡ true → beats z y ≡ false → beats x z ≡ true
 above_both x y z above low = grind (arith, nat_tests)
 
@@ -198,7 +197,7 @@ best_is_found {all} {at} {most} {best} is past =
 
 -- ---- no best offer
 
--- the ranks before a position have a highest
+-- The ranks before a position have a highest.
 abbrev HasHighest : List Rank → ℕ → Type 0
 HasHighest ranks at = (most : Rank) × (best : Option ℕ) × IsHighest ranks at most best
 

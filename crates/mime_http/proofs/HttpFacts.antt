@@ -4,11 +4,11 @@ use Rattle.mime_http.proofs.Common.{Parameter, SyntaxTree, IsUtf8-nil, HttpExpla
 use Rattle.mime_http.specs.{declared.value.FieldError.TheVariants.Invalid, declared.value.FieldError.TheVariants.NotUtf8, declared.value.FieldError.TheVariants.NoMemory as OutOfMemory, HttpFaults.fault_position}
 use Rattle.mime_http.proofs.{Around.white_more, Around.put_ascii, HttpLaws.one_printed_text, HttpLaws.short_needs_none, HttpLaws.anew_needs, HttpLaws.anew_is, HttpLaws.written_reads, ReadBack.answered_is_http, ReadFaults.answered_fault, ReadFaults.fault_answered, ReadFaults.rejected_is_none as none}
 
--- ` text/HTML ;; charset="UTF-8" `
+-- This is ` text/HTML ;; charset="UTF-8" `.
 abbrev value : List ℕ
 value = codes " text/HTML ;; charset=\"UTF-8\" "
 
--- its media type, with this kept text
+-- This is its media type, with this kept text.
 abbrev html_type : List ℕ → MediaType
 html_type kept = record {
   essence = codes "text/html";
@@ -18,15 +18,15 @@ html_type kept = record {
   kept = kept;
 }
 
--- its parts as they stand
+-- These are its parts as they stand.
 parts : Parts
 parts = record { top = codes "text"; sub = codes "HTML"; pairs = (codes "charset", codes "UTF-8") ∷ [] }
 
--- the same without a space before the semicolon, which the library accepts without the white space around it
+-- This is the same without a space before the semicolon, which the library accepts without the white space around it.
 abbrev plain_value : List ℕ
 plain_value = codes "\ttext/HTML;charset=\"UTF-8\" "
 
--- both are read so, whatever is kept
+-- Both are read so, whatever is kept.
 read : (kept : List ℕ) → HttpReads value (html_type kept) × HttpReads plain_value (html_type kept)
 unfolding parts is_token_byte is_quoted_byte
 read kept = (
@@ -34,8 +34,8 @@ read kept = (
   white_more _ [] [] refl refl (answered_is_http plain_value parts refl) refl,
 )
 
--- no white space stands at the slash, nor before an equals sign or after it; no parameter is without a semicolon before it, or a value; and
--- each quoted string is closed
+-- No white space stands at the slash, nor before an equals sign or after it; no parameter is without a semicolon before it, or a value; and
+-- each quoted string is closed.
 not_allowed : ¬ (IsHttpMediaType (codes "a /b")) × ¬ (IsHttpMediaType (codes "a/b; p =x")) × ¬ (IsHttpMediaType (codes "a/b; p= x"))
     × ¬ (IsHttpMediaType (codes "a/b p=x")) × ¬ (IsHttpMediaType (codes "a/b;p= ;q=x")) × ¬ (IsHttpMediaType (codes "a/b;p=\"x"))
 unfolding is_token_byte is_quoted_byte
@@ -44,7 +44,7 @@ not_allowed = (none _ _ refl, none _ _ refl, none _ _ refl, none _ _ refl, none 
 -- ---- faults
 
 -- `   a/b c`: the `c` and not the white space, which may follow a media type; `text `: the space, since nothing goes on so; ` text/`: its
--- subtype, and neither a value nor a quote
+-- subtype, and neither a value nor a quote.
 faults : IsHttpFault (codes "   a/b c") (InvalidToken 7 99) × ¬ (IsHttpFault (codes "   a/b c") (InvalidToken 6 32))
     × IsHttpFault (codes "text ") (InvalidToken 4 32) × IsHttpFault (codes " text/") MissingSubtype
     × ¬ (IsHttpFault (codes " text/") MissingValue) × ¬ (IsHttpFault (codes " text/") MissingQuote)
@@ -99,7 +99,7 @@ not_printed = (
 
 -- ---- memory
 
--- ` a/b;;p=` and letters print `a/b; p=` and the letters
+-- ` a/b;;p=` and letters print `a/b; p=` and the letters.
 abbrev lettered : List ℕ → List ℕ
 lettered letters = codes " a/b;;p=" ++ letters
 
@@ -128,18 +128,18 @@ reasons = (λ why. memory.2 why.1, (put_ascii (codes "a b") [] (omega arith) IsU
 
 -- ---- quoted content
 
--- bytes that aren't equal differ
+-- Bytes that aren't equal differ.
 differ : (text other : List ℕ) → bytes_eq text other ≡ false → text ≢ other
 differ text other is same = true≢false (sym ((bytes_eq-Decides text other).1 same) ∙ is)
 
--- `a\"b\\` means `a"b\`, and not itself; what is written for `a"b\` is `a\"b\\`, and for a quote not a quote
+-- `a\"b\\` means `a"b\`, and not itself; what is written for `a"b\` is `a\"b\\`, and for a quote not a quote.
 contents : (unescaped (codes "a\\\"b\\\\") ≡ codes "a\"b\\") × (unescaped (codes "\\\"") ≢ codes "\\\"")
     × (escaped (codes "a\"b\\") ≡ codes "a\\\"b\\\\") × (escaped (codes "\"") ≢ codes "\"")
 contents = (refl, differ _ _ refl, refl, differ _ _ refl)
 
 -- ---- parameters
 
--- `utf-8` is a token; `a b` and nothing aren't. A token is written as it is, and any other value in quotes, with its backslashes
+-- `utf-8` is a token; `a b` and nothing aren't. A token is written as it is, and any other value in quotes, with its backslashes.
 written : (is_token_value (codes "utf-8") ≡ true) × (is_token_value (codes "a b") ≡ false) × (is_token_value [] ≡ false)
     × (text_of_pair (codes "charset", codes "utf-8") ≡ codes "; charset=utf-8")
     × (text_of_pair (codes "charset", codes "utf-8") ≢ codes "; charset=\"utf-8\"")
@@ -147,13 +147,13 @@ written : (is_token_value (codes "utf-8") ≡ true) × (is_token_value (codes "a
 unfolding is_token_byte
 written = (refl, refl, refl, refl, differ _ _ refl, refl, refl)
 
--- `text/html; charset=utf-8; p=1; q="a b"; p=2`
+-- This is `text/html; charset=utf-8; p=1; q="a b"; p=2`.
 page : MediaType
 page = with_pairs (record { essence = codes "text/html"; slash = 4; plus = None; pairs = []; kept = [] })
     ((codes "charset", codes "utf-8") ∷ (codes "p", codes "1") ∷ (codes "q", codes "a b") ∷ (codes "p", codes "2") ∷ [])
 
--- the page is written with all its pairs, and no pair as nothing; both values of `p` go, whatever the name's case, and the others stay in
--- their order
+-- The page is written with all its pairs, and no pair as nothing; both values of `p` go, whatever the name's case, and the others stay in
+-- their order.
 put : (page.kept ≡ codes "text/html; charset=utf-8; p=1; q=\"a b\"; p=2") × (text_of_pairs [] ≡ [])
     × (others (codes "P") page.pairs ≡ (codes "charset", codes "utf-8") ∷ (codes "q", codes "a b") ∷ [])
     × ((with_pair page (codes "p") (codes "3")).kept ≡ codes "text/html; charset=utf-8; q=\"a b\"; p=3")
@@ -164,7 +164,7 @@ put = (refl, refl, refl, refl, differ _ _ refl, refl)
 
 -- ---- boundaries
 
--- `a b` is one; nothing, a space at the end, a semicolon and 71 bytes aren't
+-- `a b` is one; nothing, a space at the end, a semicolon and 71 bytes aren't.
 boundaries : IsBoundary (codes "a b") × ¬ (IsBoundary []) × ¬ (IsBoundary (codes "a ")) × ¬ (IsBoundary (codes "a;b"))
     × ¬ (IsBoundary (codes "12345678901234567890123456789012345678901234567890123456789012345678901"))
 boundaries = (
@@ -175,12 +175,12 @@ boundaries = (
   λ is. absurd (omega (arith, is.most)),
 )
 
--- that of `multipart/mixed; boundary="a b"; boundary=c` is `a b`, and not `c`; a `text/plain` has none
+-- That of `multipart/mixed; boundary="a b"; boundary=c` is `a b`, and not `c`; a `text/plain` has none.
 mixed : MediaType
 mixed = with_pairs (record { essence = codes "multipart/mixed"; slash = 9; plus = None; pairs = []; kept = [] })
     ((codes "boundary", codes "a b") ∷ (codes "boundary", codes "c") ∷ [])
 
--- the boundary of the parts is `a b`, and no other
+-- The boundary of the parts is `a b`, and no other.
 boundary_of : IsBoundaryOf mixed (codes "a b") × ¬ (IsBoundaryOf mixed (codes "c"))
     × ¬ (IsBoundaryOf (record mixed { essence = codes "text/plain"; slash = 4 }) (codes "a b"))
     × ¬ (IsBoundaryOf (record mixed { pairs = (codes "boundary", codes "a ") ∷ [] }) (codes "a "))

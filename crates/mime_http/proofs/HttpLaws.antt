@@ -99,8 +99,7 @@ error_is_memory value field.NoMemory utf8 is why = refl
 
 -- A media type of which at most 40 bytes are printed needs no memory.
 pub short_needs_none : (value : List ℕ) (media : MediaType) → HttpReads value media → IsPrinted value media
-    → length media.kept ≤ 40
-    → ¬ (NeedsMemory value)
+    → length media.kept ≤ 40 → ¬ (NeedsMemory value)
 short_needs_none value media reads printed few needs =
     let same = one_printed_text value media needs.media reads printed needs.is needs.printed in
     absurd (omega (arith, few, needs.long, ap (λ (it : MediaType). length it.kept) same))

@@ -13,7 +13,7 @@ place_of (in_value parts name []) = Equals
 place_of (in_string parts name content) = if awaits_after false content then Paired else Quoted
 place_of state = Outside
 
--- a byte that reading goes on with ends no piece, and leads to the place of the next state
+-- A byte that reading goes on with ends no piece, and leads to the place of the next state.
 follows : (state : State) (b : ℕ)
     → MatchOption (next state b) ⊤ (λ next. (ends_piece (place_of state) b ≡ false) × (after (place_of state) b ≡ place_of next))
 unfolding is_token_byte is_quoted_byte
@@ -53,18 +53,18 @@ spaces_are_piece (b ∷ white) all =
     piece_byte b white (grind (arith, nat_tests, parts.0)) (opens_none b white (grind (arith, nat_tests, parts.0)))
     (spaces_are_piece white parts.1)
 
--- a piece begins one
-begins : {text : List ℕ} → IsPiece text → BeginsPiece text
-begins {text} is = ([], rw (append-nil text) is)
+-- A piece begins one.
+starts : {text : List ℕ} → IsPiece text → BeginsPiece text
+starts {text} is = ([], rw (append-nil text) is)
 
 -- ---- forth
 
--- an element has no comma outside strings, so it is a piece
+-- An element has no comma outside strings, so it is a piece.
 are_pieces : {lines texts : List (List ℕ)} {media : List MediaType} → AreBetweenCommas (λ text. ⊤) (λ text. ⊤) lines texts
     → AreElements texts media → AreBetweenCommas IsPiece BeginsPiece lines texts
 are_pieces no_line are = no_line
-are_pieces (line_end _ _ _ _ rest) (nothing _ _ _ white more) = line_end _ _ _ (begins (spaces_are_piece _ white)) (are_pieces rest more)
-are_pieces (line_end _ _ _ _ rest) (element _ _ _ _ _ reads more) = line_end _ _ _ (begins (http_is_piece reads)) (are_pieces rest more)
+are_pieces (line_end _ _ _ _ rest) (nothing _ _ _ white more) = line_end _ _ _ (starts (spaces_are_piece _ white)) (are_pieces rest more)
+are_pieces (line_end _ _ _ _ rest) (element _ _ _ _ _ reads more) = line_end _ _ _ (starts (http_is_piece reads)) (are_pieces rest more)
 are_pieces (comma _ line _ _ _ rest) (nothing _ _ _ white more) = comma _ line _ _ (spaces_are_piece _ white) (are_pieces rest more)
 are_pieces (comma _ line _ _ _ rest) (element _ _ _ _ _ reads more) = comma _ line _ _ (http_is_piece reads) (are_pieces rest more)
 
@@ -90,7 +90,7 @@ sorted_elements (element text range texts media utf8 reads rest) =
     let is = printed text range reads in
     (is.0 ∷ more.0, λ i. is.3 i ∷ more.1 i, a_range text is.0 texts _ [] utf8 is.1 is.2 more.2)
 
--- a list as HTTP writes it is read as its elements
+-- A list as HTTP writes it is read as its elements.
 pub http_lists_are_read : HttpListsAreRead
 http_lists_are_read lines media lists =
     let read = sorted_elements lists.elements in
@@ -98,7 +98,7 @@ http_lists_are_read lines media lists =
 
 -- ---- and back
 
--- pieces are texts between commas
+-- Pieces are texts between commas.
 of_any : {lines texts : List (List ℕ)} → AreBetweenCommas IsPiece BeginsPiece lines texts
     → AreBetweenCommas (λ text. ⊤) (λ text. ⊤) lines texts
 of_any no_line = no_line
@@ -121,12 +121,12 @@ read_are_http_lists lines header is none = record {
 
 -- ---- pieces are sorted in one way
 
--- white space is no media type, which begins with a token byte after white space
+-- White space is no media type, which begins with a token byte after white space.
 pub http_is_not_blank : {piece : List ℕ} → AreSpaces piece → ¬ (IsHttpMediaType piece)
 http_is_not_blank {piece} white =
     rejected_is_none piece MissingSlash (ap answer_of (sym (append-nil piece)) ∙ over_white before_type keeps_before piece white 0 [])
 
--- texts are sorted in one way
+-- Texts are sorted in one way.
 one_sorting : {texts : List (List ℕ)} {ranges others : List MediaType} {bad poor : List (List ℕ)} → AreSorted texts ranges bad
     → AreSorted texts others poor → (ranges ≡ others) × (bad ≡ poor)
 one_sorting no_text no_text = (refl, refl)
@@ -168,7 +168,7 @@ read_or_not value = by_answer (answer_of value) refl
     by_answer (read parts) is = let it = printed value (media_of parts) (answered_is_http value parts is) in inl (it.0, it.1, it.2)
     by_answer (rejected fault) is = inr (rejected_is_none value fault is)
 
--- what texts are sorted as
+-- This is what texts are sorted as.
 abbrev Sorting : List (List ℕ) → Type 0
 Sorting texts = (ranges : List MediaType) × (bad : List (List ℕ)) × AreSorted texts ranges bad
 
@@ -244,13 +244,9 @@ one_first_bad lines header is = (
       ),
 )
 
--- a bad piece changes nothing of those before it and after it
+-- A bad piece changes nothing of those before it and after it.
 pub bad_is_alone : BadIsAlone
 bad_is_alone lines others before after entry ranges more bad worse first last some isnt with_it without = (
-  record {
-    pieces = before ++ (entry ∷ after);
-    cut = with_it;
-    sorted = sorted_both first (a_bad entry after more worse some isnt last);
-  },
+  record { pieces = before ++ (entry ∷ after); cut = with_it; sorted = sorted_both first (a_bad entry after more worse some isnt last) },
   record { pieces = before ++ after; cut = without; sorted = sorted_both first last },
 )

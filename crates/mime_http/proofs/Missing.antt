@@ -1,7 +1,7 @@
 -- The pairs of items, of which a range's parameters are looked through.
 use Rattle.mime_http.proofs.Common.{Item, List, [], ap, items_of, map, refl, ℕ, ◌∷◌, ◌≡◌}
 
--- an item's name and value
+-- This is an item's name and value.
 abbrev pub pairs_of : List Item → List (List ℕ × List ℕ)
 pairs_of items = map (λ item. (item.name, item.value)) items
 

@@ -4,7 +4,7 @@ use Rattle.mime_http.{specs.HttpList.blank, proofs.Around.AreAscii, proofs.Aroun
 
 -- ---- weights (RFC 9110, 12.4.2)
 
--- texts and how many thousandths they are
+-- These are texts and how many thousandths they are.
 weights : (map thousandths_of (codes "0.5" ∷ codes "1.000" ∷ codes "0.001" ∷ codes "0" ∷ []) ≡ 500 ∷ 1000 ∷ 1 ∷ 0 ∷ [])
     -- Of strings that are no weights, three digits after the dot count, and digits before another byte. None need be before the dot,
     -- `2` is worth no more than 1, and a word is worth nothing.
@@ -12,11 +12,11 @@ weights : (map thousandths_of (codes "0.5" ∷ codes "1.000" ∷ codes "0.001" �
     ∷ 1000 ∷ 0 ∷ [])
 weights = (refl, refl)
 
--- by the law, too
+-- This holds by the law, too.
 quarter : thousandths_of (codes "0.25") ≡ 250
 quarter = weight_is_number (codes "0.25") 250 (two_digits 2 5 (omega arith) (omega arith))
 
--- `1.5` is no weight that RFC 9110 allows, nor a half
+-- `1.5` is no weight that RFC 9110 allows, nor a half.
 no_weight : ¬ (IsQvalue (codes "1.5") 500)
 no_weight is = let same : 1000 ≡ 500 = weight_is_number (codes "1.5") 500 is in absurd (omega (arith, same))
 
@@ -27,15 +27,14 @@ no_weight is = let same : 1000 ≡ 500 = weight_is_number (codes "1.5") 500 is i
 pieces : (cut (codes "a/b;p=\"x,y\",c/d") ≡ codes "a/b;p=\"x,y\"" ∷ codes "c/d" ∷ [])
     × (cut (codes "a/b;p=\"\\\",\",c/d") ≡ codes "a/b;p=\"\\\",\"" ∷ codes "c/d" ∷ [])
     -- or in a string that isn't closed; and a quote opens a string only right after an equals sign
-    × (cut (codes "a/b;p=\"x,c/d") ≡ codes "a/b;p=\"x,c/d" ∷ [])
-    × (cut (codes "a\"b,c\"d") ≡ codes "a\"b" ∷ codes "c\"d" ∷ [])
+    × (cut (codes "a/b;p=\"x,c/d") ≡ codes "a/b;p=\"x,c/d" ∷ []) × (cut (codes "a\"b,c\"d") ≡ codes "a\"b" ∷ codes "c\"d" ∷ [])
 pieces = (refl, refl, refl, refl)
 
--- a piece has no comma outside strings
+-- A piece has no comma outside strings.
 comma_outside : ¬ (IsPiece (codes "a/b,c/d"))
 comma_outside is = absurd (omega (arith, ap length (cut_of_piece {text = codes "a/b,c/d"} ([], is))))
 
--- white space is left out on both sides
+-- White space is left out on both sides.
 trims : trimmed (codes " \t x y ") ≡ codes "x y"
 trims = refl
 
@@ -47,7 +46,7 @@ a_b = record { top = codes "a"; sub = codes "b"; pairs = [] }
 abbrev c_d : Parts
 c_d = record { top = codes "c"; sub = codes "d"; pairs = [] }
 
--- what is written as it is printed, but for the white space around it, is a range before others
+-- What is written as it is printed, but for the white space around it, is a range before others.
 as_range : (text : List ℕ) (parts : Parts) {texts bad : List (List ℕ)} {ranges : List MediaType} → AreAscii text
     → answer_of text ≡ read parts → text_of_parts parts ≡ trimmed text → AreSorted texts ranges bad
     → AreSorted (text ∷ texts) (media_of parts ∷ ranges) bad
@@ -55,7 +54,7 @@ as_range text parts ascii answered same =
     a_range text (media_of parts) _ _ _ (rw (append-nil text) at (put_ascii text [] ascii IsUtf8-nil))
     (answered_is_http text parts answered) (as_it_stands text (media_of parts) (rw same at (written_reads text parts answered)))
 
--- empty elements are no elements
+-- Empty elements are no elements.
 two_elements : AreHttpLists (codes ",a/b , ,c/d" ∷ []) (media_of a_b ∷ media_of c_d ∷ [])
 unfolding is_token_byte
 two_elements = read_are_http_lists (codes ",a/b , ,c/d" ∷ [])
@@ -66,7 +65,7 @@ two_elements = read_are_http_lists (codes ",a/b , ,c/d" ∷ [])
           (blank (codes " ") _ _ _ refl (as_range (codes "c/d") c_d (omega arith) refl refl no_text)));
     }) refl
 
--- a text with a space within is no media type
+-- A text with a space within is no media type.
 not_media_type : ¬ (IsHttpMediaType (codes " a b"))
 unfolding is_token_byte
 not_media_type = rejected_is_none (codes " a b") _ refl
@@ -76,8 +75,7 @@ bad_between : IsHeader (codes "c/d, a b" ∷ codes "a/b " ∷ [])
     (record { ranges = media_of c_d ∷ media_of a_b ∷ []; bad = codes "a b" ∷ [] })
 unfolding is_token_byte
 bad_between = (bad_is_alone (codes "c/d, a b" ∷ codes "a/b " ∷ []) (codes "c/d" ∷ codes "a/b " ∷ []) (codes "c/d" ∷ [])
-    (codes "a/b " ∷ [])
-    (codes " a b") _ _ [] [] (as_range (codes "c/d") c_d (omega arith) refl refl no_text)
+    (codes "a/b " ∷ []) (codes " a b") _ _ [] [] (as_range (codes "c/d") c_d (omega arith) refl refl no_text)
     (as_range (codes "a/b ") a_b (omega arith) refl refl no_text)
     (λ blank. true≢false (sym blank)) (λ is. not_media_type is.1) (are_cut _) (are_cut _)).0
 
@@ -111,7 +109,7 @@ not_first_bad is = let only = ((one_first_bad _ _ bad_between).1 1 first_bad).1 
 
 -- ---- no line
 
--- `*/*`
+-- This is `*/*`.
 any : Parts
 any = record { top = codes "*"; sub = codes "*"; pairs = [] }
 
@@ -122,5 +120,4 @@ no_line_accepts = record { pieces = _; cut = are_cut _; sorted = as_range (codes
 
 -- It doesn't accept nothing.
 accepts_something : ¬ (IsHeader [] (record { ranges = []; bad = [] }))
-accepts_something is =
-    absurd (omega (arith, ap (λ (header : Header). length header.ranges) (one_header [] _ _ no_line_accepts is)))
+accepts_something is = absurd (omega (arith, ap (λ (header : Header). length header.ranges) (one_header [] _ _ no_line_accepts is)))

@@ -2,29 +2,29 @@
 use Rattle.mime_http.specs.{Ranking.are_decimals, Ranking.is_qvalue, RangesLaws.zero, RangesLaws.one}
 use Rattle.mime_http.proofs.Common.{Bool, IsQvalue, QvaluesAre, nat_lt, suc, zero as none, and_parts, cases_Bool, false, list_all, not, subst, true, true≢false, ⊎_elim, ◌||◌, ◌&&◌, List, WeightIsNumber, [], arith, codes, drop, fold, if◌then◌else◌, is_ascii_digit, length, nat_tests, one_digit, one_dot, read_number, refl, replicate, slice_index, sym, take, take_while, take_while-cons, thousandths_of, three_digits, two_digits, worth, zero_dot, ℕ, ◌*◌, ◌++◌, ◌+◌, ◌-◌, ◌==◌, ◌∷◌, ◌≡◌, ◌≤◌, ◌/◌, mul-le-mul_left}
 
--- a number with one more digit
+-- This is a number with one more digit.
 abbrev step : ℕ → ℕ → ℕ
 step n digit = 10 * n + (digit - 48)
 
--- the digits that bytes begin with
+-- These are the digits that bytes begin with.
 abbrev digits : List ℕ → List ℕ
 digits bytes = take_while is_ascii_digit bytes
 
 -- ---- three digits after a dot
 
--- digits without a unit are worth nothing
+-- Digits without a unit are worth nothing.
 no_unit : (bytes : List ℕ) → worth 0 bytes ≡ 0
 no_unit [] = refl
 no_unit (b ∷ bytes) = grind (arith, nat_tests, no_unit bytes)
 
--- a number with the first three digits more, or with zeros if there are fewer
+-- This is a number with the first three digits more, or with zeros if there are fewer.
 three_digits_more : (n : ℕ) (bytes : List ℕ) → fold step n (take 3 (digits bytes ++ codes "000")) ≡ 1000 * n + worth 100 bytes
 three_digits_more n [] = omega arith
 three_digits_more n (a ∷ []) = grind (arith, nat_tests)
 three_digits_more n (a ∷ b ∷ []) = grind (arith, nat_tests)
 three_digits_more n (a ∷ b ∷ c ∷ bytes) = simp take_while-cons (grind (arith, nat_tests, no_unit bytes))
 
--- digits are worth at most ten of the first one's unit
+-- Digits are worth at most ten of the first one's unit.
 worth_most : (unit : ℕ) (bytes : List ℕ) → worth unit bytes ≤ 10 * unit
 worth_most unit [] = omega arith
 worth_most unit (b ∷ bytes) = grind (
@@ -36,20 +36,20 @@ worth_most unit (b ∷ bytes) = grind (
 
 -- ---- from the first byte on
 
--- the digits after a dot that bytes begin with
+-- These are the digits after a dot that bytes begin with.
 abbrev decimals : List ℕ → List ℕ
 decimals bytes = if slice_index bytes 0 == 46 then digits (drop 1 bytes) else []
 
--- the number that goes on with bytes, in thousandths
+-- This is the number that goes on with bytes, in thousandths.
 abbrev number_from : ℕ → List ℕ → ℕ
 number_from n bytes = fold step n (digits bytes ++ take 3 (decimals (drop (length (digits bytes)) bytes) ++ codes "000"))
 
--- a number goes on with a digit, and else with its decimals
+-- A number goes on with a digit, and else with its decimals.
 number_goes_on : (n b : ℕ) (bytes : List ℕ) → number_from n (b ∷ bytes)
     ≡ (if is_ascii_digit b then number_from (step n b) bytes else fold step n (take 3 (decimals (b ∷ bytes) ++ codes "000")))
 number_goes_on n b bytes = rw (take_while-cons is_ascii_digit b bytes) (grind arith)
 
--- what stands after a dot makes it no less
+-- What stands after a dot makes it no less.
 no_less : (n : ℕ) (bytes : List ℕ) → 1000 * n ≤ number_from n bytes
 no_less n [] = omega arith
 no_less n (b ∷ bytes) = grind (arith, nat_tests, number_goes_on, no_less (step n b) bytes, three_digits_more)
@@ -61,7 +61,7 @@ read_is (b ∷ bytes) = grind (arith, nat_tests, number_goes_on, read_is bytes, 
 
 -- ---- what RFC 9110 allows
 
--- a weight is the number that it begins with
+-- A weight is the number that it begins with.
 pub weight_is_number : WeightIsNumber
 weight_is_number text thousandths zero = refl
 weight_is_number text thousandths zero_dot = refl
@@ -73,7 +73,7 @@ weight_is_number text thousandths (one_dot zeros few) = sym (read_is (codes "1."
 
 -- ---- the weights that RFC 9110 allows, by their bytes
 
--- the test of a digit, as `are_decimals` has it
+-- This is the test of a digit, as `are_decimals` has it.
 abbrev is_digit : ℕ → Bool
 is_digit a = a == 48 || (not false && is_ascii_digit a)
 
@@ -162,6 +162,5 @@ qvalues_are text = (is_one text, λ is. passes text is.0 is.1)
         (it.0, subst (λ b. IsQvalue (b ∷ more) it.0) (grind (arith, nat_tests, first)) it.1))
         (λ other. (
           1000,
-          subst (λ b. IsQvalue (b ∷ more) 1000) (grind (arith, nat_tests, is, other))
-              (at_1 more (grind (arith, nat_tests, is, other))),
+          subst (λ b. IsQvalue (b ∷ more) 1000) (grind (arith, nat_tests, is, other)) (at_1 more (grind (arith, nat_tests, is, other))),
         )) (cases_Bool (b == 48))

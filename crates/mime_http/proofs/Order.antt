@@ -4,7 +4,7 @@ use Rattle.std.{specs.List.Sorted.IsPermutation, specs.List.Sorted.IsSorted, pro
 use Rattle.mime_http.specs.{Ranges.ComesBefore, Ranges.merit_at, Ranking.IsRanking, Ranking.ranked_as, Sorted.AreRanked, declared.ranking.RankedOffer.RankedOffer}
 use Rattle.mime_http.proofs.Highest.{all_weigh_0, best_is_found, is_best, lowest, one_rank, rank_at, ranks_total}
 
--- what weighs something is an offer's
+-- What weighs something is an offer's.
 pub weighs_within : (ranks : List Rank) (at : ℕ) → 0 < (rank_at ranks at).0 → at < length ranks
 weighs_within ranks at weighs = grind (arith, weighs, get_or_past ranks at lowest)
 
@@ -14,18 +14,18 @@ weighs_within ranks at weighs = grind (arith, weighs, get_or_past ranks at lowes
 abbrev place : Reverse Rank × ℕ → ℕ
 place offer = offer.1
 
--- an offer before a position has its rank, and weighs enough
+-- An offer before a position has its rank, and weighs enough.
 abbrev HasRank : ℕ → List Rank → ℕ → Reverse Rank × ℕ → Type 0
 HasRank least ranks at offer = (offer.0.0 ≡ rank_at ranks offer.1) × (offer.1 < at) × (least ≤ offer.0.0.0)
 
--- all offers before a position that weigh enough, each with its rank
+-- These are all offers before a position that weigh enough, each with its rank.
 pub record Ranked (least : ℕ) (ranks : List Rank) (at : ℕ) (found : List (Reverse Rank × ℕ)) : Type 0 where
   pub are : All (HasRank least ranks at) found
   pub all : (i : ℕ) → i < at → least ≤ (rank_at ranks i).0 → Contains (map place found) i
   pub apart : AllPairs (λ x y. x.1 < y.1) found
 
 module _ {least : ℕ} {ranks : List Rank} {at : ℕ} {found : List (Reverse Rank × ℕ)} (was : Ranked least ranks at found) where
-  -- those before it are before the next position
+  -- Those before it are before the next position.
   still : All (HasRank least ranks (at + 1)) found
   still = λ k d within. let is = was.are k d within in (is.0, omega (arith, is.1), is.2)
 
@@ -52,7 +52,7 @@ module _ {least : ℕ} {ranks : List Rank} {at : ℕ} {found : List (Reverse Ran
 
 -- ---- sorted, they are in order
 
--- offers are compared by their ranks, the higher first, and then by their positions
+-- Offers are compared by their ranks, the higher first, and then by their positions.
 abbrev pub offer_cmp : Reverse Rank × ℕ → Reverse Rank × ℕ → Ordering
 offer_cmp = then_cmp (flip_args (on (λ offer. offer.0.0) rank_cmp)) (on place nat_cmp)
 
@@ -60,7 +60,7 @@ offer_cmp = then_cmp (flip_args (on (λ offer. offer.0.0) rank_cmp)) (on place n
 offers_total : IsTotalOrder offer_cmp
 offers_total = then_total (back_total (on_total (λ offer. offer.0.0) ranks_total)) (on_total place nat_cmp_total)
 
--- one that isn't after another is higher, or as high and offered earlier
+-- One that isn't after another is higher, or as high and offered earlier.
 first_by : (x y : Rank) (i j : ℕ) → is_lt (ordering_then (rank_cmp x y) (nat_cmp j i)) ≡ false → (i == j) ≡ false
     → (is_gt (rank_cmp x y) ≡ true) ⊎ ((x ≡ y) × (i < j))
 first_by x y i j low differ =
@@ -110,8 +110,7 @@ are_ranked least ranges offers found sorted past was moved up =
 
 -- The positions of the offers that weigh something are in order.
 pub in_order : {ranges offers : List MediaType} {ranked : List (Reverse Rank × ℕ)} (order : List ℕ)
-    → AreRanked 1 ranges offers ranked
-    → order ≡ map (λ offer. offer.1) ranked → AreInOrder ranges offers order
+    → AreRanked 1 ranges offers ranked → order ≡ map (λ offer. offer.1) ranked → AreInOrder ranges offers order
 in_order {ranges} {offers} order are is = rw is (record {
   best_first = are.best_first;
   all = λ at. (
@@ -141,7 +140,7 @@ is_ranking {ranges} {offers} {ranked} count ranking are counted is = record {
 
 -- ---- the best offer is the first in order
 
--- the first of an order, if it weighs something
+-- This is the first of an order, if it weighs something.
 abbrev first_weighs : List Rank → List ℕ → Option ℕ
 first_weighs ranks [] = None
 first_weighs ranks (at ∷ order) = if nat_lt 0 (rank_at ranks at).0 then Some at else None
@@ -189,7 +188,7 @@ best_is_ranked_first ranges offers ranking is =
     said [] = refl
     said (at ∷ order) = refl
 
--- the best offer passes the test of the best: it weighs more than 0
+-- The best offer passes the test of the best: it weighs more than 0.
 pub best_is_acceptable : BestIsAcceptable
 best_is_acceptable ranges offers at is =
     let no_offer : MediaType = record { essence = []; slash = 0; plus = None; pairs = []; kept = [] } in
@@ -219,8 +218,7 @@ none_is_best ranges offers = (
 module _ (Before : ℕ → ℕ → Type 0) (one_way : (x y : ℕ) → Before x y → ¬ (Before y x)) where
   -- Lists in such an order that have the same members begin alike.
   same_first : (x y : ℕ) (order other : List ℕ) → AllPairs Before (x ∷ order) → AllPairs Before (y ∷ other)
-      → Contains (y ∷ other) x
-      → Contains (x ∷ order) y → x ≡ y
+      → Contains (y ∷ other) x → Contains (x ∷ order) y → x ≡ y
   same_first x y order other first second (zero, within, is) there = sym is
   same_first x y order other first second (suc k, within, is) (zero, inside, same) = same
   same_first x y order other first second (suc k, within, is) (suc j, inside, same) =
@@ -229,8 +227,7 @@ module _ (Before : ℕ → ℕ → Type 0) (one_way : (x y : ℕ) → Before x y
 
   -- What follows the first of such a list isn't the first again.
   after_first : (x : ℕ) (order other : List ℕ) → AllPairs Before (x ∷ order) → (at : ℕ) → Contains order at
-      → Contains (x ∷ other) at
-      → Contains other at
+      → Contains (x ∷ other) at → Contains other at
   after_first x order other first at (k, within, is) (zero, inside, same) =
       let before : Before x at = subst (Before x) is (first 0 (suc k) at (omega arith) (omega (arith, within))) in
       let itself = subst (Before x) (sym same) before in absurd (one_way x x itself itself)

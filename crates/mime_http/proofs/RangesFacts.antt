@@ -5,11 +5,11 @@ use Rattle.std.specs.List.{slice_split}
 use Prim.Native.String.{String}
 use Rattle.mime_http.{specs.Ranking.IsRanking, specs.Ranking.is_lacking, specs.Ranking.is_qvalue, specs.Ranking.ranked_as, specs.Ranges.ComesBefore, specs.Ranges.merit_at, specs.declared.ranking.RankedOffer.RankedOffer, proofs.Order.best_is_acceptable, proofs.Order.best_is_first, proofs.Order.best_is_ranked_first, proofs.Order.one_ranking, proofs.Order.weighs_within, proofs.Demanded.covers_itself, proofs.Demanded.meaning_counts, proofs.Strangers.stranger_changes_nothing}
 
--- the parts of a text between marks
+-- These are the parts of a text between marks.
 abbrev parts_at : ℕ → List ℕ → List (List ℕ)
 parts_at mark text = slice_split (λ b. b == mark) text
 
--- the media type of a text without spaces, and those of a list
+-- This is the media type of a text without spaces, and those of a list.
 abbrev media_in : List ℕ → MediaType
 media_in text = record {
   essence = get_or (parts_at 59 text) 0 [];
@@ -25,7 +25,7 @@ media text = media_in (codes text)
 abbrev all : String → List MediaType
 all text = map media_in (parts_at 44 (codes text))
 
--- whether a range covers an offer, what ranges give offers, and which of these is the best
+-- These say whether a range covers an offer, what ranges give offers, and which of these is the best.
 abbrev covers : String → String → Bool
 covers range offer = is_some (closeness (media offer) (0, media range))
 
@@ -49,7 +49,7 @@ what_covers :
     × (covers "text/plain;format=\\\\flowed" "text/plain;format=flowed" ≡ false)
 what_covers = (refl, refl, refl, refl, refl, refl, refl, refl, refl, refl, refl)
 
--- values that mean the same are covered as closely
+-- Values that mean the same are covered as closely.
 same_meaning : closeness (media "a/b;p=flowed") (0, media "a/b;p=\\flowed") ≡ closeness (media "a/b;p=\\f\\lowed") (
   0,
   media "a/b;p=flowed",
@@ -57,13 +57,13 @@ same_meaning : closeness (media "a/b;p=flowed") (0, media "a/b;p=\\flowed") ≡ 
 same_meaning = meaning_counts (media "a/b;p=\\flowed") (media "a/b;p=flowed") (media "a/b;p=flowed") (media "a/b;p=\\f\\lowed") 0
     (record { essence = refl; top = refl; pairs = refl }) (record { essence = refl; top = refl; pairs = refl }) refl
 
--- a paired backslash means another byte than a paired letter
+-- A paired backslash means another byte than a paired letter.
 other_meaning : ¬ (MeanTheSame (media "a/b;p=\\\\") (media "a/b;p=\\x"))
 other_meaning same =
     let b : 92 ≡ 120 = ap (λ (pairs : List (List ℕ × List ℕ)). get_or (get_or pairs 0 ([], [])).1 0 0) same.pairs in
     absurd (omega (arith, b))
 
--- a media type covers itself
+-- A media type covers itself.
 itself : covers "text/html;level=1;q=0.5;level=2" "text/html;level=1;q=0.5;level=2" ≡ true
 itself = covers_itself (media "text/html;level=1;q=0.5;level=2")
 
@@ -117,13 +117,13 @@ not_acceptable is =
     let found = best_is_acceptable ranges (all "text/html,image/jpeg") 0 is in
     let some : 0 < 0 = subst (λ offer. 0 < given_weight ranges offer) (sym (same_Some _ _ found.1)) found.2 in absurd (omega (arith, some))
 
--- no order begins with another than the best
+-- No order begins with another than the best.
 not_in_order : ¬ (AreInOrder (all "application/json,*/*") (all "text/html,application/json") (0 ∷ 1 ∷ []))
 not_in_order are =
     let same : 1 ≡ 0 = ap (λ (best : Option ℕ). unwrap_or best 0) (best_is_first _ _ (0 ∷ 1 ∷ []) are) in
     absurd (omega (arith, same))
 
--- an entry that covers no offer changes nothing, so `text/html` stays the best
+-- An entry that covers no offer changes nothing, so `text/html` stays the best.
 stranger : best "text/html,image/jpeg;q=0,*/*;q=0.1" "text/html" ≡ Some 0
 stranger = (stranger_changes_nothing (all "text/html") (all "*/*;q=0.1") (all "text/html") (media "image/jpeg;q=0") no_jpeg).1
   where
@@ -133,21 +133,20 @@ stranger = (stranger_changes_nothing (all "text/html") (all "*/*;q=0.1") (all "t
 
 -- ---- why an offer is chosen
 
--- strings that are weights (RFC 9110, 12.4.2), and others: a fourth decimal is too many, nothing is above 1, and a digit comes before the
--- dot, and no other byte
+-- Some strings are weights (RFC 9110, 12.4.2): a fourth decimal is too many, nothing is above 1, and a digit comes before the dot, and no
+-- other byte.
 qvalues : (list_all is_qvalue (codes "0" ∷ codes "0." ∷ codes "0.125" ∷ codes "1.000" ∷ []) ≡ true)
     × (list_any is_qvalue (codes "0.1250" ∷ codes "1.5" ∷ codes "2" ∷ codes ".5" ∷ codes "-1" ∷ codes "high" ∷ []
-    ∷ codes "0x5"
-    ∷ codes "0.x" ∷ []) ≡ false)
+    ∷ codes "0x5" ∷ codes "0.x" ∷ []) ≡ false)
 qvalues = (refl, refl)
 
--- an offer lacks a parameter of a range of its essence alone, and only one that it doesn't have
+-- An offer lacks a parameter of a range of its essence alone, and only one that it doesn't have.
 lacks : (is_lacking (media "application/json") (media "application/json;charset=utf-8") ≡ true)
     × (is_lacking (media "a/b;p=x") (media "a/b;p=y") ≡ true) × (is_lacking (media "a/b;p=x") (media "a/b;p=x") ≡ false)
     × (is_lacking (media "a/c") (media "a/b;p=x") ≡ false)
 lacks = (refl, refl, refl, refl)
 
--- what a rank says: the range that decides is the second of two, or there is none
+-- A rank says that the range that decides is the second of two, or that there is none.
 said : (ranked_as 2 (500, 2, 0, 1) 3 ≡ record { offer = 3; weight = 500; range = Some 1 })
     × (ranked_as 2 (0, 0, 0, 0) 3 ≡ record { offer = 3; weight = 0; range = None })
 said = (refl, refl)
@@ -172,7 +171,7 @@ no_offer is =
 
 -- ---- two offers
 
--- `a/b` is better than `c/d`, which is offered first
+-- `a/b` is better than `c/d`, which is offered first.
 abbrev better : List MediaType
 better = all "a/b,c/d;q=0.5"
 

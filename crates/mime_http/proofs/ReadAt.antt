@@ -90,8 +90,7 @@ over value from to state after least within goes = grind (arith, drop_split, len
 
 -- Reading goes on over a byte.
 pub over_byte : (value : List ℕ) (at : ℕ) (state after : State) → at < length value
-    → next state (slice_index value at) ≡ Some after
-    → answer_at value state at ≡ answer_at value after (at + 1)
+    → next state (slice_index value at) ≡ Some after → answer_at value state at ≡ answer_at value after (at + 1)
 over_byte value at state after within goes = grind (arith, drop_more, one_byte)
 
 -- Reading doesn't go on over a byte that is at fault.
@@ -123,8 +122,7 @@ token_ends value to stops = grind (arith, drop_more, drop_of_length-le, cases_lt
 
 -- Text after a byte of quoted text is quoted text with this byte, too.
 pub text_after : (value : List ℕ) (at to : ℕ) → at < length value → is_quoted_text_byte (slice_index value at) ≡ true
-    → to ≡ run_end (λ b. not (is_stop TEXT_STOPS b)) value (at + 1)
-    → list_all is_quoted_text_byte (slice_range value at to) ≡ true
+    → to ≡ run_end (λ b. not (is_stop TEXT_STOPS b)) value (at + 1) → list_all is_quoted_text_byte (slice_range value at to) ≡ true
 text_after value at to within text is =
     let run = run_is (λ b. not (is_stop TEXT_STOPS b)) value (at + 1) to is in
     let rest = list_all-wider _ is_quoted_text_byte are_text_bytes (slice_range value (at + 1) to) run.all in
@@ -166,8 +164,7 @@ fault_after value from at fault least within content is = λ name done none part
 
 -- A byte that isn't quoted text, a quote or a backslash goes nowhere.
 pub no_text : (parts : Parts) (name content : List ℕ) (b : ℕ) → awaits_after false content ≡ false
-    → is_quoted_text_byte b ≡ false → b ≢ 34
-    → b ≢ 92 → next (in_string parts name content) b ≡ None
+    → is_quoted_text_byte b ≡ false → b ≢ 34 → b ≢ 92 → next (in_string parts name content) b ≡ None
 no_text parts name content b none text quote backslash = grind (arith, nat_tests)
 
 -- ---- tokens
@@ -190,8 +187,7 @@ no_token_with (c ∷ before) b bytes isnt = grind (arith, list_all-append is_tok
 
 -- Bytes after a run of token bytes, or no bytes, pass no test for a token.
 pub no_token_value : (value : List ℕ) (from plain to : ℕ) → IsRun is_token_byte value from plain → plain ≤ to
-    → to < length value
-    → (from < plain → plain ≢ to) → is_token_value (slice_range value from to) ≡ false
+    → to < length value → (from < plain → plain ≢ to) → is_token_value (slice_range value from to) ≡ false
 no_token_value value from plain to run most within other =
     let after = parts_joined value plain (plain + 1) to in
     grind (arith, parts_joined value from plain to, after, one_part value plain, run.stops, no_token_with, no_part, cases_lt)
@@ -210,8 +206,7 @@ over_name parts value from to some within run = grind (arith, over, name_begins,
 
 -- Reading goes on over a parameter's value.
 pub over_value : (parts : Parts) (name value : List ℕ) (from to : ℕ) → from < to → to ≤ length value
-    → IsRun is_token_byte value from to
-    → answer_at value (in_value parts name []) from
+    → IsRun is_token_byte value from to → answer_at value (in_value parts name []) from
     ≡ answer_at value (before_semicolon (with_parameter parts name (slice_range value from to))) to
 over_value parts name value from to some within run = grind (arith, over, on_value, value_ends, token_part, token_ends)
 
@@ -219,8 +214,7 @@ over_value parts name value from to some within run = grind (arith, over, on_val
 
 -- Reading goes on over white space that changes nothing.
 pub over_white_at : (state : State) → KeepsSpace state → (value : List ℕ) (from to : ℕ) → IsRun is_space value from to
-    → to ≤ length value
-    → answer_at value state from ≡ answer_at value state to
+    → to ≤ length value → answer_at value state from ≡ answer_at value state to
 over_white_at state keeps value from to run within = grind (arith, over, over_white)
 
 -- If no parameter begins after a semicolon, reading goes on as before one.

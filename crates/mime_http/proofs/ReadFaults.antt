@@ -159,8 +159,7 @@ one_http_fault value isnt = by_answer (answer_of value) (λ parts e. absurd (isn
 
 -- White space after an open string doesn't close it.
 still_open : (state : State) (at : ℕ) (bytes white : List ℕ) → AreSpaces white
-    → answer_from state at bytes ≡ rejected MissingQuote
-    → answer_from state at (bytes ++ white) ≡ rejected MissingQuote
+    → answer_from state at bytes ≡ rejected MissingQuote → answer_from state at (bytes ++ white) ≡ rejected MissingQuote
 unfolding is_quoted_byte
 still_open (in_string parts name content) at [] [] all is = refl
 still_open (in_string parts name content) at [] (b ∷ white) all is =
@@ -168,8 +167,7 @@ still_open (in_string parts name content) at [] (b ∷ white) all is =
 still_open (in_subtype top []) at [] white all is = absurd cc
 still_open (in_value parts name []) at [] white all is = absurd cc
 still_open state at [] white all is = absurd cc
-still_open state at (b ∷ bytes) white all is =
-    grind (arith, by_option, λ (after : State). still_open after (at + 1) bytes white)
+still_open state at (b ∷ bytes) white all is = grind (arith, by_option, λ (after : State). still_open after (at + 1) bytes white)
 
 -- A value that lacks a quote lacks it before white space, too.
 pub open_after : (value white : List ℕ) → AreSpaces white → IsHttpFault value MissingQuote

@@ -32,8 +32,7 @@ reads_one (with_token name value named valued) bytes ends = record {
   utf8 = λ utf8.
       let (here, rest) = past_token value bytes valued (around name 61 (value ++ bytes) (omega arith) (simp regroup at utf8)).1 in
       (utf8_pair name value named here, rest);
-  reads = λ parts at.
-      (simp regroup (name_begins parts name named at (61 ∷ (value ++ bytes))))
+  reads = λ parts at. (simp regroup (name_begins parts name named at (61 ∷ (value ++ bytes))))
       ∙ on_value parts name value (AreTokenBytes-from_token value valued) [] (at + length name + 1) bytes
       ∙ value_ends parts name value valued _ bytes ends
       ∙ ap (λ to. answer_from (before_semicolon (with_parameter parts name value)) to bytes)
@@ -99,8 +98,7 @@ module _ (before after bytes : List ℕ) (first : AreSpaces before) (second : Ar
 
 -- The parameters that HTTP writes are read as their pairs.
 reads_on : {text : List ℕ} {pairs : List (List ℕ × List ℕ)} → AreHttpParameters text pairs → (after : List ℕ)
-    → AreSpaces after
-    → ReadsOn (text ++ after) pairs
+    → AreSpaces after → ReadsOn (text ++ after) pairs
 unfolding is_token_byte
 reads_on no_more after white = record {
   ends = rw append-nil at (white_ends after [] white tt);

@@ -106,8 +106,7 @@ value_ends parts name (v ∷ value) is at (b ∷ bytes) ends = rw ends refl
 
 -- What may go on in a quoted string goes on what was read of one.
 pub on_open : (parts : Parts) (name run done : List ℕ) → takes_all (awaits_after false done) run ≡ true
-    → (at : ℕ) (bytes : List ℕ)
-    → answer_from (in_string parts name done) at (run ++ bytes)
+    → (at : ℕ) (bytes : List ℕ) → answer_from (in_string parts name done) at (run ++ bytes)
     ≡ answer_from (in_string parts name (done ++ run)) (at + length run) bytes
 on_open parts name [] done all at bytes = grind (arith, append-nil)
 on_open parts name (b ∷ run) done all at bytes =

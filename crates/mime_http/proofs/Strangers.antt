@@ -3,11 +3,11 @@ use Rattle.mime_http.proofs.Common.{cons_option, filter_map, find, Contains, Lis
 use Rattle.std.proofs.Math.ListN.{get_or-map}
 use Rattle.mime_http.{specs.Ranges.ComesBefore, proofs.Highest.is_best, proofs.Highest.lowest, proofs.Highest.position-map, proofs.Highest.rank_at, proofs.Highest.is_top}
 
--- a rank with another last place
+-- This is a rank with another last place.
 abbrev moved : (ℕ → ℕ) → Rank → Rank
 moved g rank = (rank.0, rank.1, rank.2, g rank.3)
 
--- how closely a range covers an offer, once it stands elsewhere
+-- This is how closely a range covers an offer, once it stands elsewhere.
 covers_so : (offer range : MediaType) (g : ℕ → ℕ) (at : ℕ)
     → closeness offer (g at, range) ≡ option_map (moved g) (closeness offer (at, range))
 covers_so offer range g at = grind (arith)
@@ -44,11 +44,11 @@ module _ (g : ℕ → ℕ) (same : (x y : ℕ) → nat_cmp (g x) (g y) ≡ nat_c
 
 -- ---- the closest range
 
--- a position once there is one more range at another
+-- This is a position once there is one more range at another.
 abbrev shifted : ℕ → ℕ → ℕ
 shifted k at = if nat_lt at k then at else at + 1
 
--- how closely ranges from a position on cover an offer, those that do
+-- This is how closely ranges from a position on cover an offer, those that do.
 abbrev ranks_from : MediaType → ℕ → List MediaType → List Rank
 ranks_from offer at ranges = filter_map (closeness offer) (enumerate_from at ranges)
 
@@ -77,11 +77,11 @@ module _ (offer : MediaType) (k : ℕ) where
       ∙ moved_first other at at _ (grind (arith, nat_tests, long))
 
 module _ (before after : List MediaType) (range : MediaType) where
-  -- how early a range stands that stood so early without this one
+  -- This is how early a range stands that stood so early without this one.
   abbrev raised : ℕ → ℕ
   raised early = if nat_lt (length (before ++ after) - early) (length before) then early + 1 else early
 
-  -- an offer that no range covers ranks as before
+  -- An offer that no range covers ranks as before.
   none_stays : moved raised lowest ≡ lowest
   none_stays = grind (arith, nat_tests, length-append before after)
 

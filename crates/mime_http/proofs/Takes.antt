@@ -4,8 +4,7 @@ use Rattle.mime_http.{specs.HttpList.blank, proofs.Cuts.are_cut, proofs.Cuts.onl
 
 -- Two runs of texts are sorted one after the other.
 pub sorted_both : {texts more : List (List ℕ)} {ranges others : List MediaType} {bad poor : List (List ℕ)}
-    → AreSorted texts ranges bad
-    → AreSorted more others poor → AreSorted (texts ++ more) (ranges ++ others) (bad ++ poor)
+    → AreSorted texts ranges bad → AreSorted more others poor → AreSorted (texts ++ more) (ranges ++ others) (bad ++ poor)
 sorted_both no_text second = second
 sorted_both (blank text texts ranges bad white rest) second = blank text _ _ _ white (sorted_both rest second)
 sorted_both (a_range text range _ _ _ utf8 reads kept rest) second = a_range text range _ _ _ utf8 reads kept (sorted_both rest second)
@@ -66,8 +65,7 @@ module _ (keeps_bad : Bool) (piece : List ℕ) (old : Held) where
 
   -- Any other piece is bad.
   pub takes_bad : {entry : List ℕ} (new : Held) {X E : Type 0} (result : Result X E) → entry ≡ trimmed piece
-      → ¬ (trimmed piece ≡ [])
-      → ¬ (IsUtf8 piece × IsHttpMediaType piece) → OnOk result (new ≡ with_bad keeps_bad entry old)
+      → ¬ (trimmed piece ≡ []) → ¬ (IsUtf8 piece × IsHttpMediaType piece) → OnOk result (new ≡ with_bad keeps_bad entry old)
       → OnOk result (Takes keeps_bad (piece ∷ []) old new)
   takes_bad {entry} new result trim some isnt = on_ok_weaker result (λ is before held.
       let not_blank : ¬ (AreSpaces piece) = λ white. some (trimmed_from_blank piece white) in
@@ -120,8 +118,7 @@ pieces_within place piece (b ∷ bytes) =
 module _ {keeps_bad : Bool} where
   -- After some are taken, those behind them are left.
   pub rest_left : (some : List (List ℕ)) {old now new : Held} {all rest : List (List ℕ)}
-      → AreLeft keeps_bad old now all (some ++ rest)
-      → Takes keeps_bad some now new → AreLeft keeps_bad old new all rest
+      → AreLeft keeps_bad old now all (some ++ rest) → Takes keeps_bad some now new → AreLeft keeps_bad old new all rest
   rest_left some {rest = rest} left taken = record {
     takes = λ last others.
         left.takes last (λ before held. rw (sym (append_assoc before some rest)) (others (before ++ some) (taken before held)));
@@ -182,8 +179,7 @@ entry_first line count bad (Some at) counted first =
 -- What is held of a line's pieces is its header, with the number of bad entries and the first one's position.
 pub line_counted : (line : List ℕ) {now : Held} → length line < 2 ^ 63 → Takes false (cut line) nothing_held now
     → ((header : Header) × IsHeader (line ∷ []) header × (now.kept ≡ record header { bad = [] })
-    × (now.count ≡ length header.bad))
-    × MatchOption now.first (now.count ≡ 0) (IsFirstBad (line ∷ []))
+    × (now.count ≡ length header.bad)) × MatchOption now.first (now.count ≡ 0) (IsFirstBad (line ∷ []))
 line_counted line {now} short taken =
     let held = held_of taken in
     let fits : now.count ≡ length held.bad = omega (arith, held.count, bad_within held.sorted, pieces_within Outside [] line, short) in (

@@ -27,8 +27,7 @@ pub ruleset lengths = (length-append, length-lowered, length-lowered_value)
 pub length-pairs : (pairs : List (List ℕ × List ℕ))
     → length (text_of_pairs (map lowered_pair pairs)) ≡ length (text_of_pairs pairs)
 length-pairs [] = refl
-length-pairs ((name, value) ∷ pairs) =
-    grind (arith, length-pairs pairs, test-either, lengths)
+length-pairs ((name, value) ∷ pairs) = grind (arith, length-pairs pairs, test-either, lengths)
 
 -- The parameter of a pair: its value is a token, or in quotes.
 abbrev parameter_of : List ℕ × List ℕ → Parameter
@@ -92,9 +91,7 @@ others_stay name (first ∷ pairs) pair = grind (arith, others_stay name pairs p
 
 -- An essence with the parameters of other names, and this one after them, is read as the value with this one in place of those of its name.
 pub with_pair_is_read : (text : List ℕ) (value : MediaType) (name content : List ℕ) → Reads text value → IsSafe value
-    → IsToken name
-    → IsContent content
-    → Reads (value.essence ++ text_of_pairs (others name value.pairs ++ ((name, content) ∷ [])))
+    → IsToken name → IsContent content → Reads (value.essence ++ text_of_pairs (others name value.pairs ++ ((name, content) ∷ [])))
     (with_pair value (lowered name) (lowered_value name content))
 with_pair_is_read text value name content reads safe named is =
     let tree = reads.tree in
@@ -141,15 +138,13 @@ all_left name essence pairs are is = grind (arith, others_of)
 
 -- An item of another name is written and counted.
 pub copied : {name whole text : List ℕ} {total count : ℕ} {items next : List Item} {item : Item}
-    → Left name whole text total count items
-    → items ≡ item ∷ next → ¬ (NameIs item.name item.name_ignores_case name)
+    → Left name whole text total count items → items ≡ item ∷ next → ¬ (NameIs item.name item.name_ignores_case name)
     → Left name whole (text ++ text_of_pair (item.name, item.value)) total (count + 1) next
 copied left is other = grind (arith, false_from_ne_true, name_decides, append_assoc)
 
 -- If no items are left, all is written and counted.
 pub none_left : {name whole text : List ℕ} {total count : ℕ} {items : List Item} → Left name whole text total count items
-    → items ≡ []
-    → (text ≡ whole) × (count ≡ total)
+    → items ≡ [] → (text ≡ whole) × (count ≡ total)
 none_left {text = text} left none = (sym (append-nil text) ∙ (rw none at left.written), omega (arith, rw none at left.counted))
 
 -- The pairs of other names are no more than all pairs.

@@ -95,6 +95,7 @@ pub fn best_is_first()
 {}
 
 /// No offer is the best exactly if every offer weighs 0.
+#[tactic(auto, using(crate::proofs::Order::none_is_best))]
 pub fn none_is_best()
     ensures { NoneIsBest }
 {}
@@ -110,6 +111,7 @@ pub fn one_ranking()
 {}
 
 /// The first offer of a ranking is the best, unless it weighs 0. Then every offer weighs 0, and none is the best.
+#[tactic(auto, using(crate::proofs::Order::best_is_ranked_first))]
 pub fn best_is_ranked_first()
     ensures { BestIsRankedFirst }
 {}
@@ -128,6 +130,7 @@ pub fn meaning_counts()
 {}
 
 /// `has_weight` tests the value of `q` for exactly the weights that RFC 9110 allows (12.4.2).
+#[tactic(auto, using(crate::proofs::Numbers::qvalues_are))]
 pub fn qvalues_are()
     ensures { QvaluesAre }
 {}

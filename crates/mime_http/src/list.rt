@@ -1,11 +1,11 @@
 //! Cuts a header's line at its commas outside quoted strings, and trims white space from the pieces.
 
-ghost use Rattle.std.specs.Prelude.{◌≡◌, ◌<◌, ◌≤◌, ◌+◌, length, drop};
+ghost use Rattle.std.specs.Prelude.{◌≡◌, ◌<◌, ◌≤◌, ◌+◌, length, drop, take};
 ghost use Rattle.std.specs.List.{prefix_len};
 ghost use Rattle.mime.specs.{Bytes.comma_byte, Bytes.quote_byte, Grammar.is_space};
 ghost use Rattle.mime_http.specs.{HttpList.trim_start, HttpList.trim_end, HttpList.trimmed, LineCut.Outside, LineCut.Quoted, LineCut.IsNextOutside, LineCut.before_mark, LineCut.piece_len};
 
-use mime_search::{Class, content_end, first_stop};
+use mime_search::{BLOCK, Class, content_end, first_stop};
 
 /// Returns the position of the first comma or equals sign at or after `from`, or the line's length if there is neither.
 #[inline(always)]
@@ -121,6 +121,21 @@ pub(crate) fn trim_start(piece: &[u8]) -> &[u8]
     &piece[spaces_end(piece, 0)..]
 }
 
+/// Returns where the blocks of white space before a position begin, or the position if there are none.
+#[inline(never)]
+fn before_blocks(piece: &[u8], end: usize) -> usize
+    requires { end ≤ length piece.now }
+    ensures least { result ≤ end }
+    ensures trimmed { trim_end (take result piece.now) ≡ trim_end (take end piece.now) }
+{
+    let others = Class::of(b' ', b'\t').others();
+    let mut start = end;
+    while start >= BLOCK && first_stop(&piece[..start], start - BLOCK, &others) == start {
+        start -= BLOCK;
+    }
+    start
+}
+
 /// Returns a piece without the white space at its end. This function isn't inlined, since most pieces don't end in white space.
 #[inline(never)]
 #[tactic(auto, using(crate::proofs::Around::last_trimmed))]
@@ -130,6 +145,9 @@ fn trim_spaces_after(piece: &[u8]) -> &[u8]
     let mut end = piece.len();
     while end > 0 && is_space(piece[end - 1]) {
         end -= 1;
+        if (piece.len() - end) % BLOCK == 0 {
+            end = before_blocks(piece, end);
+        }
     }
     &piece[..end]
 }

@@ -1,57 +1,33 @@
 -- The run of token bytes and what two searches find after it decide the form.
-use Rattle.mime_http.proofs.Common.{arith, get_or, nat_tests, refl, rules, ℕ, ◌<◌}
+use Rattle.mime_http.proofs.Common.{arith, nat_tests, refl, rules}
 use Rattle.mime_http.proofs.Contents.{form_found}
 use Rattle.mime_http.proofs.parameter.form_of.Goals as goal
 
 pub returns-then-plain-gt0 : goal.returns-then-plain-gt0
 returns-then-plain-gt0 c =
-    let value = c.args.value.now in
-    let few : (i : ℕ) → get_or value i 0 < 256 = λ i. search (c.type_inv.value i, rules) in
     let same = c.as_bytes-bytes.ensures.value in
-    let found = form_found value few (rw same at c.token_end_far-plain.ensures.end) refl refl in
+    let found = form_found same (λ i. search (c.type_inv.value i, rules)) c.token_end_far-plain.ensures.end refl refl in
     grind (arith, nat_tests, found, same, c.if-plain-bytes.true, c.if-plain-gt0.true)
 
 pub returns-then-first_stop-bytes : goal.returns-then-first_stop-bytes
 returns-then-first_stop-bytes c =
-    let value = c.args.value.now in
-    let few : (i : ℕ) → get_or value i 0 < 256 = λ i. search (c.type_inv.value i, rules) in
     let same = c.as_bytes-bytes.ensures.value in
-    let found = form_found value few (rw same at c.token_end_far-plain.ensures.end) (rw same at c.first_stop.ensures.end) refl in
+    let plain = c.token_end_far-plain.ensures.end in
+    let found = form_found same (λ i. search (c.type_inv.value i, rules)) plain c.first_stop.ensures.end refl in
     grind (arith, nat_tests, found, same, c.else-plain-bytes.either, c.if-first_stop-bytes.true)
 
 pub returns-then-special_from-bytes : goal.returns-then-special_from-bytes
 returns-then-special_from-bytes c =
-    let value = c.args.value.now in
-    let few : (i : ℕ) → get_or value i 0 < 256 = λ i. search (c.type_inv.value i, rules) in
     let same = c.as_bytes-bytes.ensures.value in
-    let found = form_found value few (rw same at c.token_end_far-plain.ensures.end) (rw same at c.first_stop.ensures.end)
-    (rw same at c.special_from.ensures.special) in
-    grind (
-      arith,
-      nat_tests,
-      found,
-      same,
-      c.else-plain-bytes.either,
-      c.first_stop.ensures.within,
-      c.if-first_stop-bytes.false,
-      c.if-special_from-bytes.true,
-    )
+    let stop = c.first_stop.ensures in
+    let mark = c.special_from.ensures in
+    let found = form_found same (λ i. search (c.type_inv.value i, rules)) c.token_end_far-plain.ensures.end stop.end mark.special in
+    grind (arith, nat_tests, found, same, c.else-plain-bytes.either, stop, c.if-first_stop-bytes.false, c.if-special_from-bytes.true)
 
 pub returns-else-special_from-bytes : goal.returns-else-special_from-bytes
 returns-else-special_from-bytes c =
-    let value = c.args.value.now in
-    let few : (i : ℕ) → get_or value i 0 < 256 = λ i. search (c.type_inv.value i, rules) in
     let same = c.as_bytes-bytes.ensures.value in
-    let found = form_found value few (rw same at c.token_end_far-plain.ensures.end) (rw same at c.first_stop.ensures.end)
-    (rw same at c.special_from.ensures.special) in
-    grind (
-      arith,
-      nat_tests,
-      found,
-      same,
-      c.else-plain-bytes.either,
-      c.first_stop.ensures.within,
-      c.if-first_stop-bytes.false,
-      c.special_from.ensures.within,
-      c.if-special_from-bytes.false,
-    )
+    let stop = c.first_stop.ensures in
+    let mark = c.special_from.ensures in
+    let found = form_found same (λ i. search (c.type_inv.value i, rules)) c.token_end_far-plain.ensures.end stop.end mark.special in
+    grind (arith, nat_tests, found, same, c.else-plain-bytes.either, stop, mark, c.if-first_stop-bytes.false, c.if-special_from-bytes.false)

@@ -3,7 +3,7 @@ use Rattle.mime_http.proofs.Common.{arith, Bor, List, MatchOption, None, Option,
 use Rattle.std.specs.Str.Pattern.{FindsTextSuffix, StripsSuffix}
 use Rattle.mime_http.proofs.range.is_all_of.Goals as goal
 
--- the test of what is left is the test of the whole
+-- The test of what is left is the test of the whole.
 is_whole : (text end other : List ℕ) (other-borrowed : Bor (List ℕ)) (rest : Option (Bor (List ℕ))) → other-borrowed.now ≡ other
     → MatchOption rest (FindsTextSuffix end text None) (λ x. StripsSuffix (FindsTextSuffix end) text x.now)
     → option_eq (λ a b. bytes_eq a.now b.now) rest (Some other-borrowed) ≡ bytes_eq text (other ++ end)

@@ -33,8 +33,7 @@ returns-then-not-is_at c = λ parts.
 
 -- A name, the sign, and a value are a parameter.
 parameter_is : (value : List ℕ) (name equals : ℕ) (spans : Spans) → name < equals → equals < length value
-    → slice_index value equals ≡ 61
-    → IsRun is_token_byte value name equals → spans.first ≡ equals + 1
+    → slice_index value equals ≡ 61 → IsRun is_token_byte value name equals → spans.first ≡ equals + 1
     → IsParameterAt value (slice_range value name equals) (λ parts. in_value parts (slice_range value name equals) []) (equals + 1) spans
     → (text : List ℕ) × (text ++ (61 ∷ []) ≡ slice_range value name spans.first)
     × IsParameterAt value text after_semicolon name spans

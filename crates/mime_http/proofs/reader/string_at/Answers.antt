@@ -70,8 +70,7 @@ returns c =
     let closed = closed_from value (quote + 1) plain.result close run c.in-Ok.ensures in
     let content : List ℕ = slice_range value (quote + 1) close in
     let isnt : is_token_value content ≡ false =
-    no_token_value value (quote + 1) plain.result close run c.in-Ok.ensures.least closed.within
-    (elim c.else-begin-plain.branch [
+    no_token_value value (quote + 1) plain.result close run c.in-Ok.ensures.least closed.within (elim c.else-begin-plain.branch [
       | else-begin-plain-via-then-begin-plain+else-plain-close w ↦ λ some. w.if-plain-close.false
       | else-begin-plain-via-else-begin-plain w ↦ λ some. absurd (omega (arith, some, w.if-begin-plain.false))
     ]) in

@@ -37,8 +37,7 @@ returns-in-Err-parameter_at-clause-answer c =
     let keeps = c.loop-at.invariant in
     let next = c.spaces_end-at-in-loop-at in
     to_next keeps.parts c.args.value.now c.loop-at.at next.result keeps.read c.loop-at-test.true c.if-byte-ne59.false
-    next.ensures.end next.ensures.within
-    ∙ c.in-Err-parameter_at.ensures keeps.parts
+    next.ensures.end next.ensures.within ∙ c.in-Err-parameter_at.ensures keeps.parts
 
 pub loop-at-preserved-then-is_token_at : goal.loop-at-preserved-then-is_token_at
 loop-at-preserved-then-is_token_at c =
@@ -58,8 +57,7 @@ loop-at-preserved-then-is_token_at c =
     record {
       parts = parts;
       read = to_next keeps.parts value c.loop-at.at next.result keeps.read c.loop-at-test.true c.if-byte-ne59.false
-          next.ensures.end next.ensures.within
-          ∙ is.read keeps.parts
+          next.ensures.end next.ensures.within ∙ is.read keeps.parts
           ∙ over_white_at (before_semicolon parts) (keeps_after parts) value spans.end at.result white at.ensures.within;
       holds = subst (Holds put.new.room put.result) text (put.ensures.holds (text_of_parts keeps.parts) keeps.holds);
       within = at.ensures.within;

@@ -16,8 +16,7 @@ returns-in-Ok-from_str-clause-http c =
     (c.in-Ok.ensures.cases.1, (as_it_is _ _ _ _ c.in-Ok.ensures.cases.0 c.trimmed.ensures c.in-Ok-from_str.ensures.read).0)
 
 pub returns-in-Ok-from_str-clause-kept : goal.returns-in-Ok-from_str-clause-kept
-returns-in-Ok-from_str-clause-kept c =
-    (as_it_is _ _ _ _ c.in-Ok.ensures.cases.0 c.trimmed.ensures c.in-Ok-from_str.ensures.read).1
+returns-in-Ok-from_str-clause-kept c = (as_it_is _ _ _ _ c.in-Ok.ensures.cases.0 c.trimmed.ensures c.in-Ok-from_str.ensures.read).1
 
 pub returns-in-Err-from_str-clause-short : goal.returns-in-Err-from_str-clause-short
 returns-in-Err-from_str-clause-short c = λ media utf8 reads printed few.
