@@ -53,8 +53,7 @@ not_with_zero back = absurd (omega (arith, ap length back))
 
 -- Each fault and each error has the number of include/mime.h.
 numbers : (map number_of (MissingSlash ∷ MissingSubtype ∷ MissingEqual ∷ MissingValue ∷ MissingQuote ∷ InvalidToken 7 40
-    ∷ NoMemory ∷ [])
-    ≡ 1 ∷ 2 ∷ 3 ∷ 4 ∷ 5 ∷ 6 ∷ 7 ∷ [])
+    ∷ NoMemory ∷ []) ≡ 1 ∷ 2 ∷ 3 ∷ 4 ∷ 5 ∷ 6 ∷ 7 ∷ [])
     × (map number_of_error (NotUtf8 3 ∷ Invalid MissingSlash ∷ field.NoMemory ∷ []) ≡ 8 ∷ 1 ∷ 7 ∷ [])
 numbers = (refl, refl)
 
@@ -139,8 +138,7 @@ reads_long = record {
 -- The text of 41 bytes needs memory.
 long_needs : NeedsMemory long
 unfolding long long_value
-long_needs =
-    (good long long_value ∷ [], [], long, long_value, whole long long_value reads_long, (0, omega arith, refl), omega arith)
+long_needs = (good long long_value ∷ [], [], long, long_value, whole long long_value reads_long, (0, omega arith, refl), omega arith)
 
 -- The empty text needs no memory.
 pub empty_needs_none : ¬ (NeedsMemory [])

@@ -55,11 +55,8 @@ none_acceptable = are_offers _ _ _ _ empty empty refl (none_is_best refl)
 none_best : (at : ℕ) → ¬ (BestIs true [] [] MIME_OK at)
 none_best at is =
     let only = (best_is_one true [] []).4 in
-    absurd (omega (
-      arith,
-      (only MIME_OK at (λ no. omega (arith, no)) is).0,
-      (only MIME_NOT_ACCEPTABLE 0 (λ no. omega (arith, no)) none_acceptable).0,
-    ))
+    let none = only MIME_NOT_ACCEPTABLE 0 (λ no. omega (arith, no)) none_acceptable in
+    absurd (omega (arith, (only MIME_OK at (λ no. omega (arith, no)) is).0, none.0))
 
 -- Of no offers none is written in order.
 none_ordered : OrderIs true [] [] [] MIME_NOT_ACCEPTABLE ([], 0)
@@ -72,8 +69,5 @@ none_ordered = are_offers _ _ _ _ empty empty refl (none_is_ordered (record {
 none_in_order : (held : List ℕ × ℕ) → ¬ (OrderIs true [] [] [] MIME_OK held)
 none_in_order held is =
     let only = (order_is_one true [] [] []).4 in
-    absurd (omega (
-      arith,
-      (only MIME_OK held (λ no. omega (arith, no)) is).0,
-      (only MIME_NOT_ACCEPTABLE _ (λ no. omega (arith, no)) none_ordered).0,
-    ))
+    let none = only MIME_NOT_ACCEPTABLE _ (λ no. omega (arith, no)) none_ordered in
+    absurd (omega (arith, (only MIME_OK held (λ no. omega (arith, no)) is).0, none.0))

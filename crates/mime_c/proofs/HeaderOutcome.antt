@@ -64,12 +64,10 @@ module _ {Held : Type 0} (is_there : Bool) (line offers : List ℕ) (failed : �
 
   -- A list of good offers has no other outcome.
   only_good : (header offered : Header) → IsHeader (lines_of is_there line) header → IsHeader (offers ∷ []) offered
-      → offered.bad ≡ []
-      → (n : ℕ) (held : Held) → n ≢ MIME_NO_MEMORY → Outcome n held
+      → offered.bad ≡ [] → (n : ℕ) (held : Held) → n ≢ MIME_NO_MEMORY → Outcome n held
       → (n ≡ (one header.ranges offered.ranges).0) × (held ≡ (one header.ranges offered.ranges).1)
   only_good header offered is of good n held some (are_offers another others _ _ too again fine has) =
-      (one header.ranges offered.ranges).4 n held some
-      (subst (λ (it : Header). Is header.ranges it.ranges n held) (same_header of again)
+      (one header.ranges offered.ranges).4 n held some (subst (λ (it : Header). Is header.ranges it.ranges n held) (same_header of again)
       (subst (λ (it : Header). Is it.ranges others.ranges n held) (same_header is too) has))
   only_good header offered is of good n held some (an_offer_is_bad at first) = absurd (((one_first_bad _ _ of).1 at first).0 good)
   only_good header offered is of good n held some (offers_have_no_memory none) = absurd (some refl)
@@ -91,8 +89,7 @@ module _ {Held : Type 0} (is_there : Bool) (line offers : List ℕ) (failed : �
       (λ good. let has = one header.0.ranges offered.0.ranges in
       (_, _, has.2, are_offers header.0 offered.0 _ _ header.1 of good has.3, only_good header.0 offered.0 header.1 of good))
       (λ bad. let first = (one_first_bad _ _ of).0 bad in
-      (_, _, (λ same. omega (arith, same)), an_offer_is_bad first.0 first.1, only_bad first.0 first.1))
-      (empty_or_not offered.0.bad)
+      (_, _, (λ same. omega (arith, same)), an_offer_is_bad first.0 first.1, only_bad first.0 first.1)) (empty_or_not offered.0.bad)
 
 -- ---- the best offer
 

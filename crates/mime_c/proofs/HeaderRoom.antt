@@ -32,17 +32,9 @@ kept_pairs test [] are = omega arith
 kept_pairs test ((name, value) ∷ pairs) (is, are) =
     let more = kept_pairs test pairs are in
     let size = length-strings_of_pair name value pairs in
-    let some = token-size name is.0 in
+    let all = length-append (text_of_pair (name, value)) (text_of_pairs (filter test pairs)) in
     by_kept (test (name, value)) (name, value) (filter test pairs) (omega (arith, more, size))
-    (omega (
-      arith,
-      more,
-      size,
-      some,
-      length-pair name value,
-      length-append (text_of_pair (name, value))
-          (text_of_pairs (filter test pairs)),
-    ))
+    (omega (arith, more, size, token-size name is.0, length-pair name value, all))
   where
     -- This holds whether the parameter passes the test or not.
     by_kept : (kept : Bool) (pair : List ℕ × List ℕ) (others : List (List ℕ × List ℕ)) {most : ℕ}
@@ -69,47 +61,18 @@ pairs_fit (semicolon_and before after parameter rest pair pairs wb wa is are) =
     -- The strings of a parameter are at most one byte more than its text.
     pair_fits : {parameter : List ℕ} {pair : List ℕ × List ℕ} → IsHttpParameter parameter pair
         → length (strings (pair_texts (pair ∷ pairs))) ≤ length parameter + 1 + length (strings (pair_texts pairs))
-    pair_fits (with_token name value named valued) = omega (
-      arith,
-      length-strings_of_pair (lowered name) (lowered_value name value) pairs,
-      length-lowered name,
-      length-lowered_value name value,
-      length-append name (61 ∷ value),
-    )
-    pair_fits (with_string name content named is) = omega (
-      arith,
-      length-strings_of_pair (lowered name) (lowered_value name content) pairs,
-      length-lowered name,
-      length-lowered_value name content,
-      length-append name (61 ∷ 34 ∷ (content ++ (34 ∷ []))),
-      length-append content (34 ∷ []),
-    )
+    pair_fits (with_token name value named valued) =
+        omega (arith, length-strings_of_pair, length-lowered, length-lowered_value, length-append {A = ℕ})
+    pair_fits (with_string name content named is) =
+        omega (arith, length-strings_of_pair, length-lowered, length-lowered_value, length-append {A = ℕ})
 
 -- The essence and the strings of the parameters are at most as many bytes as the value.
 pub sizes_of : (value : List ℕ) (media : MediaType) → HttpReads value media
     → (length media.essence + length (strings (pair_texts media.pairs)) ≤ length value) × (2 < length value)
-sizes_of value media reads =
-    let top = reads.top in
-    let sub = reads.sub in
-    let essence = ap length reads.essence ∙ length-append (lowered top) (47 ∷ lowered sub) in
-    let spelled = ap length (sym reads.spelled) in
-    let before = length-append reads.before (top ++ (47 ∷ (sub ++ (reads.parameters ++ reads.after)))) in
-    let first = length-append top (47 ∷ (sub ++ (reads.parameters ++ reads.after))) in
-    let second = length-append sub (reads.parameters ++ reads.after) in (
-      omega (
-        arith,
-        essence,
-        spelled,
-        pairs_fit reads.are_parameters,
-        before,
-        first,
-        second,
-        length-append reads.parameters reads.after,
-        length-lowered top,
-        length-lowered sub,
-      ),
-      omega (arith, spelled, token-size top reads.is_top, token-size sub reads.is_sub, before, first, second),
-    )
+sizes_of value media reads = (
+  omega (arith, ap length reads.essence, ap length reads.spelled, pairs_fit reads.are_parameters, length-append {A = ℕ}, length-lowered),
+  omega (arith, ap length reads.spelled, token-size reads.top reads.is_top, token-size reads.sub reads.is_sub, length-append {A = ℕ}),
+)
 
 -- What is written anew for a value is read as its media type.
 pub read_anew : (value : List ℕ) (media : MediaType) → HttpReads value media
@@ -128,37 +91,19 @@ anew_fits value media reads test =
 pub value_fits : (value : List ℕ) (media : MediaType) → HttpReads value media → IsPrinted value media
     → length (strings (texts_of media)) ≤ 3 * length value + 2
 value_fits value media reads printed =
-    let parts = strings (parts_of media) in
-    let sizes = sizes_of value media reads in
-    let texts : length (strings (texts_of media)) ≡ length parts + (length media.kept + 1) =
-    ap length (strings_of_texts media) ∙ length-append parts (string_of media.kept) ∙ ap (λ n. length parts + n)
-    (length-append media.kept (0 ∷ [])) in
-    omega (
-      arith,
-      texts,
-      sizes.0,
-      kept_fits printed,
-      length-append media.essence (0 ∷ []),
-      length-append (media.essence ++ 0 ∷ [])
-          (strings (pair_texts media.pairs)),
-    )
+    omega (arith, ap length (strings_of_texts media), (sizes_of value media reads).0, kept_fits printed, length-append {A = ℕ})
   where
     -- A value is no shorter than it is without the white space around it.
     length-trimmed : length (trimmed value) ≤ length value
-    length-trimmed =
-        let is = white_around value in
-        omega (arith, ap length is.4, length-append is.0 (trimmed value ++ is.1), length-append (trimmed value) is.1)
+    length-trimmed = omega (arith, ap length (white_around value).4, length-append {A = ℕ})
 
     -- What is printed for a value is at most twice as many bytes.
     kept_fits : IsPrinted value media → length media.kept ≤ 2 * length value
     kept_fits (as_it_stands v m is) = omega (arith, (lengths_of (trimmed value) media is).0, length-trimmed)
-    kept_fits (anew v m isnt is) = omega (
-      arith,
-      ap (λ (it : MediaType). length it.kept) is ∙ length-append media.essence (text_of_pairs media.pairs),
-      ap (λ pairs. length (text_of_pairs pairs)) (filter_all media.pairs),
-      anew_fits value media reads (λ pair. true),
-      (sizes_of value media reads).0,
-    )
+    kept_fits (anew v m isnt is) =
+        let all = ap (λ pairs. length (text_of_pairs pairs)) (filter_all media.pairs) in
+        let kept = ap (λ (it : MediaType). length it.kept) is in
+        omega (arith, kept, all, anew_fits value media reads (λ pair. true), (sizes_of value media reads).0, length-append {A = ℕ})
 
 -- ---- the strings of ranges
 
@@ -167,15 +112,9 @@ range_fits : (text : List ℕ) (range : MediaType) → HttpReads text range
     → length (strings (range_texts range)) ≤ 3 * (length text + 1)
 range_fits text range reads =
     let sizes = sizes_of text range reads in
-    omega (
-      arith,
-      sizes.0,
-      sizes.1,
-      ap length (strings_of_range range),
-      length-append (strings (parts_of range)) (0 ∷ []),
-      length-append range.essence (0 ∷ []),
-      length-append (range.essence ++ 0 ∷ []) (strings (pair_texts range.pairs)),
-    )
+    let parts = length-append (range.essence ++ 0 ∷ []) (strings (pair_texts range.pairs)) in
+    let last = length-append (strings (parts_of range)) (0 ∷ []) in
+    omega (arith, sizes.0, sizes.1, parts, last, ap length (strings_of_range range), length-append range.essence (0 ∷ []))
 
 -- How many bytes texts are with a comma after each.
 abbrev total : List (List ℕ) → ℕ

@@ -50,8 +50,7 @@ pub record IsReading (IsRead : MediaType → Type 0) (Explained : FieldError →
   pub not_both : (media : MediaType) (error : FieldError) → number_of_error error ≢ MIME_NO_MEMORY → IsRead media
       → ¬ (Explained error)
   pub one_error : (one two : FieldError) → number_of_error one ≢ MIME_NO_MEMORY → number_of_error two ≢ MIME_NO_MEMORY
-      → Explained one
-      → Explained two → two ≡ one
+      → Explained one → Explained two → two ≡ one
 
 -- A call has one outcome if it reads a media type first and has one outcome for each.
 module _ {Held : Type 0} {IsRead : MediaType → Type 0} {Explained : FieldError → Type 0} {failed : MimeFound → Held}
@@ -59,8 +58,7 @@ module _ {Held : Type 0} {IsRead : MediaType → Type 0} {Explained : FieldError
     → HasOne (Is media)) where
   -- A media type that is read has no other outcome.
   only_read : (media : MediaType) (is : IsRead media) (n : ℕ) (held : Held) → n ≢ MIME_NO_MEMORY
-      → Of IsRead Explained failed Is n held
-      → (n ≡ (one media is).0) × (held ≡ (one media is).1)
+      → Of IsRead Explained failed Is n held → (n ≡ (one media is).0) × (held ≡ (one media is).1)
   only_read media is n held some (is_read other _ _ too has) =
       (one media is).4 n held some (subst (λ (it : MediaType). Is it n held) (reading.one_media media other is too) has)
   only_read media is n held some (fails error why) = absurd (reading.not_both media error some is why)
@@ -138,8 +136,7 @@ module _ (text : List ℕ) where
 
   -- A text that isn't read has one error.
   one_error : (one two : FieldError) → number_of_error one ≢ MIME_NO_MEMORY → number_of_error two ≢ MIME_NO_MEMORY
-      → TextExplains text one
-      → TextExplains text two → two ≡ one
+      → TextExplains text one → TextExplains text two → two ≡ one
   one_error NoMemory two h k why too = absurd why
   one_error one NoMemory h k why too = absurd too
   one_error (NotUtf8 pos) (NotUtf8 other) h k why too =

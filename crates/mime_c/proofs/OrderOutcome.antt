@@ -129,12 +129,7 @@ module _ (ranges offers : List MediaType) where
           all = λ at. (
             λ is. ((all.2 at).0 is).1,
             λ weighs. (all.2 at).1 (
-              omega (
-                arith,
-                weighs_within (map (merit ranges) offers) at weighs,
-                length-map offers
-                    (merit ranges),
-              ),
+              omega (arith, weighs_within (map (merit ranges) offers) at weighs, length-map offers (merit ranges)),
               weighs,
             ),
           );
@@ -146,8 +141,7 @@ module _ (ranges offers : List MediaType) where
 module _ (old : List ℕ) (ranges offers : List MediaType) where
   -- No order is the only outcome if no offer is acceptable.
   only_unordered : AreInOrder ranges offers [] → (n : ℕ) (held : List ℕ × ℕ) → n ≢ MIME_NO_MEMORY
-      → IsOrder old ranges offers n held
-      → (n ≡ MIME_NOT_ACCEPTABLE) × (held ≡ (old, 0))
+      → IsOrder old ranges offers n held → (n ≡ MIME_NOT_ACCEPTABLE) × (held ≡ (old, 0))
   only_unordered none n held some (order_is order _ _ are more is) = absurd (more (one_order ranges offers order [] are none))
   only_unordered none n held some (none_is_ordered too) = (refl, refl)
 
@@ -161,8 +155,7 @@ module _ (old : List ℕ) (ranges offers : List MediaType) where
 
   -- An order is the only one.
   only_some : (order : List ℕ) → AreInOrder ranges offers order → order ≢ [] → (n : ℕ) (held : List ℕ × ℕ)
-      → n ≢ MIME_NO_MEMORY
-      → IsOrder old ranges offers n held → (n ≡ (one_place order).0) × (held ≡ (one_place order).1)
+      → n ≢ MIME_NO_MEMORY → IsOrder old ranges offers n held → (n ≡ (one_place order).0) × (held ≡ (one_place order).1)
   only_some order are more n held some (order_is other _ _ too _ is) =
       (one_place order).4 n held some (subst (λ it. IsPlaced it n held) (one_order ranges offers other order too are) is)
   only_some order are more n held some (none_is_ordered none) = absurd (more (one_order ranges offers order [] are none))

@@ -33,18 +33,11 @@ set_fits text name value media reads =
     let content : length (lowered_value name (escaped value)) ≤ 2 * length value =
     lowered_value-either (λ it. length it ≤ 2 * length value) name (escaped value) (length-escaped value)
     (omega (arith, length-lowered (escaped value), length-escaped value)) in
-    omega (
-      arith,
-      (sizes_of text media reads).0,
-      anew_fits text media reads (λ pair. not (bytes_eq (lowered pair.0) (lowered (lowered name)))),
-      content,
-      length-pair (lowered name) (lowered_value name (escaped value)),
-      ap length (flat_map-append text_of_pair kept (made ∷ [])),
-      length-lowered name,
-      length-append media.essence (text_of_pairs (kept ++ (made ∷ []))),
-      length-append (text_of_pairs kept) (text_of_pairs (made ∷ [])),
-      length-append (text_of_pair made) [],
-    )
+    let others = anew_fits text media reads (λ pair. not (bytes_eq (lowered pair.0) (lowered (lowered name)))) in
+    let all = ap length (flat_map-append text_of_pair kept (made ∷ [])) in
+    let size = length-pair (lowered name) (lowered_value name (escaped value)) in
+    let last = length-append (text_of_pair made) [] in
+    omega (arith, (sizes_of text media reads).0, others, content, size, all, last, length-lowered name, length-append {A = ℕ})
 
 -- A kept text that is read comes back.
 pub set_comes_back : (media : MediaType) → Reads media.kept media → ComeBack (media.kept ∷ [])

@@ -89,8 +89,7 @@ boundary_or_not media =
 
 -- Two outcomes of a boundary are the same unless memory runs out.
 same_boundary : {old : List ℕ} {media : MediaType} {n m : ℕ} {held other : List ℕ × ℕ} → n ≢ MIME_NO_MEMORY
-    → m ≢ MIME_NO_MEMORY
-    → HasBoundary old media n held → HasBoundary old media m other → (m ≡ n) × (other ≡ held)
+    → m ≢ MIME_NO_MEMORY → HasBoundary old media n held → HasBoundary old media m other → (m ≡ n) × (other ≡ held)
 same_boundary h k boundary_has_no_memory two = absurd (h refl)
 same_boundary h k one boundary_has_no_memory = absurd (k refl)
 same_boundary {old = old} h k (boundary_is one has back) (boundary_is two too again) =
@@ -100,14 +99,14 @@ same_boundary h k (has_no_boundary none) (boundary_is two has back) = absurd (no
 same_boundary h k (has_no_boundary none) (has_no_boundary too) = (refl, refl)
 
 -- The boundary of a media type is written in one way.
-one_boundary : (old : List ℕ) (media : MediaType) → HasOne (HasBoundary old media)
-one_boundary old media = ⊎_elim
+one_of_boundary : (old : List ℕ) (media : MediaType) → HasOne (HasBoundary old media)
+one_of_boundary old media = ⊎_elim
     (λ it. one_is (λ same. omega (arith, same)) (boundary_is it.0 it.1 (boundary_comes_back it.0 it.1.is)) (λ n x. same_boundary))
     (λ none. one_is (λ same. omega (arith, same)) (has_no_boundary none) (λ n x. same_boundary)) (boundary_or_not media)
 
 -- `mime_boundary` has one outcome.
 pub boundary_is_one : BoundaryIsOne
-boundary_is_one value old = one_in_room (one_of_reading (reading_of_value value) (λ media is. one_boundary old media))
+boundary_is_one value old = one_in_room (one_of_reading (reading_of_value value) (λ media is. one_of_boundary old media))
 
 -- `mime_unescape` has one outcome.
 pub unescapes_to_one : UnescapesToOne
@@ -142,8 +141,7 @@ comes_back text name value media reads is =
 
 -- Two outcomes of a parameter are the same unless memory runs out.
 same_set : {name value old : List ℕ} {media : MediaType} {n m : ℕ} {held other : List ℕ × ℕ} → n ≢ MIME_NO_MEMORY
-    → m ≢ MIME_NO_MEMORY
-    → IsSet name value old media n held → IsSet name value old media m other → (m ≡ n) × (other ≡ held)
+    → m ≢ MIME_NO_MEMORY → IsSet name value old media n held → IsSet name value old media m other → (m ≡ n) × (other ≡ held)
 same_set h k one two = search rules
 
 -- A parameter is written in one way.
@@ -154,5 +152,4 @@ one_set text name value old media reads = ⊎_elim
 
 -- `mime_set_parameter` has one outcome.
 pub sets_to_one : SetsToOne
-sets_to_one text name value old =
-    one_in_room (one_of_reading (reading_of_value text) (λ media is. one_set text name value old media is.1))
+sets_to_one text name value old = one_in_room (one_of_reading (reading_of_value text) (λ media is. one_set text name value old media is.1))

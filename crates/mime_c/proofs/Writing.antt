@@ -50,17 +50,9 @@ module _ {old now left all : List ℕ} {at : ℕ} (leaves : Leaves old now at le
   -- The next bytes that are left fit.
   pub leaves-holds : (bytes more : List ℕ) → left ≡ bytes ++ more → length all ≤ length old → at + length bytes ≤ length now
   leaves-holds bytes more is room =
+      let there = ap length leaves.wrote.there in
       let sizes = ap length leaves.onward in
-      omega (
-        arith,
-        leaves.wrote.end,
-        ap length leaves.wrote.there,
-        sizes,
-        ap length is,
-        room,
-        length-append {A = ℕ},
-        length-drop {A = ℕ},
-      )
+      omega (arith, leaves.wrote.end, there, sizes, ap length is, room, length-append {A = ℕ}, length-drop {A = ℕ})
 
   -- The bytes after the next are left once the next are written.
   pub leaves-next : (bytes more new : List ℕ) (end : ℕ) → left ≡ bytes ++ more → Writes now at bytes new end
@@ -85,16 +77,14 @@ writes-all {old} {now} {left} {all} {at} {end} leaves none = record {
       let behind : drop (length prefix) old ≡ drop (length prefix) older =
       ap (drop (length prefix)) wrote.there ∙ drop_at prefix _ (length prefix) refl in
       let after : drop (length (prefix ++ all)) old ≡ drop (length (prefix ++ all)) older =
-      rw (length-append prefix all)
-      (sym (drop-drop (length all) (length prefix) old) ∙ ap (drop (length all)) behind
+      rw (length-append prefix all) (sym (drop-drop (length all) (length prefix) old) ∙ ap (drop (length all)) behind
       ∙ drop-drop (length all) (length prefix) older) in
       record { there = cc (before, after, last.there); end = last.end ∙ ap (λ it. length (it ++ all)) before };
 }
 
 -- A text is a string if the 0 was written before it.
 pub ended_before : (now text new : List ℕ) (i at end : ℕ) → i ≡ at + length text → i < length now
-    → Writes (set now i 0) at text new end
-    → Writes now at (string_of text) new (end + 1)
+    → Writes (set now i 0) at text new end → Writes now at (string_of text) new (end + 1)
 unfolding leaves-first
 ended_before now text new i at end is room writes =
     let last = writes.adds _ _ (leaves-first (set now i 0) [] at (grind (arith, common_steps, is, room))).wrote in
@@ -109,13 +99,8 @@ pub writes-end : {old new bytes : List ℕ} {at end : ℕ} → at ≤ length old
     → end ≡ at + length bytes
 unfolding leaves-first
 writes-end {old} {new} {bytes} {at} within writes =
-    omega (
-      arith,
-      (writes.adds old (take at old) (leaves-first old [] at within).wrote).end,
-      length-append
-          (take at old) bytes,
-      length-take at old,
-    )
+    let wrote = writes.adds old (take at old) (leaves-first old [] at within).wrote in
+    omega (arith, wrote.end, length-append (take at old) bytes, length-take at old)
 
 -- Bytes that are written first are all that is written.
 pub wrote-first : {old new bytes : List ℕ} {end : ℕ} → Writes old 0 bytes new end → HasWritten old new end bytes
@@ -177,8 +162,7 @@ module _ {text old now left next : List ℕ} {at : ℕ} {item : CutItem} (lists 
       let has = has_cut next in
       let all = item ∷ has.items in
       let size = items_fit text _ has.rest (lists.cuts all has.rest (is_first has.items has.rest has.cut)) in
-      rw (← is)
-      (fits lists.wrote (item_text item) (strings (item_texts has.items))
+      rw (← is) (fits lists.wrote (item_text item) (strings (item_texts has.items))
       (omega (arith, room, size, ap length (strings_of_items lists.before all))))
 
   -- The items after the next are left once the next is written.

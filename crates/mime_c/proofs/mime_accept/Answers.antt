@@ -29,15 +29,9 @@ pub put_range-at-requires : goal.put_range-at-requires
 put_range-at-requires c =
     let ranges = c.ranges-range-items.ensures in
     let header = c.in-Ok.ensures.header in
-    let fit = ranges_fit c.args.text.now header.0 header.1 in
+    let same = ap (λ all. length (strings (ranges_texts all))) (ranges ∙ ap (λ (it : Header). it.ranges) header.2) in
     let room : length (all_of c.ranges-range-items.result.now) ≤ length c.args.out.now =
-    omega (
-      arith,
-      fit,
-      ap (λ all. length (strings (ranges_texts all)))
-          (ranges ∙ ap (λ (it : Header). it.ranges) header.2),
-      c.if-out-text.false,
-    ) in
+    omega (arith, ranges_fit c.args.text.now header.0 header.1, same, c.if-out-text.false) in
     leaves-holds c.loop-range.invariant (strings (range_texts c.range-item.result.media)) _
     (first_of c.ranges-range-items.result.now c.loop-range.range-index c.range-item.result c.loop-range-test.true c.range-item.is) room
 

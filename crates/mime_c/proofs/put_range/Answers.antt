@@ -23,7 +23,6 @@ returns c =
     let parts = both_written _ _ _ _ _ _ _ _ start c.put_parts-end.ensures in
     let all : ((c.four_digits-digits.result ++ 0 ∷ []) ++ strings (parts_of media)) ++ 0 ∷ [] ≡ strings (range_texts media) =
     ap (λ digits. ((digits ++ 0 ∷ []) ++ strings (parts_of media)) ++ 0 ∷ [])
-    (c.four_digits-digits.ensures ∙ ap four_digits c.weight_of.ensures)
-    ∙ sym (strings_of_range media) in
+    (c.four_digits-digits.ensures ∙ ap four_digits c.weight_of.ensures) ∙ sym (strings_of_range media) in
     subst (λ bytes. Writes c.args.out.now c.args.at bytes c.put.new.out c.put.result) all
     (both_written _ _ _ _ _ _ _ _ parts c.put.ensures)

@@ -18,8 +18,7 @@ returns-in-Ok-Some c =
     let http = c.in-Ok.ensures.http in
     let is : IsBoundaryOf c.in-Ok.mime.media (vec_items c.in-Ok-Some.found) = search rules in
     let found = subst (IsBoundaryOf c.in-Ok.mime.media) (sym c.deref.ensures.value) is in
-    rw (c.put_string.ensures.bytes, c.put_string.ensures.size)
-    (has_room _ _ (omega (arith, c.if-out-lt-BOUNDARY_ROOM.false))
+    rw (c.put_string.ensures.bytes, c.put_string.ensures.size) (has_room _ _ (omega (arith, c.if-out-lt-BOUNDARY_ROOM.false))
     (is_read _ _ _ (http.0, http.1, c.in-Ok.ensures.kept) (boundary_is _ found (boundary_comes_back _ found.is))))
 
 pub returns-in-Ok-None : goal.returns-in-Ok-None

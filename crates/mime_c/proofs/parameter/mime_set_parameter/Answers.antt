@@ -37,15 +37,9 @@ put_string-requires c =
     let made : c.in-Ok-Some.made.media ≡ with_parameter c.in-Ok.mime.media c.in-Ok-text_of.name.now c.in-Ok-text_of-2.value.now =
     search rules in
     let is = made_is c.in-Ok.mime.media c.in-Ok-text_of.ensures.cases.0 c.in-Ok-text_of-2.ensures.cases.0 made in
-    let room = c.if-not-has_room.ensures.0 refl in
-    omega (
-      arith,
-      room,
-      set_fits c.args.text.now c.args.name.now c.args.value.now c.in-Ok.mime.media c.in-Ok.ensures.http.1,
-      ap (λ (it : MediaType). length it.kept) is,
-      ap length c.as_str.ensures.text,
-      ap length c.as_bytes.ensures.value,
-    )
+    let kept = ap (λ (it : MediaType). length it.kept) is in
+    let fits = set_fits c.args.text.now c.args.name.now c.args.value.now c.in-Ok.mime.media c.in-Ok.ensures.http.1 in
+    omega (arith, c.if-not-has_room.ensures.0 refl, fits, kept, ap length c.as_str.ensures.text, ap length c.as_bytes.ensures.value)
 
 pub returns-in-Ok-Some : goal.returns-in-Ok-Some
 returns-in-Ok-Some c =
@@ -75,8 +69,7 @@ returns-in-Ok-None c =
     let http = c.in-Ok.ensures.http in
     let name = c.in-Ok-text_of.ensures.cases in
     let value = c.in-Ok-text_of-2.ensures.cases in
-    has_room _ _ (c.if-not-has_room.ensures.0 refl) (is_read _ _ _ (http.0, http.1, c.in-Ok.ensures.kept)
-    (isnt_parameter (λ is.
+    has_room _ _ (c.if-not-has_room.ensures.0 refl) (is_read _ _ _ (http.0, http.1, c.in-Ok.ensures.kept) (isnt_parameter (λ is.
     let some = c.in-Ok-None.ensures.exact.1 (subst IsToken (sym name.0) is.named, subst AreHeaderBytes (sym value.0) is.safe) in
     absurd (true≢false (sym some ∙ ap is_some c.in-Ok-None.field-0-is)))))
 

@@ -38,11 +38,7 @@ pub loop-at-init : goal.loop-at-init
 loop-at-init c =
     let value = c.args.value.now in
     record {
-      writes = record {
-        prefix = [];
-        wrote = record { there = refl; end = refl };
-        onward = sym (unescaped_is value);
-      };
+      writes = record { prefix = []; wrote = record { there = refl; end = refl }; onward = sym (unescaped_is value) };
       within = omega arith;
       size = refl;
     }
