@@ -33,11 +33,7 @@ lines = (
 
 -- A line begins at the start and after a line feed, and nowhere else.
 line_ends : EndsLine [] × EndsLine (codes "a\n") × ¬ (EndsLine (codes "\na"))
-line_ends = (
-  (λ some. absurd (some refl)),
-  (λ _. refl),
-  λ ends. omega (arith, same_Some 97 10 (ends (some_byte 10 (codes "a")))),
-)
+line_ends = ((λ some. absurd (some refl)), (λ _. refl), λ ends. omega (arith, same_Some 97 10 (ends (some_byte 10 (codes "a")))))
 
 -- ---- cuts
 
@@ -107,8 +103,7 @@ none_in_a before after ends is = omega (arith, simp length-append at (ap length 
 whole_body : IsBody mark (codes "--x\na\n--x--") (codes "a" ∷ []) true
 whole_body =
     after_preamble _ [] (codes "\na\n--x--") (codes "a" ∷ []) true (at_start (codes "\na\n--x--"))
-    (a_part (codes "\na\n--x--") (codes "a") (codes "--") [] true
-    (record {
+    (a_part (codes "\na\n--x--") (codes "a") (codes "--") [] true (record {
       line = [];
       text = codes "a\n--x--";
       before = codes "a\n";
@@ -117,8 +112,7 @@ whole_body =
       whole = refl;
       cut = cut_after_a_line;
       is_part = parts_of_lines.2;
-    })
-    (closed (codes "--") ([], refl)))
+    }) (closed (codes "--") ([], refl)))
 
 -- A body that is cut off in its part has none, and isn't whole.
 cut_off_body : IsBody mark (codes "--x\na") [] false

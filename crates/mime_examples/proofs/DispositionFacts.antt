@@ -28,14 +28,7 @@ meanings = (
     ((λ same. absurd (omega (arith, ap length same))), λ _. ((λ _. refl), (λ other. absurd (other refl)))),
     refl,
   ),
-  (
-    None,
-    (
-      (λ same. absurd (omega (arith, ap length same))),
-      λ _. ((λ same. absurd (omega (arith, ap length same))), λ _. refl),
-    ),
-    refl,
-  ),
+  (None, ((λ same. absurd (omega (arith, ap length same))), λ _. ((λ same. absurd (omega (arith, ap length same))), λ _. refl)), refl),
 )
 
 -- The name is found, and means this.

@@ -1,4 +1,4 @@
--- Where bytes stand in others.
+-- Bytes stand at a place in others.
 use Rattle.std.proofs.Common.{◌≡◌, ◌≢◌, ◌∙◌, ◌<◌, ◌-◌, ◌++◌, ◌∷◌, [], ℕ, List, Bool, true, take, drop, length, length-append, take-append-drop, nat_eq, ap, sym, refl, arith}
 use Rattle.std.specs.List.{starts_with}
 use Rattle.std.proofs.{lemmas.Bool.Decides.Decides-eqb, lemmas.List.take_at, lemmas.List.drop_at, lemmas.List.take_rest, lemmas.Slice.Eq.starts_is}

@@ -1,4 +1,4 @@
--- What the essence is read as, and that it is read.
+-- The essence is read, as the media type without its parameters.
 use Rattle.std.proofs.Common.{rules, ◌≡◌, sym, subst, ℕ, List}
 use Rattle.mime.specs.{Values.MediaType, Values.Reads, Values.IsAccepted, Laws.EssenceIsRead, Laws.without_parameters}
 use Rattle.mime_examples.proofs.bare.bare_of.Goals as goal
@@ -16,5 +16,4 @@ returns-in_err-bare-clause-memory c =
 
 pub returns-clause-value : goal.returns-clause-value
 returns-clause-value c =
-    c.one_reading.ensures _ _ _ (search rules)
-    (bare_is_read c.essence_is_read.ensures c.as_str-kept.ensures.reads c.essence_str.ensures)
+    c.one_reading.ensures _ _ _ (search rules) (bare_is_read c.essence_is_read.ensures c.as_str-kept.ensures.reads c.essence_str.ensures)

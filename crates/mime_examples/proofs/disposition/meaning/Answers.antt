@@ -1,4 +1,4 @@
--- The value that was found, and what it means.
+-- The value that was found means the name.
 use Rattle.std.proofs.Common.{◌∙◌, Some, ap, append-nil, sym}
 use Rattle.mime_examples.specs.Disposition.{unescaped_name}
 use Rattle.mime_examples.proofs.disposition.meaning.Goals as goal

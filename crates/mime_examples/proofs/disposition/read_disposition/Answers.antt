@@ -8,8 +8,7 @@ use Rattle.mime_examples.proofs.disposition.read_disposition.Goals as goal
 
 -- If a key finds no item, it finds none again.
 none_stays : (Accepts : List ℕ → Bool → Type 0) (items : List Item) (found : Option (List ℕ × Bool))
-    → IsFirstAccepted Accepts items None
-    → IsFirstAccepted Accepts items found → found ≡ None
+    → IsFirstAccepted Accepts items None → IsFirstAccepted Accepts items found → found ≡ None
 none_stays Accepts [] found none first = first
 none_stays Accepts (item ∷ items) found none first =
     let other : ¬ (Accepts item.name item.name_ignores_case) =

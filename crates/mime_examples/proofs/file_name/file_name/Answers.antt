@@ -1,4 +1,4 @@
--- The value that was found, and what it means.
+-- The value that was found means the name.
 use Rattle.std.proofs.Common.{◌∙◌, ◌++◌, ap}
 use Rattle.mime_http.specs.Unescaped.{unescaped}
 use Rattle.mime_examples.proofs.file_name.file_name.Goals as goal

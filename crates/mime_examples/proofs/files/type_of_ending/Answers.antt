@@ -14,5 +14,4 @@ loop-known-preserved c = λ i row within is same.
     let inside : i < length table = omega (arith, at, c.loop-known-test.true) in
     let there = ap (λ it. it.0) (sym is ∙ get_or-map (λ row. (row.0.now, row.1.now)) table i _ row inside) in
     let first = ap (λ k. (get_or table k (record { ref_ptr = (0, 0); now = [] }, record { ref_ptr = (0, 0); now = [] })).0.now) at in
-    absurd (true≢false (sym (c.if-eq_ignore_ascii_case.ensures.test.1 (sym same ∙ ap lowered (there ∙ first))))))
-    (cases_lt i last)
+    absurd (true≢false (sym (c.if-eq_ignore_ascii_case.ensures.test.1 (sym same ∙ ap lowered (there ∙ first)))))) (cases_lt i last)

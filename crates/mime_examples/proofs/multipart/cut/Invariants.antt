@@ -4,5 +4,4 @@ use Rattle.mime_examples.specs.Multipart.{EndsLine}
 use Rattle.mime_examples.proofs.multipart.cut.Given as goal
 
 abbrev pub invariant-loop-at : goal.invariant-loop-at
-invariant-loop-at l =
-    (at : ℕ) (after : List ℕ) → at < l.at → EndsLine (take at l.body) → drop at l.body ≢ l.delimiter ++ after
+invariant-loop-at l = (at : ℕ) (after : List ℕ) → at < l.at → EndsLine (take at l.body) → drop at l.body ≢ l.delimiter ++ after

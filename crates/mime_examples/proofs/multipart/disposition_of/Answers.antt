@@ -8,19 +8,16 @@ use Rattle.mime_examples.proofs.multipart.disposition_of.Goals as goal
 
 -- What is read of the first field's value is read of the part.
 of_first : {A : Type 0} {label part : List ℕ} (value : List ℕ) (name_of : A → List ℕ) (file_of : A
-    → Option (List ℕ)) (answer : Option A)
-    → IsFirstField label part (Some value)
+    → Option (List ℕ)) (answer : Option A) → IsFirstField label part (Some value)
     → MatchOption answer ((name : List ℕ) (file : Option (List ℕ)) → ¬ (IsDisposition value name file))
-    (λ found. IsDisposition value (name_of found) (file_of found))
-    → (first : Option (List ℕ)) × IsFirstField label part first
+    (λ found. IsDisposition value (name_of found) (file_of found)) → (first : Option (List ℕ)) × IsFirstField label part first
     × MatchOption answer ((value name : List ℕ) (file : Option (List ℕ)) → first ≡ Some value
     → ¬ (IsDisposition value name file))
     (λ found. (value : List ℕ) × (first ≡ Some value) × IsDisposition value (name_of found) (file_of found))
 of_first value name_of file_of None first none = (
   Some value,
   first,
-  λ other name file same is. none name file
-      (subst (λ it. IsDisposition it name file) (sym (same_Some _ _ same)) is),
+  λ other name file same is. none name file (subst (λ it. IsDisposition it name file) (sym (same_Some _ _ same)) is),
 )
 of_first value name_of file_of (Some found) first is = (Some value, first, (value, refl, is))
 

@@ -13,8 +13,7 @@ added (first ∷ parts) part more = ap (λ it. first.now ∷ it) (added parts pa
 
 -- After the last part a delimiter closes the body, or the body is cut off.
 ended : (delimiter left : List ℕ) (closes : Bool) → closes ≡ starts_with nat_eq left (codes "--")
-    → Closes left ⊎ IsCutOff delimiter left
-    → AreParts delimiter left [] closes
+    → Closes left ⊎ IsCutOff delimiter left → AreParts delimiter left [] closes
 ended delimiter left true is end = closed left (drop 2 left, (starts_is Decides-eqb left (codes "--") true is).0 refl)
 ended delimiter left false is (inl closes) =
     absurd (true≢false (sym ((starts_is Decides-eqb left (codes "--") false is).1 closes.0 closes.1)))

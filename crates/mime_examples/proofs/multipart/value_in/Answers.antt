@@ -1,4 +1,4 @@
--- The name, the colon and what follows it.
+-- A field is its name, the colon and what follows it.
 use Rattle.std.proofs.Common.{rules, ◌≡◌, ◌∙◌, ◌-◌, ◌++◌, Some, take, drop, length, sym, codes}
 use Rattle.std.proofs.{lemmas.Bool.Decides.Decides-eqb, lemmas.List.take_rest, lemmas.Slice.Eq.strip_prefix_is}
 use Rattle.mime.specs.Values.{lowered}

@@ -1,4 +1,4 @@
--- The end of the last line, if there is one.
+-- A part loses the end of its last line, if there is one.
 use Rattle.std.proofs.Common.{◌≡◌, ◌≢◌, ◌∙◌, ◌<◌, ◌-◌, ◌++◌, ◌∷◌, [], ℕ, suc, List, Bor, Option, Some, None, unwrap_or, append_assoc, take, length, sym, ap, subst, codes, arith}
 use Rattle.std.specs.Prelude.{MatchOption, slice_get}
 use Rattle.std.proofs.{Math.ListN.drop_of_length-le, Math.Seq.drop-cons, lemmas.Bool.Decides.Decides-eqb, lemmas.Option.get_or_from_slice_get, lemmas.Slice.Eq.strip_suffix_is}
