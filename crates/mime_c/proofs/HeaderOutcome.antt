@@ -44,11 +44,24 @@ some_or_none (Some x) = inl (x, refl)
 some_or_none None = inr refl
 
 -- If a list has no first bad offer, none of its offers is bad.
-pub none_bad : (list : List ℕ) (first : Option ℕ) {count : ℕ} (offered : Header)
+none_bad : (list : List ℕ) (first : Option ℕ) {count : ℕ} (offered : Header)
     → MatchOption first (count ≡ 0) (IsFirstBad (list ∷ []))
     → ((at : ℕ) → first ≢ Some at) → count ≡ length offered.bad → offered.bad ≡ []
 none_bad list None offered is other counted = nil_from_length offered.bad (sym counted ∙ is)
 none_bad list (Some at) offered is other counted = absurd (other at refl)
+
+-- A call that has read a header, and a list of good offers, answers what it says of the ranges of both.
+pub of_good : {Held : Type 0} {is_there : Bool} {line list : List ℕ} {failed : ℕ → Held}
+    {Is : List MediaType → List MediaType → ℕ → Held → Type 0} {answer : ℕ} {held : Held} {own theirs : List MediaType}
+    {given : Header} {count : ℕ} {first : Option ℕ}
+    → ((header : Header) × IsHeader (lines_of is_there line) header × (own ≡ header.ranges))
+    → ((offered : Header) × IsHeader (list ∷ []) offered × (given ≡ record offered { bad = [] }) × (count ≡ length offered.bad))
+    → theirs ≡ given.ranges → MatchOption first (count ≡ 0) (IsFirstBad (list ∷ [])) → ((at : ℕ) → first ≢ Some at)
+    → Is own theirs answer held → OfOffers is_there line list failed Is answer held
+of_good {list = list} {Is = Is} {answer = answer} {held = held} {own = own} {first = first} header offered same is other says =
+    let ranges = same ∙ ap (λ (it : Header). it.ranges) offered.2 in
+    are_offers header.0 offered.0 _ _ header.1 offered.1 (none_bad list first offered.0 is other offered.3)
+    (subst (λ it. Is it offered.0.ranges answer held) header.2 (subst (λ it. Is own it answer held) ranges says))
 
 -- Two headers of the same lines are the same.
 pub same_header : {lines : List (List ℕ)} {one two : Header} → IsHeader lines one → IsHeader lines two → two ≡ one

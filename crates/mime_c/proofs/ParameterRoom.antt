@@ -1,10 +1,10 @@
 -- How many bytes a media type with a parameter is, and that what is written comes back.
-use Rattle.std.proofs.Common.{◌≡◌, ℕ, ◌+◌, ◌*◌, ◌≤◌, Bool, true, false, List, [], ◌∷◌, ◌++◌, length, ap, arith, length-append}
+use Rattle.std.proofs.Common.{◌≡◌, ℕ, ◌+◌, ◌*◌, ◌≤◌, Bool, true, false, List, [], ◌∷◌, length, ap, arith, length-append}
 use Rattle.std.specs.Prelude.{◌==◌, ◌||◌, not, bytes_eq, if◌then◌else◌}
 use Rattle.std.proofs.{lemmas.Bool.Decides.nat_tests, lemmas.List.Concat.flat_map-append}
 use Rattle.mime.specs.{Bytes.quote_byte, Bytes.backslash_byte, Values.MediaType, Values.Reads, Values.lowered, Values.lowered_value}
 use Rattle.mime.proofs.HandedOut.{length-lowered, lowered_value-either, is_other, list_all-wider}
-use Rattle.mime_http.specs.{Boundary.is_bchar, Boundary.IsBoundary, HttpMediaType.HttpReads, Written.escaped_byte, Written.escaped, Written.text_of_pair, Written.text_of_pairs, Written.others}
+use Rattle.mime_http.specs.{Boundary.is_bchar, Boundary.IsBoundary, HttpMediaType.HttpReads, Written.escaped_byte, Written.escaped, Written.text_of_pair, Written.others}
 use Rattle.mime_c.specs.{Strings.ComeBack, ParameterAnswers.room_with, ParameterAnswers.with_parameter}
 use Rattle.mime_c.proofs.{HeaderRoom.anew_fits, HeaderRoom.length-pair, HeaderRoom.sizes_of, NoZero.come_back, NoZero.no_zero-read}
 

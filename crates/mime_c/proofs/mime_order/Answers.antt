@@ -1,25 +1,17 @@
 -- Each answer is what it says.
-use Rattle.std.proofs.Common.{◌≡◌, ◌≢◌, ◌∙◌, ◌++◌, ℕ, List, [], length, map, drop, refl, sym, ap, subst, arith, IsOk}
+use Rattle.std.proofs.Common.{◌≡◌, ◌≢◌, ◌∙◌, ◌++◌, ℕ, List, [], length, drop, sym, ap, subst, arith, IsOk}
 use Rattle.std.specs.Vec.{vec_items}
 use Rattle.std.proofs.{lemmas.Bool.Decides.nat_tests, lemmas.Bool.true≢false, lemmas.List.length-map, lemmas.List.nil_from_length}
-use Rattle.mime.specs.Values.{MediaType, OwnedMedia}
-use Rattle.mime_http.specs.{HttpList.Header, HttpList.IsHeader, Ranges.AreInOrder}
+use Rattle.mime.specs.Values.{OwnedMedia}
+use Rattle.mime_http.specs.{HttpList.Header, HttpList.IsHeader}
 use Rattle.mime_http.proofs.HandedOut.{one_header}
-use Rattle.mime_c.specs.{Strings.written, Answers.has_room, Answers.has_no_room, Answers.holds, HeaderAnswers.HaveNoEntry, HeaderAnswers.are_offers, HeaderAnswers.an_offer_is_bad, HeaderAnswers.offers_have_no_memory, HeaderAnswers.OrderIs, HeaderAnswers.order_is, HeaderAnswers.none_is_ordered}
-use Rattle.mime_c.proofs.HeaderOutcome.{none_bad}
+use Rattle.mime_c.specs.{Strings.written, Answers.has_room, Answers.has_no_room, Answers.holds, HeaderAnswers.HaveNoEntry, HeaderAnswers.an_offer_is_bad, HeaderAnswers.offers_have_no_memory, HeaderAnswers.OrderIs, HeaderAnswers.order_is, HeaderAnswers.none_is_ordered}
+use Rattle.mime_c.proofs.HeaderOutcome.{of_good}
 use Rattle.mime_c.proofs.mime_order.Goals as goal
 
 -- A header without an entry has no range.
 no_offer : {lines : List (List ℕ)} {header : Header} → IsHeader lines header → HaveNoEntry lines → header.ranges ≡ []
 no_offer {lines} {header} is none = ap (λ (h : Header). h.ranges) (one_header lines header _ is none)
-
--- The order that was found is that of the offers.
-in_order : {own ranges : List MediaType} (offered : Header) {given order : List ℕ} (held : List OwnedMedia) → own ≡ ranges
-    → map (λ offer. offer.media) held ≡ offered.ranges → AreInOrder own (map (λ offer. offer.media) held) given → given ≡ order
-    → AreInOrder ranges offered.ranges order
-in_order {ranges = ranges} offered {given = given} held same theirs are is =
-    subst (AreInOrder ranges offered.ranges) is (subst (λ offers. AreInOrder ranges offers given) theirs
-    (subst (λ own. AreInOrder own (map (λ offer. offer.media) held) given) same are))
 
 pub returns-in_default : goal.returns-in_default
 returns-in_default c =
@@ -43,38 +35,27 @@ returns-in_default-order c =
 
 pub returns-then-is_empty : goal.returns-then-is_empty
 returns-then-is_empty c =
-    let header = c.in-Ok-accepted.ensures.header in
-    let offered = c.in-Ok.ensures.header in
     let empty : vec_items c.in-Ok-order.positions ≡ [] = nil_from_length _ (grind (arith, nat_tests, c.if-is_empty.ensures)) in
-    are_offers header.0 offered.0 _ _ header.1 offered.1
-    (none_bad c.args.offers.now c.in-Ok.entries.first offered.0 c.in-Ok.ensures.first c.in_default-first.not-Some offered.3)
-    (none_is_ordered (in_order offered.0 _ header.2 (c.ranges-2.ensures ∙ ap (λ (it : Header). it.ranges) offered.2)
-    c.in-Ok-order.ensures.order empty))
+    of_good c.in-Ok-accepted.ensures.header c.in-Ok.ensures.header c.ranges-2.ensures c.in-Ok.ensures.first c.in_default-first.not-Some
+    (none_is_ordered (rw empty at c.in-Ok-order.ensures.order))
 
 pub returns-then-len-order : goal.returns-then-len-order
 returns-then-len-order c =
-    let header = c.in-Ok-accepted.ensures.header in
-    let offered = c.in-Ok.ensures.header in
     let order = vec_items c.in-Ok-order.positions in
     let some : order ≢ [] = λ empty. absurd (grind (arith, nat_tests, ap length empty, c.if-is_empty.ensures)) in
-    are_offers header.0 offered.0 _ _ header.1 offered.1
-    (none_bad c.args.offers.now c.in-Ok.entries.first offered.0 c.in-Ok.ensures.first c.in_default-first.not-Some offered.3)
-    (order_is order _ _ (in_order offered.0 _ header.2 (c.ranges-2.ensures ∙ ap (λ (it : Header). it.ranges) offered.2)
-    c.in-Ok-order.ensures.order refl) some (has_no_room (omega (arith, c.if-len-order.true, c.len.ensures))))
+    of_good c.in-Ok-accepted.ensures.header c.in-Ok.ensures.header c.ranges-2.ensures c.in-Ok.ensures.first c.in_default-first.not-Some
+    (order_is order _ _ c.in-Ok-order.ensures.order some (has_no_room (omega (arith, c.if-len-order.true, c.len.ensures))))
 
 pub returns : goal.returns
 returns c =
-    let header = c.in-Ok-accepted.ensures.header in
-    let offered = c.in-Ok.ensures.header in
     let order = vec_items c.in-Ok-order.positions in
     let some : order ≢ [] = λ empty. absurd (grind (arith, nat_tests, ap length empty, c.if-is_empty.ensures)) in
     let IsHeld = OrderIs c.args.is_there c.args.accept.now c.args.offers.now c.args.order.now 0 in
     let length_is : c.len-3.result ≡ length order =
     omega (arith, c.len-3.ensures, c.deref.ensures.len, ap length c.deref.ensures.value) in
-    let answer : IsHeld (written order c.args.order.now, length order) = are_offers header.0 offered.0 _ _ header.1 offered.1
-    (none_bad c.args.offers.now c.in-Ok.entries.first offered.0 c.in-Ok.ensures.first c.in_default-first.not-Some offered.3)
-    (order_is order _ _ (in_order offered.0 _ header.2 (c.ranges-2.ensures ∙ ap (λ (it : Header). it.ranges) offered.2)
-    c.in-Ok-order.ensures.order refl) some (has_room _ _ (omega (arith, c.if-len-order.false, c.len.ensures)) holds)) in
+    let answer : IsHeld (written order c.args.order.now, length order) =
+    of_good c.in-Ok-accepted.ensures.header c.in-Ok.ensures.header c.ranges-2.ensures c.in-Ok.ensures.first c.in_default-first.not-Some
+    (order_is order _ _ c.in-Ok-order.ensures.order some (has_room _ _ (omega (arith, c.if-len-order.false, c.len.ensures)) holds)) in
     let places : written order c.args.order.now ≡ c.copy_from_slice.new.self ++ drop c.len-2.result c.args.order.now =
     cc (c.copy_from_slice.ensures.after, c.deref.ensures.value, c.len-2.ensures) in
     subst (λ count. IsHeld (c.copy_from_slice.new.self ++ drop c.len-2.result c.args.order.now, count)) (sym length_is)
