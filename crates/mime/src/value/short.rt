@@ -1,6 +1,6 @@
 //! A short kept text, which is stored in the `Mime` itself, so neither making nor cloning it allocates.
 
-ghost use Rattle.std.specs.Prelude.{◌≡◌, ◌<◌, ◌≤◌, ◌+◌, ◌-◌, IfSome, None, Some, IsUtf8, length, take, drop, slice_get, replicate};
+ghost use Rattle.std.specs.Prelude.{◌≡◌, ◌<◌, ◌≤◌, ◌-◌, IfSome, None, Some, IsUtf8, length, take, drop, slice_get, replicate};
 ghost use Rattle.mime_search.specs.Differences.{DifferAt};
 ghost use Rattle.mime.specs.Bytes.{semicolon_byte};
 ghost use Rattle.mime.specs.Values.{lowered};
