@@ -2,11 +2,11 @@
 use Rattle.std.proofs.Common.{◌≡◌, ◌≢◌, ℕ, ◌⊎◌, inl, inr, List, [], ◌∷◌, refl, sym, ap, ◌∙◌, subst, arith, ⊎_elim, codes, rules}
 use Rattle.std.specs.Prelude.{bytes_eq}
 use Rattle.std.specs.{List.list_all, Option.option_map, Str.IsUtf8}
-use Rattle.std.proofs.{lemmas.Bool.cases_Bool, lemmas.Bool.true≢false, lemmas.Option.same_Some, lemmas.Option.none-some, lemmas.Slice.Eq.bytes_eq-Decides, lemmas.Str.utf8_valid_len-IsValidUpTo}
+use Rattle.std.proofs.{lemmas.Bool.cases_Bool, lemmas.Bool.true≢false, lemmas.Option.same_Some, lemmas.Option.none-some, lemmas.Slice.Eq.bytes_eq-Decides}
 use Rattle.mime.specs.{Bytes.is_quoted_byte, Grammar.IsToken, Values.MediaType, Values.type_of, declared.scan.fault.ParseError.ParseError}
 use Rattle.mime.proofs.HandedOut.{kept_is_safe, kept_is_read}
-use Rattle.mime_http.specs.{Boundary.IsBoundary, Boundary.IsBoundaryOf, HttpMediaType.HttpReads, HttpList.IsPrinted, HttpFaults.IsHttpFault, HttpFaults.HttpExplains, Ranges.first_value, Unescaped.unescaped, Written.escaped, Written.with_pairs, declared.value.FieldError.FieldError, declared.value.FieldError.TheVariants.NotUtf8, declared.value.FieldError.TheVariants.Invalid, declared.value.FieldError.TheVariants.NoMemory}
-use Rattle.mime_http.proofs.HandedOut.{utf8_or_not, read_or_not, content_of_escaped, one_printed_text, printed_is_read, no_fault, one_http_fault, with_pair_is_read}
+use Rattle.mime_http.specs.{Boundary.IsBoundary, Boundary.IsBoundaryOf, HttpMediaType.HttpReads, HttpList.IsPrinted, HttpFaults.IsHttpFault, HttpFaults.HttpExplains, Ranges.first_value, Unescaped.unescaped, Written.escaped, Written.with_pairs, declared.value.FieldError.FieldError, declared.value.FieldError.TheVariants.NotUtf8, declared.value.FieldError.TheVariants.Invalid}
+use Rattle.mime_http.proofs.HandedOut.{utf8_or_not, read_or_not, content_of_escaped, one_printed_text, printed_is_read, no_field_error, one_field_error, one_http_fault, with_pair_is_read}
 use Rattle.mime_c.specs.{Strings.ComeBack, Strings.string_in, Answers.number_of, Answers.number_of_error, ParameterAnswers.HasBoundary, ParameterAnswers.boundary_is, ParameterAnswers.has_no_boundary, ParameterAnswers.boundary_has_no_memory, ParameterAnswers.IsParameter, ParameterAnswers.with_parameter, ParameterAnswers.IsSet, ParameterAnswers.is_set, ParameterAnswers.isnt_parameter, Laws.HasOne, Laws.HeaderReadsToOne, Laws.BoundaryIsOne, Laws.UnescapesToOne, Laws.SetsToOne, declared.TheConstants.MIME_NO_MEMORY}
 use Rattle.mime_c.proofs.{OneOutcome.one_is, OneOutcome.one_success, OneOutcome.one_in_room, OneOutcome.IsReading, OneOutcome.one_of_reading, OneOutcome.one_writing, OneOutcome.valid_up_to, HeaderOutcome.some_or_none, HeaderRoom.read_anew, NoZero.texts_come_back, ParameterRoom.set_comes_back, ParameterRoom.boundary_comes_back}
 
@@ -24,22 +24,14 @@ module _ (value : List ℕ) where
   -- A value that is read has no error.
   never_both : (media : MediaType) (error : FieldError) → number_of_error error ≢ MIME_NO_MEMORY → IsRead value media
       → ¬ (HttpExplains value error)
-  never_both media (NotUtf8 pos) some is why = why.0 is.0
-  never_both media (Invalid fault) some is why = no_fault value fault (media, is.1) why.1
-  never_both media NoMemory some is why = some refl
+  never_both media error some is =
+      no_field_error value error is.0 (media, is.1) (λ same. some (ap number_of_error same))
 
   -- A value that isn't read has one error.
   one_fault_of : (one two : FieldError) → number_of_error one ≢ MIME_NO_MEMORY → number_of_error two ≢ MIME_NO_MEMORY
       → HttpExplains value one → HttpExplains value two → two ≡ one
-  one_fault_of NoMemory two h k why too = absurd (h refl)
-  one_fault_of one NoMemory h k why too = absurd (k refl)
-  one_fault_of (NotUtf8 pos) (NotUtf8 other) h k why too =
-      ap NotUtf8 (sym (utf8_valid_len-IsValidUpTo value other too.1) ∙ utf8_valid_len-IsValidUpTo value pos why.1)
-  one_fault_of (NotUtf8 pos) (Invalid fault) h k why too = absurd (why.0 too.0)
-  one_fault_of (Invalid fault) (NotUtf8 pos) h k why too = absurd (too.0 why.0)
-  one_fault_of (Invalid fault) (Invalid other) h k why too =
-      let only = (one_http_fault value (λ is. no_fault value fault is why.1)).2 in
-      ap Invalid (only other too.1 ∙ sym (only fault why.1))
+  one_fault_of one two h k why too =
+      one_field_error value two one (λ same. k (ap number_of_error same)) (λ same. h (ap number_of_error same)) too why
 
   -- A value is read, or has an error.
   value_or_error : ((media : MediaType) × IsRead value media)
