@@ -190,7 +190,8 @@ lowered_within-parameter count n p rest white well =
     lowered_within-first (suc count) list (record {
       prefix = n ++ head_of p;
       middle = end_of p ++ (semicolon_byte ∷ []);
-      parts = subst (λ (c : PairCut). list ≡ (n ++ head_of p) ++ (c.value ++ ((end_of p ++ (semicolon_byte ∷ [])) ++ c.rest))) (sym cut) parts;
+      parts = subst (λ (c : PairCut). list ≡ (n ++ head_of p) ++ (c.value ++ ((end_of p ++ (semicolon_byte ∷ [])) ++ c.rest)))
+          (sym cut) parts;
       value_start = ap (λ (c : PairCut). c.value_start) cut;
     })
     ∙ ap (λ (c : PairCut). (lowered (n ++ head_of p) ++ (lowered_value c.name c.value ++ (end_of p ++ (semicolon_byte ∷ []))))

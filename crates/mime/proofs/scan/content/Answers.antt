@@ -4,7 +4,9 @@ use Rattle.mime.proofs.ScanLemmas.Passing.{passes_to, reached, taking_none, taki
 use Rattle.mime.proofs.scan.content.Goals as goal
 
 pub loop-stop-init : goal.loop-stop-init
-loop-stop-init c = (_, taking_none _, passes_to _ (λ _ is. is) c.skip_quoted_text.ensures (reached c.quoted_text-stop.ensures) c.quoted_text-stop.ensures.stopped)
+loop-stop-init c =
+    let passes = c.quoted_text-stop.ensures in
+    (_, taking_none _, passes_to _ (λ _ is. is) c.skip_quoted_text.ensures (reached passes) passes.stopped)
 
 pub returns-in_err-paired : goal.returns-in_err-paired
 returns-in_err-paired c =
