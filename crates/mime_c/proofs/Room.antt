@@ -77,7 +77,8 @@ lengths_of text media reads =
     let kept = keeps.is_kept.has in
     let size = ap length kept.spelled in
     subst (Lengths text) (sym (sym reads.valued ∙ keeps.valued ∙ value_of-lowering kept.tree ∙ ap value_of_low keeps.is_kept.low))
-    (lengths-low text kept.tree (omega (arith, length-kept (positions_of tree).pair_count (positions_of tree).semicolon (text_of tree))) some)
+    (lengths-low text kept.tree
+    (omega (arith, length-kept (positions_of tree).pair_count (positions_of tree).semicolon (text_of tree))) some)
 
 -- The strings of a media type are at most twice as many bytes as the text that is read as it, and two.
 pub texts_fit : (text : List ℕ) (media : MediaType) → Reads text media → length (strings (texts_of media)) ≤ 2 * length text + 2
