@@ -31,10 +31,7 @@ seen i = record { text = i.text.now; left = i.left.now; out_of_memory = i.out_of
 -- the search begins
 pub looking-first : (old : Iteration) → IsLooking old old
 looking-first old = record {
-  passed = record {
-    carries = λ some items rest cut. cut;
-    ends = λ end. ([], subst (λ t. Cut t [] []) (sym end) empty-cut);
-  };
+  passed = record { carries = λ some items rest cut. cut; ends = λ end. ([], subst (λ t. Cut t [] []) (sym end) empty-cut) };
   out_of_memory = refl;
   text = refl;
   still = λ ended. refl;

@@ -71,8 +71,7 @@ IsWellFormed-lowered_tree tree well = (
 -- a kept value is its own lowercased form
 pub lowered_value-lowered : (name value : List ℕ) → lowered_value (lowered name) (lowered_value name value) ≡ lowered_value name value
 lowered_value-lowered name value =
-    rw (lowered-lowered name)
-    (elim (is_charset name) as
+    rw (lowered-lowered name) (elim (is_charset name) as
     (λ b. cond b (lowered (cond b (lowered value) value)) (cond b (lowered value) value) ≡ cond b (lowered value) value)
     [ true ↦ lowered-lowered value | false ↦ refl ])
 
@@ -132,5 +131,4 @@ positions_of-lowered_tree tree =
     let plus = last_plus-lowered (length tree.top + 2) (drop 1 tree.sub) in
     let semicolon = elim tree.tail as (λ tail. semicolon_of at (lowered_tail tail)
     ≡ semicolon_of at tail) [ no_list ↦ refl | listed list ↦ refl ] in
-    rw (length-lowered tree.top, length-lowered tree.sub, ← lowered-drop 1 tree.sub)
-    (cc (semicolon, length-tail_lowered tree.tail, plus))
+    rw (length-lowered tree.top, length-lowered tree.sub, ← lowered-drop 1 tree.sub) (cc (semicolon, length-tail_lowered tree.tail, plus))

@@ -29,8 +29,7 @@ in_ranges class wider one two three all b inside =
 -- a search for the end of common token bytes passes only token bytes other than the plus
 pub are_token_bytes : (b : ℕ) → not (is_stop TOKEN_STOPS b) ≡ true → is_token_except_plus b ≡ true
 unfolding is_token_byte
-are_token_bytes b go =
-    in_ranges TOKEN_STOPS is_token_except_plus (omega arith) (omega arith) (omega arith) refl b (not-true _ go)
+are_token_bytes b go = in_ranges TOKEN_STOPS is_token_except_plus (omega arith) (omega arith) (omega arith) refl b (not-true _ go)
 
 -- a search for the end of quoted text passes only bytes of quoted text
 pub are_quoted_text : (b : ℕ) → not (is_stop TEXT_STOPS b) ≡ true → is_quoted_text_byte b ≡ true

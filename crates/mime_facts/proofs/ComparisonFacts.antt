@@ -42,10 +42,8 @@ equal_values = (
 
 -- a list that is a prefix of another is before it; otherwise the first items that differ decide; no list is before itself
 lists_before :
-    IsListBefore (λ (x y : ℕ). x < y) [] (1 ∷ [])
-    × IsListBefore (λ (x y : ℕ). x < y) (1 ∷ 2 ∷ []) (1 ∷ 3 ∷ [])
-    × ¬ (IsListBefore (λ (x y : ℕ). x < y) [] [])
-    × ¬ (IsListBefore (λ (x y : ℕ). x < y) (1 ∷ []) [])
+    IsListBefore (λ (x y : ℕ). x < y) [] (1 ∷ []) × IsListBefore (λ (x y : ℕ). x < y) (1 ∷ 2 ∷ []) (1 ∷ 3 ∷ [])
+    × ¬ (IsListBefore (λ (x y : ℕ). x < y) [] []) × ¬ (IsListBefore (λ (x y : ℕ). x < y) (1 ∷ []) [])
 lists_before = (tt, inr (refl, inl (omega arith)), (λ is. is), λ is. is)
 
 -- a text that is a prefix of another is before it; otherwise the first byte in which they differ decides
@@ -79,11 +77,7 @@ lesser_name_first (inr rest) = differ (codes "q") (codes "p") refl rest.0
 
 -- values are ordered by their essences first, and one without parameters is before those with some
 values_before : Before plain_y other_value × Before plain_value plain_x × Before plain_x plain_y
-values_before = (
-  inl (inr (refl, inr (refl, inl (omega arith)))),
-  inr (refl, tt),
-  inr (refl, inl (inr (refl, inl (omega arith)))),
-)
+values_before = (inl (inr (refl, inr (refl, inl (omega arith)))), inr (refl, tt), inr (refl, inl (inr (refl, inl (omega arith)))))
 
 -- A value without parameters is before one with the same essence and parameters.
 bare_first : ¬ (Before plain_x plain_value)
@@ -103,12 +97,9 @@ no_orders : ¬ (IsOrderOf plain_x plain_value Less) × ¬ (IsOrderOf plain_x pla
 no_orders = (bare_first, (λ is. let pairs = is.1 in absurd cc), bare_first)
 
 -- the order as a function says the same
-answers :
-    (pair_cmp (codes "p", codes "y") (codes "q", codes "x") ≡ Less)
-    × (pair_cmp (codes "p", codes "y") (codes "p", codes "x") ≡ Greater)
-    × (media_cmp plain_y other_value ≡ Less)
-    × (media_cmp quoted_x plain_x ≡ Equal)
-    × (media_cmp plain_x plain_value ≡ Greater)
+answers : (pair_cmp (codes "p", codes "y") (codes "q", codes "x") ≡ Less)
+    × (pair_cmp (codes "p", codes "y") (codes "p", codes "x") ≡ Greater) × (media_cmp plain_y other_value ≡ Less)
+    × (media_cmp quoted_x plain_x ≡ Equal) × (media_cmp plain_x plain_value ≡ Greater)
 answers = (refl, refl, refl, refl, refl)
 
 -- ---- a text against a value

@@ -17,9 +17,7 @@ beginnings = (tt, refl, λ is. true≢false is)
 
 -- one character is all of its bytes, and no more
 characters :
-    IsCharacter (195 ∷ 169 ∷ []) (codes "b")
-    × ¬ (IsCharacter [] (codes "b"))
-    × ¬ (IsCharacter (195 ∷ []) (169 ∷ []))
+    IsCharacter (195 ∷ 169 ∷ []) (codes "b") × ¬ (IsCharacter [] (codes "b")) × ¬ (IsCharacter (195 ∷ []) (169 ∷ []))
     × ¬ (IsCharacter (codes "ab") [])
 characters = ((refl, refl), (λ is. is), (λ is. true≢false is.1), λ is. false≢true is.0)
 
@@ -80,8 +78,7 @@ list_items = bad (codes "e") ∷ good (codes "A/B") plain_value ∷ []
 
 -- The cut of `e,A/B` has a bad piece and a value, and no rest.
 pub cut_of_list : Cut (codes "e,A/B") list_items []
-cut_of_list =
-    goes_on _ _ _ _ (bad (codes "e") ∷ []) _ _ split_at_comma item_of_e (whole (codes "A/B") plain_value reads_capitals)
+cut_of_list = goes_on _ _ _ _ (bad (codes "e") ∷ []) _ _ split_at_comma item_of_e (whole (codes "A/B") plain_value reads_capitals)
 
 -- the cut of `e,A/B` has no other items
 pub no_item_left_out : ¬ (Cut (codes "e,A/B") (good (codes "A/B") plain_value ∷ []) [])
@@ -114,8 +111,7 @@ pub pieces_of_list : Pieces (codes "e,A/B") ((codes "e", codes ",") ∷ []) (cod
 pieces_of_list = next _ _ _ _ [] (codes "A/B") split_at_comma (last (codes "A/B") (accepted_is_viable _ (plain_value, reads_capitals)))
 
 -- The pieces of `e,A/B` write the text, in five steps.
-written_pieces :
-    (text_of_pieces ((codes "e", codes ",") ∷ []) (codes "A/B") ≡ codes "e,A/B")
+written_pieces : (text_of_pieces ((codes "e", codes ",") ∷ []) (codes "A/B") ≡ codes "e,A/B")
     × (steps_of ((codes "e", codes ",") ∷ []) (codes "A/B") ≡ 5)
 written_pieces = (refl, refl)
 
@@ -138,9 +134,7 @@ rests : (items_of_rest [] ≡ []) × (items_of_rest (codes "e") ≡ bad (codes "
 rests = (refl, refl)
 
 -- kept texts are joined by a comma and a space
-joined_values :
-    (joined [] ≡ [])
-    × (joined (plain_value ∷ plain_value ∷ []) ≡ codes "a/b, a/b")
+joined_values : (joined [] ≡ []) × (joined (plain_value ∷ plain_value ∷ []) ≡ codes "a/b, a/b")
     × (kept_item plain_value ≡ good (codes "a/b") plain_value)
 joined_values = (refl, refl, refl)
 

@@ -22,16 +22,10 @@ prefix_of_type = (
 )
 
 -- what completes a text, and what it must end in
-completions :
-    (completion_of MissingSlash ≡ Some (codes "x/x"))
-    × (completion_of MissingSubtype ≡ Some (codes "x"))
-    × (completion_of MissingEqual ≡ Some (codes "=x"))
-    × (completion_of MissingValue ≡ Some (codes "x"))
-    × (completion_of MissingQuote ≡ Some (codes "x\""))
-    × (completion_of (InvalidToken 1 32) ≡ None)
-    × (completion_of NoMemory ≡ None)
-    × (last_byte_of MissingSubtype ≡ Some 47)
-    × (last_byte_of MissingValue ≡ Some 61)
+completions : (completion_of MissingSlash ≡ Some (codes "x/x")) × (completion_of MissingSubtype ≡ Some (codes "x"))
+    × (completion_of MissingEqual ≡ Some (codes "=x")) × (completion_of MissingValue ≡ Some (codes "x"))
+    × (completion_of MissingQuote ≡ Some (codes "x\"")) × (completion_of (InvalidToken 1 32) ≡ None)
+    × (completion_of NoMemory ≡ None) × (last_byte_of MissingSubtype ≡ Some 47) × (last_byte_of MissingValue ≡ Some 61)
     × (last_byte_of MissingEqual ≡ None)
 completions = (refl, refl, refl, refl, refl, refl, refl, refl, refl, refl)
 
@@ -64,9 +58,7 @@ e_is_closed is = absurd (cc (lacks_alone (codes "e") MissingSlash MissingQuote e
 
 -- what lacks a subtype ends in its slash, and what lacks a value ends in its equals sign; an accepted text lacks nothing
 what_is_lacking :
-    Lacks (codes "text/") MissingSubtype
-    × ¬ (Lacks (codes "text/") MissingValue)
-    × ¬ (Lacks (codes "a/b;p=") MissingSubtype)
+    Lacks (codes "text/") MissingSubtype × ¬ (Lacks (codes "text/") MissingValue) × ¬ (Lacks (codes "a/b;p=") MissingSubtype)
     × ¬ (Lacks (codes "A/B") MissingSlash)
 unfolding is_token_byte
 what_is_lacking = (

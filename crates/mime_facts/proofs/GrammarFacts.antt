@@ -8,22 +8,19 @@ use Rattle.mime.proofs.GrammarLemmas.Content.{IsContent-taken, content-taken, co
 -- ---- bytes
 
 -- the token bytes of RFC 7230, and ASCII bytes that aren't
-token_bytes :
-    (list_all is_token_byte (codes "!#$%&'*+-.0123456789ABCDEFGHIJKLMNOPQRSTUVWXYZ^_`abcdefghijklmnopqrstuvwxyz|~") ≡ true)
+token_bytes : (list_all is_token_byte (codes "!#$%&'*+-.0123456789ABCDEFGHIJKLMNOPQRSTUVWXYZ^_`abcdefghijklmnopqrstuvwxyz|~") ≡ true)
     × (list_any is_token_byte (0 ∷ 9 ∷ 31 ∷ 127 ∷ 128 ∷ 255 ∷ codes " \"(),/:;<=>?@[\\]{}") ≡ false)
 unfolding is_token_byte
 token_bytes = (refl, refl)
 
 -- bytes that a backslash may precede, and others
-paired_bytes :
-    (list_all is_quoted_byte (9 ∷ 32 ∷ 34 ∷ 92 ∷ 126 ∷ 128 ∷ 255 ∷ []) ≡ true)
+paired_bytes : (list_all is_quoted_byte (9 ∷ 32 ∷ 34 ∷ 92 ∷ 126 ∷ 128 ∷ 255 ∷ []) ≡ true)
     × (list_any is_quoted_byte (0 ∷ 8 ∷ 10 ∷ 13 ∷ 31 ∷ 127 ∷ 256 ∷ []) ≡ false)
 unfolding is_quoted_byte
 paired_bytes = (refl, refl)
 
 -- bytes that may occur in a quoted value without a backslash, and others
-quoted_text_bytes :
-    (list_all is_quoted_text_byte (9 ∷ 32 ∷ 33 ∷ 35 ∷ 59 ∷ 91 ∷ 93 ∷ 126 ∷ 128 ∷ 255 ∷ []) ≡ true)
+quoted_text_bytes : (list_all is_quoted_text_byte (9 ∷ 32 ∷ 33 ∷ 35 ∷ 59 ∷ 91 ∷ 93 ∷ 126 ∷ 128 ∷ 255 ∷ []) ≡ true)
     × (list_any is_quoted_text_byte (10 ∷ 34 ∷ 92 ∷ 127 ∷ []) ≡ false)
 unfolding is_quoted_byte
 quoted_text_bytes = (refl, refl)
@@ -31,8 +28,7 @@ quoted_text_bytes = (refl, refl)
 -- the bytes with a role of their own
 flags :
     slash_byte ∷ plus_byte ∷ semicolon_byte ∷ equals_byte ∷ quote_byte ∷ backslash_byte ∷ space_byte ∷ tab_byte
-    ∷ comma_byte ∷ []
-    ≡ codes "/+;=\"\\ \t,"
+    ∷ comma_byte ∷ [] ≡ codes "/+;=\"\\ \t,"
 flags = refl
 
 -- a space and a tab are spaces, a line feed and a letter aren't
@@ -50,12 +46,9 @@ abbrev two_parameters : Parameters
 two_parameters = more (codes " ") (plain (codes "p") (codes "x")) (final [] (quoted (codes "q") (codes "\\y") (codes " ")))
 
 -- the texts of a parameter, of lists, of tails and of a tree
-texts :
-    (text_of_parameter (quoted (codes "q") (codes "\\y") (codes " ")) ≡ codes "q=\"\\y\" ")
-    × (text_of_list (blank (codes "  ")) ≡ codes "  ")
-    × (text_of_list two_parameters ≡ codes " p=x;q=\"\\y\" ")
-    × (text_of_tail no_list ≡ [])
-    × (text_of_tail (listed (blank [])) ≡ codes ";")
+texts : (text_of_parameter (quoted (codes "q") (codes "\\y") (codes " ")) ≡ codes "q=\"\\y\" ")
+    × (text_of_list (blank (codes "  ")) ≡ codes "  ") × (text_of_list two_parameters ≡ codes " p=x;q=\"\\y\" ")
+    × (text_of_tail no_list ≡ []) × (text_of_tail (listed (blank [])) ≡ codes ";")
     × (text_of (record { top = codes "a"; sub = codes "b"; tail = listed two_parameters }) ≡ codes "a/b; p=x;q=\"\\y\" ")
 texts = (refl, refl, refl, refl, refl, refl)
 
@@ -78,24 +71,15 @@ contents = (
 
 -- a plain value isn't empty, and a quoted one may be; only spaces may follow its quotes
 parameters :
-    IsParameter (plain (codes "p") (codes "x"))
-    × IsParameter (quoted (codes "p") [] (codes " "))
-    × ¬ (IsParameter (plain (codes "p") []))
-    × ¬ (IsParameter (quoted [] (codes "x") []))
+    IsParameter (plain (codes "p") (codes "x")) × IsParameter (quoted (codes "p") [] (codes " "))
+    × ¬ (IsParameter (plain (codes "p") [])) × ¬ (IsParameter (quoted [] (codes "x") []))
     × ¬ (IsParameter (quoted (codes "p") [] (codes "x")))
 unfolding is_token_byte is_quoted_byte
-parameters = (
-  (refl, refl),
-  (refl, IsContent-taken [] refl refl, refl),
-  (λ is. is.1),
-  (λ is. is.0),
-  λ is. false≢true is.2,
-)
+parameters = ((refl, refl), (refl, IsContent-taken [] refl refl, refl), (λ is. is.1), (λ is. is.0), λ is. false≢true is.2)
 
 -- the spaces before a parameter are spaces, and the rest of its list is well formed too
 lists :
-    AreParameters two_parameters
-    × ¬ (AreParameters (blank (codes "x")))
+    AreParameters two_parameters × ¬ (AreParameters (blank (codes "x")))
     × ¬ (AreParameters (final (codes "x") (plain (codes "p") (codes "x"))))
     × ¬ (AreParameters (more [] (plain (codes "p") (codes "x")) (blank (codes "x"))))
 unfolding is_token_byte is_quoted_byte
@@ -108,8 +92,7 @@ lists = (
 
 -- type and subtype are tokens, and the list is well formed
 trees :
-    IsTail no_list
-    × IsWellFormed (record { top = codes "a"; sub = codes "b"; tail = no_list })
+    IsTail no_list × IsWellFormed (record { top = codes "a"; sub = codes "b"; tail = no_list })
     × ¬ (IsWellFormed (record { top = []; sub = codes "b"; tail = no_list }))
     × ¬ (IsWellFormed (record { top = codes "a"; sub = []; tail = no_list }))
     × ¬ (IsWellFormed (record { top = codes "a"; sub = codes "b"; tail = listed (blank (codes "x")) }))

@@ -21,11 +21,9 @@ abbrev pair_fed : MediaType → List ℕ → List ℕ
 pair_fed value text = concat (media_input value ++ fed.str text)
 
 -- a value and a text feed what no other value and text feed, even if both write the same bytes in a row
-fed_with_text :
-    (pair_fed longer_value (codes "c") ≢ pair_fed plain_value (codes "xc"))
+fed_with_text : (pair_fed longer_value (codes "c") ≢ pair_fed plain_value (codes "xc"))
     × (pair_fed plain_x (codes "") ≢ pair_fed plain_value (codes "px"))
-    × (concat (media_input plain_x) ≢ concat (media_input plain_y))
-    × (concat (media_input quoted_x) ≡ concat (media_input plain_x))
+    × (concat (media_input plain_x) ≢ concat (media_input plain_y)) × (concat (media_input quoted_x) ≡ concat (media_input plain_x))
 unfolding fed.le_bytes
 fed_with_text = (
   differ (pair_fed longer_value (codes "c")) (pair_fed plain_value (codes "xc")) refl,
@@ -50,10 +48,7 @@ read_longer = (codes "a/bx", (codes "a/bx", (refl, refl)), reads_longer)
 not_read_in_utf8 :
     ¬ (IsReadInUtf8 (record plain_value { kept = codes "A/B" }))
     × ¬ (IsReadInUtf8 (record plain_value { pairs = (codes "p", 255 ∷ []) ∷ [] }))
-not_read_in_utf8 = (
-  (λ is. keeps_no_capitals (kept_is_read is.0 _ is.2)),
-  λ is. false≢true (fed-read _ is).pairs.0.1,
-)
+not_read_in_utf8 = ((λ is. keeps_no_capitals (kept_is_read is.0 _ is.2)), λ is. false≢true (fed-read _ is).pairs.0.1)
 
 -- ---- equal values
 

@@ -74,19 +74,11 @@ which_pairs_are_safe = ((refl, IsContent-taken [] refl refl), (λ is. is.0), λ 
 
 -- a value with a line feed, without a type or a subtype, with a space in its suffix, or with a parameter without a name isn't safe
 unsafe_values :
-    ¬ (IsSafe (record plain_value { kept = codes "a/b\n" }))
-    × ¬ (IsSafe (record plain_value { slash = 0 }))
-    × ¬ (IsSafe (record plain_value { essence = codes "a/" }))
-    × ¬ (IsSafe (record two_pluses { essence = codes "a/b+c+ " }))
+    ¬ (IsSafe (record plain_value { kept = codes "a/b\n" })) × ¬ (IsSafe (record plain_value { slash = 0 }))
+    × ¬ (IsSafe (record plain_value { essence = codes "a/" })) × ¬ (IsSafe (record two_pluses { essence = codes "a/b+c+ " }))
     × ¬ (IsSafe (record plain_value { pairs = ([], []) ∷ [] }))
 unfolding is_token_byte is_quoted_byte
-unsafe_values = (
-  (λ is. false≢true is.kept),
-  (λ is. is.top),
-  (λ is. is.sub),
-  (λ is. false≢true is.suffix),
-  λ is. is.pairs.0.0,
-)
+unsafe_values = ((λ is. false≢true is.kept), (λ is. is.top), (λ is. is.sub), (λ is. false≢true is.suffix), λ is. is.pairs.0.0)
 
 -- what is read of `A/B;P="x"`, and of `a/b+c+d`, is safe
 safe_values : KeptIsSafe → IsSafe quoted_x × IsSafe two_pluses
@@ -95,8 +87,7 @@ safe_values law = (law _ quoted_x reads_quoted, law _ two_pluses plus_twice)
 -- ---- a parameter
 
 -- a parameter is written in quotes, and is the only one
-written_parameter :
-    (text_with_parameter (codes "a/b") (codes "P") (codes "x y") ≡ codes "a/b; P=\"x y\"")
+written_parameter : (text_with_parameter (codes "a/b") (codes "P") (codes "x y") ≡ codes "a/b; P=\"x y\"")
     × (with_parameter (media (codes "a/b") 1 None ((codes "q", []) ∷ []) []) (codes "p") (codes "x")
     ≡ media (codes "a/b") 1 None ((codes "p", codes "x") ∷ []) (codes "a/b; p=\"x\""))
 written_parameter = (refl, refl)

@@ -114,9 +114,7 @@ viable_in_utf8 = (
 
 -- the longest of them has one byte of `a b`, no fewer, and no more; and no more than the text has
 prefixes_in_utf8 :
-    IsLongestPrefixInUtf8 (codes "a b") 1
-    × ¬ (IsLongestPrefixInUtf8 (codes "a b") 0)
-    × ¬ (IsLongestPrefixInUtf8 (codes "a b") 3)
+    IsLongestPrefixInUtf8 (codes "a b") 1 × ¬ (IsLongestPrefixInUtf8 (codes "a b") 0) × ¬ (IsLongestPrefixInUtf8 (codes "a b") 3)
     × ¬ (IsLongestPrefixInUtf8 (codes "a") 2)
 prefixes_in_utf8 = (
   record {
@@ -159,8 +157,7 @@ bare_text law =
 
 -- A kept text is a value exactly if its own value is the same.
 text_of_other : KeptTextIs → TextIs plain_x (codes "a/b;p=\"x\"") × (TextIs plain_y (codes "a/b;p=\"x\"") → Same plain_y quoted_x)
-text_of_other law =
-    ((law _ quoted_x reads_quoted plain_x).1 (refl, refl), λ is. (law _ quoted_x reads_quoted plain_y).0 is)
+text_of_other law = ((law _ quoted_x reads_quoted plain_x).1 (refl, refl), λ is. (law _ quoted_x reads_quoted plain_y).0 is)
 
 -- Texts that differ first in the value are read as different values.
 different_texts : FirstDifferenceDecides → (first second : MediaType) → Reads (codes "a/b") first → Reads (codes "A/c") second
@@ -170,8 +167,7 @@ different_texts law first second reads also = law (codes "a/b") (codes "A/c") fi
 -- A key has one answer.
 answer_of_key : (Accepts : List ℕ → Bool → Type 0) → OneAnswer Accepts → (first second : Option (List ℕ × Bool))
     → IsFirstAccepted Accepts (exact_item ∷ charset_item ∷ []) first
-    → IsFirstAccepted Accepts (exact_item ∷ charset_item ∷ []) second
-    → first ≡ second
+    → IsFirstAccepted Accepts (exact_item ∷ charset_item ∷ []) second → first ≡ second
 answer_of_key Accepts law first second is also = law (exact_item ∷ charset_item ∷ []) second first also is
 
 -- each name is accepted, or isn't
@@ -241,8 +237,7 @@ run_of_list law first given is drains = law first given drains list_items [] (su
 
 -- A run over `e,e,A/B` yields the first piece, and then the items after the comma.
 run_after_comma : CommaContainsOnRuns → (first : Iteration) (given : List (Result OwnedMedia Bad))
-    → first.left ≡ codes "e,e,A/B" → Drains IsNext first given
-    → AreGiven given (bad (codes "e") ∷ list_items)
+    → first.left ≡ codes "e,e,A/B" → Drains IsNext first given → AreGiven given (bad (codes "e") ∷ list_items)
 run_after_comma law first given is drains =
     law (codes "e") (codes "e,A/B") [] _ (codes "e") [] rest_of_text e_is_closed cut_of_list first given is drains
 

@@ -40,8 +40,7 @@ ends = (refl, differ (codes "e") [] refl)
 
 -- the first item of `e,A/B` is `e`, and not `A/B`
 first_items :
-    IsFirstItem (codes "e,A/B") (bad (codes "e")) (codes "A/B")
-    × ¬ (IsFirstItem (codes "e,A/B") (good (codes "A/B") plain_value) [])
+    IsFirstItem (codes "e,A/B") (bad (codes "e")) (codes "A/B") × ¬ (IsFirstItem (codes "e,A/B") (good (codes "A/B") plain_value) [])
 first_items = (
   (λ items rest cut. goes_on _ _ _ _ (bad (codes "e") ∷ []) items rest split_at_comma item_of_e cut),
   λ first. no_item_left_out (first [] [] empty-cut),
@@ -53,14 +52,7 @@ no_items = ((codes "e", rest_of_text), λ none. absurd (omega (arith, ap length 
 
 -- a media type of 41 bytes needs memory
 needs_memory : FirstNeedsMemory text_of_41
-needs_memory = record {
-  piece = text_of_41;
-  value = _;
-  items = [];
-  rest = [];
-  cut = whole text_of_41 _ reads_41;
-  long = omega arith;
-}
+needs_memory = record { piece = text_of_41; value = _; items = []; rest = []; cut = whole text_of_41 _ reads_41; long = omega arith }
 
 -- a bad piece needs no memory
 bad_needs_none : ¬ (FirstNeedsMemory (codes "e,A/B"))
@@ -136,8 +128,7 @@ steps_are_few next = absurd (omega (arith, next.few))
 
 -- at the end the steps are those of the text's cut
 steps_are_exact : ¬ (IsNext (begun (codes "e")) None (ended_run (codes "e") 0))
-steps_are_exact next =
-    absurd (omega (arith, takes_unique (codes "e") 0 1 (next.exact refl refl) (takes-viable (codes "e") e_is_viable)))
+steps_are_exact next = absurd (omega (arith, takes_unique (codes "e") 0 1 (next.exact refl refl) (takes-viable (codes "e") e_is_viable)))
 
 -- after the end none is given
 stays_ended : (reason : Bad) → ¬ (IsNext (ended_run (codes "e") 1) (Some (Err reason)) (ended_run (codes "e") 1))

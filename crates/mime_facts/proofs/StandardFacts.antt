@@ -58,8 +58,7 @@ kept_end =
 -- a quoted value may be empty
 no_content : Reads (codes "a/b;p=\"\"") (media (codes "a/b") 1 None ((codes "p", []) ∷ []) (codes "a/b;p=\"\""))
 unfolding is_token_byte is_quoted_byte
-no_content =
-    reads (codes "a") (codes "b") (listed (final [] (quoted (codes "p") [] []))) (refl, refl, (refl, (refl, no_byte, refl)))
+no_content = reads (codes "a") (codes "b") (listed (final [] (quoted (codes "p") [] []))) (refl, refl, (refl, (refl, no_byte, refl)))
 
 -- a backslash pairs a quote, and the value keeps both
 paired_quote : Reads (codes "a/b;p=\"\\\"x\"") (media (codes "a/b") 1 None ((codes "p", codes "\\\"x") ∷ []) (codes "a/b;p=\"\\\"x\""))

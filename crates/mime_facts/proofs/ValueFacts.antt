@@ -19,16 +19,12 @@ capitals_lowered : lowered (64 ∷ 65 ∷ 90 ∷ 91 ∷ 97 ∷ 195 ∷ 137 ∷ [
 capitals_lowered = refl
 
 -- `charset` in any case is the name whose value is lowercased
-charsets :
-    (is_charset (codes "CharSet") ≡ true)
-    × (is_charset (codes "charsets") ≡ false)
-    × (lowered_value (codes "CHARSET") (codes "UTF") ≡ codes "utf")
-    × (lowered_value (codes "boundary") (codes "UTF") ≡ codes "UTF")
+charsets : (is_charset (codes "CharSet") ≡ true) × (is_charset (codes "charsets") ≡ false)
+    × (lowered_value (codes "CHARSET") (codes "UTF") ≡ codes "utf") × (lowered_value (codes "boundary") (codes "UTF") ≡ codes "UTF")
 charsets = (refl, refl, refl, refl)
 
 -- Names are lowercased in a parameter, a list and a tail, and so is the value of a `charset`. Spaces and other values stay.
-names_lowered :
-    (lowered_parameter (plain (codes "P") (codes "X")) ≡ plain (codes "p") (codes "X"))
+names_lowered : (lowered_parameter (plain (codes "P") (codes "X")) ≡ plain (codes "p") (codes "X"))
     × (lowered_parameter (quoted (codes "Charset") (codes "\\X") (codes " ")) ≡ quoted (codes "charset") (codes "\\x") (codes " "))
     × (lowered_list (blank (codes " ")) ≡ blank (codes " "))
     × (lowered_list (final [] (plain (codes "P") (codes "X"))) ≡ final [] (plain (codes "p") (codes "X")))
@@ -44,26 +40,21 @@ capitals = tree_from_parts (codes "A") (codes "B+C")
 
 -- the lowercased form of `A/B+C` keeps the value under `P`, and all spaces
 lowered_capitals :
-    lowered_tree capitals
-    ≡ tree_from_parts (codes "a") (codes "b+c")
+    lowered_tree capitals ≡ tree_from_parts (codes "a") (codes "b+c")
     (listed (more (codes " ") (plain (codes "p") (codes "X")) (final [] (quoted (codes "charset") (codes "\\x") (codes " ")))))
 lowered_capitals = refl
 
 -- a pair is the name and the value, without quotes and with backslashes; a list has one for each parameter, in order
-pairs_of_parts :
-    (pair_of (plain (codes "p") (codes "x")) ≡ (codes "p", codes "x"))
-    × (pair_of (quoted (codes "p") (codes "\\x") (codes " ")) ≡ (codes "p", codes "\\x"))
-    × (pairs_of_list (blank (codes " ")) ≡ [])
+pairs_of_parts : (pair_of (plain (codes "p") (codes "x")) ≡ (codes "p", codes "x"))
+    × (pair_of (quoted (codes "p") (codes "\\x") (codes " ")) ≡ (codes "p", codes "\\x")) × (pairs_of_list (blank (codes " ")) ≡ [])
     × (pairs_of_list (more [] (plain (codes "q") (codes "y")) (final [] (plain (codes "p") (codes "x"))))
     ≡ (codes "q", codes "y") ∷ (codes "p", codes "x") ∷ [])
 pairs_of_parts = (refl, refl, refl, refl)
 
 -- the pairs of `A/B+C`, without quotes and with backslashes, the essence, and the kept text with a pair and without one
 parts_of_capitals :
-    (pairs_of_tail capitals.tail ≡ (codes "P", codes "X") ∷ (codes "Charset", codes "\\X") ∷ [])
-    × (pairs_of_tail no_list ≡ [])
-    × (essence_of capitals ≡ codes "A/B+C")
-    × (kept_text [] capitals ≡ codes "A/B+C")
+    (pairs_of_tail capitals.tail ≡ (codes "P", codes "X") ∷ (codes "Charset", codes "\\X") ∷ []) × (pairs_of_tail no_list ≡ [])
+    × (essence_of capitals ≡ codes "A/B+C") × (kept_text [] capitals ≡ codes "A/B+C")
     × (kept_text ((codes "p", codes "x") ∷ []) capitals ≡ codes "A/B+C; P=X;Charset=\"\\X\" ")
 parts_of_capitals = (refl, refl, refl, refl, refl)
 
@@ -84,8 +75,7 @@ reads_capitals = reads (codes "A") (codes "B") no_list (refl, refl, tt)
 
 -- a value keeps no capitals of its essence
 pub keeps_no_capitals : ¬ (Reads (codes "A/B") (media (codes "a/b") 1 None [] (codes "A/B")))
-keeps_no_capitals other =
-    differ (codes "a/b") (codes "A/B") refl (ap (λ (v : MediaType). v.kept) (one_reading _ _ _ reads_capitals other))
+keeps_no_capitals other = differ (codes "a/b") (codes "A/B") refl (ap (λ (v : MediaType). v.kept) (one_reading _ _ _ reads_capitals other))
 
 -- media types of 41 bytes and of 40
 abbrev pub text_of_41 : List ℕ
@@ -124,11 +114,9 @@ accepted_and_rejected = (
 )
 
 -- the parts of a value with a suffix, and of one without
-parts_of_value :
-    (type_of (media (codes "image/svg+xml") 5 (Some 9) [] []) ≡ codes "image")
+parts_of_value : (type_of (media (codes "image/svg+xml") 5 (Some 9) [] []) ≡ codes "image")
     × (subtype_of (media (codes "image/svg+xml") 5 (Some 9) [] []) ≡ codes "svg")
-    × (suffix_of (media (codes "image/svg+xml") 5 (Some 9) [] []) ≡ Some (codes "xml"))
-    × (subtype_of plain_value ≡ codes "b")
+    × (suffix_of (media (codes "image/svg+xml") 5 (Some 9) [] []) ≡ Some (codes "xml")) × (subtype_of plain_value ≡ codes "b")
     × (suffix_of plain_value ≡ None)
 parts_of_value = (refl, refl, refl, refl, refl)
 
@@ -186,35 +174,29 @@ first_answers =
 
 -- a name that ignores ASCII case is a text in any case, whichever of them has capitals; any other name is only its bytes
 names :
-    NameIs (codes "text") true (codes "Text")
-    × NameIs (codes "Text") true (codes "text")
-    × ¬ (NameIs (codes "text") true (codes "texts"))
-    × NameIs (codes "Abc") false (codes "Abc")
+    NameIs (codes "text") true (codes "Text") × NameIs (codes "Text") true (codes "text")
+    × ¬ (NameIs (codes "text") true (codes "texts")) × NameIs (codes "Abc") false (codes "Abc")
     × ¬ (NameIs (codes "Abc") false (codes "abc"))
 names = (refl, refl, differ (codes "text") (codes "texts") refl, refl, differ (codes "Abc") (codes "abc") refl)
 
 -- the constant names, from `*` on
 constant_names :
-    name_table
-    ≡ codes "*" ∷ codes "text" ∷ codes "image" ∷ codes "audio" ∷ codes "video"
+    name_table ≡ codes "*" ∷ codes "text" ∷ codes "image" ∷ codes "audio" ∷ codes "video"
     ∷ codes "application" ∷ codes "multipart" ∷ codes "message" ∷ codes "model" ∷ codes "font"
     ∷ codes "plain" ∷ codes "html" ∷ codes "xml" ∷ codes "javascript" ∷ codes "css" ∷ codes "csv"
     ∷ codes "event-stream" ∷ codes "vcard" ∷ codes "json" ∷ codes "x-www-form-urlencoded"
     ∷ codes "msgpack" ∷ codes "octet-stream" ∷ codes "pdf" ∷ codes "woff" ∷ codes "woff2"
     ∷ codes "form-data" ∷ codes "bmp" ∷ codes "gif" ∷ codes "jpeg" ∷ codes "png" ∷ codes "svg"
-    ∷ codes "basic" ∷ codes "mpeg" ∷ codes "mp4" ∷ codes "ogg"
-    ∷ codes "charset" ∷ codes "boundary" ∷ codes "utf-8" ∷ []
+    ∷ codes "basic" ∷ codes "mpeg" ∷ codes "mp4" ∷ codes "ogg" ∷ codes "charset" ∷ codes "boundary" ∷ codes "utf-8" ∷ []
 constant_names = refl
 
 -- the texts of the constant media types
 constant_texts :
     map atom_text
-    (STAR_STAR ∷ TEXT_STAR ∷ TEXT_PLAIN ∷ TEXT_PLAIN_UTF_8
-    ∷ TEXT_HTML ∷ TEXT_HTML_UTF_8 ∷ TEXT_CSS ∷ TEXT_CSS_UTF_8
+    (STAR_STAR ∷ TEXT_STAR ∷ TEXT_PLAIN ∷ TEXT_PLAIN_UTF_8 ∷ TEXT_HTML ∷ TEXT_HTML_UTF_8 ∷ TEXT_CSS ∷ TEXT_CSS_UTF_8
     ∷ TEXT_JAVASCRIPT ∷ TEXT_XML ∷ TEXT_EVENT_STREAM ∷ TEXT_CSV
     ∷ TEXT_CSV_UTF_8 ∷ TEXT_TAB_SEPARATED_VALUES ∷ TEXT_TAB_SEPARATED_VALUES_UTF_8 ∷ TEXT_VCARD
-    ∷ IMAGE_STAR ∷ IMAGE_JPEG ∷ IMAGE_GIF ∷ IMAGE_PNG
-    ∷ IMAGE_BMP ∷ IMAGE_SVG ∷ FONT_WOFF ∷ FONT_WOFF2
+    ∷ IMAGE_STAR ∷ IMAGE_JPEG ∷ IMAGE_GIF ∷ IMAGE_PNG ∷ IMAGE_BMP ∷ IMAGE_SVG ∷ FONT_WOFF ∷ FONT_WOFF2
     ∷ APPLICATION_JSON ∷ APPLICATION_JAVASCRIPT ∷ APPLICATION_JAVASCRIPT_UTF_8 ∷ APPLICATION_WWW_FORM_URLENCODED
     ∷ APPLICATION_OCTET_STREAM ∷ APPLICATION_MSGPACK ∷ APPLICATION_PDF ∷ MULTIPART_FORM_DATA ∷ [])
     ≡ codes "*/*" ∷ codes "text/*" ∷ codes "text/plain"
@@ -222,8 +204,7 @@ constant_texts :
     ∷ codes "text/css" ∷ codes "text/css; charset=utf-8" ∷ codes "text/javascript"
     ∷ codes "text/xml" ∷ codes "text/event-stream" ∷ codes "text/csv"
     ∷ codes "text/csv; charset=utf-8" ∷ codes "text/tab-separated-values" ∷ codes "text/tab-separated-values; charset=utf-8"
-    ∷ codes "text/vcard" ∷ codes "image/*" ∷ codes "image/jpeg"
-    ∷ codes "image/gif" ∷ codes "image/png" ∷ codes "image/bmp"
+    ∷ codes "text/vcard" ∷ codes "image/*" ∷ codes "image/jpeg" ∷ codes "image/gif" ∷ codes "image/png" ∷ codes "image/bmp"
     ∷ codes "image/svg+xml" ∷ codes "font/woff" ∷ codes "font/woff2"
     ∷ codes "application/json" ∷ codes "application/javascript" ∷ codes "application/javascript; charset=utf-8"
     ∷ codes "application/x-www-form-urlencoded" ∷ codes "application/octet-stream" ∷ codes "application/msgpack"
@@ -231,18 +212,13 @@ constant_texts :
 constant_texts = refl
 
 -- what callers see of a name and of a parameter
-views : (name value : Name)
-    → (name_text name ≡ name.text.now)
-    × (name_seen name ≡ (name.text.now, name.ignores_case))
-    × ((item_seen (name, value)).name ≡ name.text.now)
-    × ((item_seen (name, value)).name_ignores_case ≡ name.ignores_case)
-    × ((item_seen (name, value)).value ≡ value.text.now)
-    × ((item_seen (name, value)).value_ignores_case ≡ value.ignores_case)
+views : (name value : Name) → (name_text name ≡ name.text.now) × (name_seen name ≡ (name.text.now, name.ignores_case))
+    × ((item_seen (name, value)).name ≡ name.text.now) × ((item_seen (name, value)).name_ignores_case ≡ name.ignores_case)
+    × ((item_seen (name, value)).value ≡ value.text.now) × ((item_seen (name, value)).value_ignores_case ≡ value.ignores_case)
 views name value = (refl, refl, refl, refl, refl, refl)
 
 -- a byte in uppercase hexadecimal without leading zeros, and its position
-printed_tokens :
-    (token_text 10 11 ≡ codes "an invalid token was encountered, B at position 10")
+printed_tokens : (token_text 10 11 ≡ codes "an invalid token was encountered, B at position 10")
     × (token_text 0 250 ≡ codes "an invalid token was encountered, FA at position 0")
 unfolding digits
 printed_tokens = (refl, refl)
@@ -250,15 +226,10 @@ printed_tokens = (refl, refl)
 -- what a fault prints, with a byte in uppercase hexadecimal without leading zeros
 printed_faults :
     map fault_text (MissingSlash ∷ MissingSubtype ∷ MissingEqual ∷ MissingValue ∷ MissingQuote ∷ InvalidToken 10 11
-    ∷ NoMemory ∷ [])
-    ≡ codes "a slash (/) was missing between the type and subtype"
-    ∷ codes "a subtype was missing behind the slash (/)"
-    ∷ codes "an equals sign (=) was missing between a parameter and its value"
-    ∷ codes "a value was missing behind the equals sign (=)"
-    ∷ codes "a quote (\") was missing from a parameter value"
-    ∷ codes "an invalid token was encountered, B at position 10"
-    ∷ codes "memory ran out"
-    ∷ []
+    ∷ NoMemory ∷ []) ≡ codes "a slash (/) was missing between the type and subtype"
+    ∷ codes "a subtype was missing behind the slash (/)" ∷ codes "an equals sign (=) was missing between a parameter and its value"
+    ∷ codes "a value was missing behind the equals sign (=)" ∷ codes "a quote (\") was missing from a parameter value"
+    ∷ codes "an invalid token was encountered, B at position 10" ∷ codes "memory ran out" ∷ []
 unfolding digits
 printed_faults = refl
 

@@ -8,8 +8,7 @@ use Rattle.mime_headers.specs.{Head.is_code, Head.own_text, Head.is_start, Head.
 
 -- White space before and after is left out, which a form feed and a carriage return aren't. A line loses a carriage return at its end, and
 -- what is before its first `<` or `>` if it begins with another. An input loses a byte order mark and, if it is cut off, its last line.
-lines :
-    (map trimmed (codes " \t a b\t " ∷ codes " \r " ∷ (12 ∷ codes " a ") ∷ []) ≡ codes "a b" ∷ codes "\r"
+lines : (map trimmed (codes " \t a b\t " ∷ codes " \r " ∷ (12 ∷ codes " a ") ∷ []) ≡ codes "a b" ∷ codes "\r"
     ∷ (12 ∷ codes " a") ∷ [])
     × (map bare (lines_of (codes "a<\r\n\ra\r> b<\n\ra< b\n\ra\na\r\r")) ≡ lines_of (codes "a<\n> b<\n< b\n\ra\na\r"))
     × (map (bare_lines false) ((239 ∷ 187 ∷ 191 ∷ codes "a\r\nb") ∷ (239 ∷ 187 ∷ codes "a\n") ∷ [])
@@ -18,8 +17,7 @@ lines :
 lines = (refl, refl, refl, refl)
 
 -- A mark is white space, `> ` or `< `, or both. A line of its head begins with the mark, or is the mark without the space at its end.
-marks :
-    (map mark_of (lines_of (codes "a> b\n \ta\n> > a\n <  a\n>a\n>\n\r a\n")) ≡ lines_of (codes "\n \t\n> \n < \n\n\n\n"))
+marks : (map mark_of (lines_of (codes "a> b\n \ta\n> > a\n <  a\n>a\n>\n\r a\n")) ≡ lines_of (codes "\n \t\n> \n < \n\n\n\n"))
     × (map text_of (lines_of (codes " a \n< a\n>\n")) ≡ lines_of (codes "a \na\n>\n"))
     × (map (own_text (codes "> ")) (lines_of (codes "> a\n> \n>\n< a\n > a\n>a\n"))
     ≡ Some (codes "a") ∷ Some [] ∷ Some [] ∷ None ∷ None ∷ None ∷ [])
@@ -61,8 +59,7 @@ unfolding is_code is_start is_token_byte is_version own_text
 of_curl = (refl, refl, refl, refl, refl)
 
 -- What wget prints with -S and with -d, heads that are indented, and bodies. A body has a head only if it has a start line.
-of_others :
-    (heads false (codes "--2026-- http://a/\n  HTTP/1.1 302 Found\n  A: b\nLocation: c\n  HTTP/1.1 200 OK\n  D: e\n   f\n g\n  h\n")
+of_others : (heads false (codes "--2026-- http://a/\n  HTTP/1.1 302 Found\n  A: b\nLocation: c\n  HTTP/1.1 200 OK\n  D: e\n   f\n g\n  h\n")
     ≡ codes "HTTP/1.1 302 Found|A: b|\nHTTP/1.1 200 OK|D: e| f|\n")
     × (heads false (codes "---request begin---\nGET / HTTP/1.1\r\nA: b\r\n\r\n---request end---\nC: d\nHTTP/1.1 200 OK\r\n\r\n200 OK\n")
     ≡ codes "GET / HTTP/1.1|A: b|\nHTTP/1.1 200 OK|\n")
@@ -73,22 +70,18 @@ of_others = (refl, refl, refl, refl)
 
 -- A head without a start line begins with the first field, before all start lines, and has one of the two fields: a mail, lines that grep
 -- finds, fields that are indented. Any other input without a start line has no head.
-pasted :
-    (heads false (codes "\n* a\nFrom: b\nCONTENT-TYPE: c/d\n \r\n\r\nAccept: e\n") ≡ codes "From: b|CONTENT-TYPE: c/d| |\n")
+pasted : (heads false (codes "\n* a\nFrom: b\nCONTENT-TYPE: c/d\n \r\n\r\nAccept: e\n") ≡ codes "From: b|CONTENT-TYPE: c/d| |\n")
     × (heads false (codes "> accept: a/b\n< Accept-Ranges: c\n> d: e\n") ≡ codes "accept: a/b|d: e|\n")
     × (heads false (codes " Accept: a\n b\nc\n") ≡ codes "Accept: a|b|\n")
     × (heads false (codes "Accept: a\nHTTP/2 200\nb\n") ≡ codes "Accept: a|\nHTTP/2 200|b|\n")
     × (map (heads false) (codes "HTTP/2 200\n\nAccept: a\n" ∷ codes "From: b\n\nAccept: c\n" ∷ codes "a: b\nAccept : c\n"
-    ∷ [] ∷ [])
-    ≡ codes "HTTP/2 200|\n" ∷ [] ∷ [] ∷ [] ∷ [])
+    ∷ [] ∷ []) ≡ codes "HTTP/2 200|\n" ∷ [] ∷ [] ∷ [] ∷ [])
 unfolding is_code is_start is_token_byte is_version own_text
 pasted = (refl, refl, refl, refl, refl)
 
 -- In an input that is cut off a head counts only if a line before the last ends it.
-cut_heads :
-    (map (heads true) (codes "HTTP/2 200\n\n" ∷ codes "> GET / HTTP/2\n* a\n* b" ∷ codes "Accept: a\nb" ∷ []) ≡ [] ∷ []
-    ∷ [] ∷ [])
-    × (map (heads true) (codes "HTTP/2 200\n\na" ∷ codes "HTTP/2 200\nHTTP/2 201\na" ∷ codes " HTTP/2 200\na\nb" ∷ [])
+cut_heads : (map (heads true) (codes "HTTP/2 200\n\n" ∷ codes "> GET / HTTP/2\n* a\n* b" ∷ codes "Accept: a\nb" ∷ []) ≡ [] ∷ []
+    ∷ [] ∷ []) × (map (heads true) (codes "HTTP/2 200\n\na" ∷ codes "HTTP/2 200\nHTTP/2 201\na" ∷ codes " HTTP/2 200\na\nb" ∷ [])
     ≡ codes "HTTP/2 200|\n" ∷ codes "HTTP/2 200|\n" ∷ codes "HTTP/2 200|\n" ∷ [])
     × (heads true (codes "Accept: a\n\nb") ≡ codes "Accept: a|\n")
 unfolding is_code is_start is_token_byte is_version own_text
@@ -130,14 +123,12 @@ abbrev star : List ℕ → MediaType
 star q = record { essence = codes "*/*"; slash = 1; plus = None; pairs = (codes "q", q) ∷ []; kept = codes "*/*;q=" ++ q }
 
 -- A media type has a row for each part.
-rows_of_media :
-    (media_rows media None ≡ codes "Content-Type a/b+c;p=\"x\\\"y\"\nessence a/b+c\nsuffix c\nparam p=x\"y\n")
+rows_of_media : (media_rows media None ≡ codes "Content-Type a/b+c;p=\"x\\\"y\"\nessence a/b+c\nsuffix c\nparam p=x\"y\n")
     × (media_rows (star (codes "1")) (Some (codes "d")) ≡ codes "Content-Type */*;q=1\nessence */*\nparam q=1\nboundary d\n")
 rows_of_media = (refl, refl)
 
 -- Bytes that aren't printable ASCII have dots. A caret is under the byte at fault, which is named, or after the value.
-faults :
-    (shown (97 ∷ 32 ∷ 126 ∷ 0 ∷ 9 ∷ 27 ∷ 127 ∷ 195 ∷ []) ≡ codes "a ~.....")
+faults : (shown (97 ∷ 32 ∷ 126 ∷ 0 ∷ 9 ∷ 27 ∷ 127 ∷ 195 ∷ []) ≡ codes "a ~.....")
     × (map byte_text (99 ∷ 32 ∷ 9 ∷ 233 ∷ [])
     ≡ (codes " c (" ++ (digits 16 true 99 ++ codes ")")) ∷ (codes " space (" ++ (digits 16 true 32 ++ codes ")"))
     ∷ (codes " tab (" ++ (digits 16 true 9 ++ codes ")")) ∷ (codes " (" ++ (digits 16 true 233 ++ codes ")")) ∷ [])
@@ -152,8 +143,7 @@ faults = (refl, refl, refl, refl, refl)
 -- of a head among many, and white space before a colon.
 rows_of_heads :
     (map (missing (plain ∷ [])) (None ∷ Some false ∷ []) ≡ (codes "no Accept\n", codes "*/*" ∷ []) ∷ ([], []) ∷ [])
-    × (missing {Choice = Bool} [] None ≡ ([], []))
-    × (flat_map count_row ([] ∷ ([] ∷ []) ∷ ([] ∷ [] ∷ []) ∷ [])
+    × (missing {Choice = Bool} [] None ≡ ([], [])) × (flat_map count_row ([] ∷ ([] ∷ []) ∷ ([] ∷ [] ∷ []) ∷ [])
     ≡ codes "no Content-Type\nseveral Content-Type lines (HTTP allows one)\n")
     × (map (empty_row (codes "a")) (codes "a" ∷ codes "ab" ∷ []) ≡ codes "empty Accept\n" ∷ [] ∷ [])
     × (map cut_row (true ∷ false ∷ []) ≡ codes "not read after 1048576 bytes\n" ∷ [] ∷ [])
@@ -178,8 +168,7 @@ controls = (refl, refl, refl, refl, refl, refl)
 -- ---- offers
 
 -- Weights have three decimals. A range has a remark if its `q` isn't a weight, or is in quotes. What is read of an entry is added.
-weights :
-    (map weight_text (1000 ∷ 50 ∷ 7 ∷ []) ≡ codes "1.000" ∷ codes "0.050" ∷ codes "0.007" ∷ [])
+weights : (map weight_text (1000 ∷ 50 ∷ 7 ∷ []) ≡ codes "1.000" ∷ codes "0.050" ∷ codes "0.007" ∷ [])
     × (flat_map (λ q. range_row (codes "*/*;q=" ++ q) (star q)) (codes "0.5" ∷ codes ".5" ∷ [])
     ≡ codes "Accept 0.500 */*;q=0.5\nAccept 0.500 */*;q=.5 (q isn't a weight in HTTP, counted as 0.500)\n")
     × (range_row (codes "*/* ; q=\"1\"") (star (codes "1"))
@@ -211,8 +200,7 @@ abbrev after : Bool → Option (List MediaType × Bool) → Bool → State
 after are_good choice asks = record { text = []; are_good = are_good; choice = choice; asks = asks }
 
 -- The best offer has a row, and one that isn't acceptable another. The verdict is that of all values and of the last choice.
-verdicts :
-    (best_row (plain ∷ media ∷ []) (record { offer = 1; weight = 1; range = Some 0 } ∷ [])
+verdicts : (best_row (plain ∷ media ∷ []) (record { offer = 1; weight = 1; range = Some 0 } ∷ [])
     ≡ (codes "best a/b+c;p=\"x\\\"y\"\n", true))
     × (best_row (media ∷ []) (record { offer = 0; weight = 0; range = None } ∷ []) ≡ (codes "406 Not Acceptable\n", false))
     × (best_row [] [] ≡ ([], true))
@@ -256,7 +244,6 @@ refused_words word offer other error reads is = a_word reads (bad_word other err
 
 -- If there is no word, none is rejected.
 some_refused : (words : List (List ℕ)) (offers : List MediaType) (error : String Global × FieldError)
-    → AreOffers words offers (Err error)
-    → words ≢ []
+    → AreOffers words offers (Err error) → words ≢ []
 some_refused words offers error (a_word reads rest) none = absurd (cc)
 some_refused words offers error (bad_word word fault is) none = absurd (cc)

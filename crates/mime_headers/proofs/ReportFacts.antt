@@ -26,8 +26,7 @@ one_entry old (b ∷ entry) new other one two =
 
 -- Items in a row add one text, if each does.
 one_of_all : {P A : Type 0} (R : P → A → P → Type 0) → ((p : P) (x : A) (q r : P) → R p x q → R p x r → q ≡ r)
-    → (p : P) (xs : List A) (q r : P)
-    → FoldsTo R p xs q → FoldsTo R p xs r → q ≡ r
+    → (p : P) (xs : List A) (q r : P) → FoldsTo R p xs q → FoldsTo R p xs r → q ≡ r
 one_of_all R one p [] q r is too = sym is ∙ too
 one_of_all R one p (x ∷ xs) q r (next, is, rest) (other, too, others) =
     one_of_all R one other xs q r (rw (one p x next other is too) at rest) others

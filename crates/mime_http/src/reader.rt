@@ -4,31 +4,12 @@ ghost use Rattle.std.specs.Prelude.{◌≡◌, ◌<◌, ◌≤◌, ◌+◌, ◌-
 ghost use Rattle.std.specs.List.{prefix_len};
 ghost use Rattle.mime.specs.Bytes.{is_token_byte, is_quoted_byte, is_quoted_text_byte, equals_byte, quote_byte};
 ghost use Rattle.mime.specs.Grammar.{is_space};
-ghost use Rattle.mime_search.specs.Classes.{IsStart};
-ghost use Rattle.mime_http.specs.declared.reader.TheConstants.{TOKEN_STOPS};
+ghost use Rattle.mime_search.specs.{Classes.IsStart, declared.class.TheConstants.TOKEN_STOPS};
 ghost use Rattle.mime_http.specs.Reader.{Parts, Holds, IsClosedAt, IsEssenceAt, IsFaultFrom, IsParameterAt, IsStringFault, after_semicolon, answer_at, answer_of, before_semicolon, fault_at, in_value, read, rejected, text_of_parts};
 
 use crate::list::spaces_end;
 use mime::{ParseError, is_quoted_byte, is_quoted_text_byte, is_token};
-use mime_search::{Class, Range, Start, copy_bytes, first_stop_far, search_start};
-
-/// All bytes except those that most tokens consist of: letters, digits, hyphens and dots.
-static TOKEN_STOPS: Class = Class {
-    fold: 0x20,
-    folded: Range(b'a', b'z'),
-    second: Range(b'0', b'9'),
-    third: Range(b'-', b'.'),
-    inside: false,
-};
-
-/// All bytes except the printable ASCII bytes of quoted text. So the tab is in the class, though quoted text may have it.
-static TEXT_STOPS: Class = Class {
-    fold: 0,
-    folded: Range(b'#', b'['),
-    second: Range(b']', b'~'),
-    third: Range(b' ', b'!'),
-    inside: false,
-};
+use mime_search::{Start, TEXT_STOPS, TOKEN_STOPS, copy_bytes, first_stop_far, search_start};
 
 /// The number of bytes of a run that are tested one by one, before the rest of the run is searched in blocks.
 const LONG: usize = 16;

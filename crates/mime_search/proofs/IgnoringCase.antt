@@ -60,8 +60,7 @@ pub one_more : (f : ℕ → ℕ → ℕ) (a b bits : List ℕ) (n : ℕ) → n <
     → take n bits ≡ zip2 f (take n a) (take n b)
     → take (n + 1) (set bits n (f (get_or a n 0) (get_or b n 0))) ≡ zip2 f (take (n + 1) a) (take (n + 1) b)
 one_more f a b bits n room other_room within so_far =
-    take_more_set bits n (f (get_or a n 0) (get_or b n 0)) within
-    ∙ ap (λ t. t ++ (f (get_or a n 0) (get_or b n 0) ∷ [])) so_far
+    take_more_set bits n (f (get_or a n 0) (get_or b n 0)) within ∙ ap (λ t. t ++ (f (get_or a n 0) (get_or b n 0) ∷ [])) so_far
     ∙ sym (ap (λ t. zip2 f t (take (n + 1) b)) (take_more a n 0 room) ∙ ap (zip2 f _) (take_more b n 0 other_room)
     ∙ zip2_push f (take n a) (take n b) (get_or a n 0) (get_or b n 0)
     (omega (arith, length-take-le n a, length-take-le n b, room, other_room)))
@@ -99,8 +98,7 @@ module _ (a b bits : List ℕ) (at : ℕ) (room : 16 ≤ length a) (other_room :
   bit_count : length bits ≡ 16
   bit_count =
       ap length is ∙ length-zip2 difference_bit (take 16 a) (take 16 b) (length-take-le 16 a room
-      ∙ sym (length-take-le 16 b other_room))
-      ∙ length-take-le 16 a room
+      ∙ sym (length-take-le 16 b other_room)) ∙ length-take-le 16 a room
 
   -- The first bit is among the 16.
   few : at ≤ 16
@@ -145,8 +143,7 @@ module _ (a b bits : List ℕ) (at : ℕ) (room : 16 ≤ length a) (other_room :
 module _ (a b : List ℕ) (from : ℕ) (before : take from (lowered a) ≡ take from (lowered b)) where
   -- After equal bytes more bytes are equal.
   pub equal_onward : (n : ℕ) → take n (lowered (take (length a - from) (drop from a)))
-      ≡ take n (lowered (take (length b - from) (drop from b)))
-      → take (from + n) (lowered a) ≡ take (from + n) (lowered b)
+      ≡ take n (lowered (take (length b - from) (drop from b))) → take (from + n) (lowered a) ≡ take (from + n) (lowered b)
   equal_onward n block =
       let rest = ap (take n) (sym (lowered_rest a from)) ∙ block ∙ ap (take n) (lowered_rest b from) in
       take-add from n (lowered a) ∙ (λ i. before i ++ rest i) ∙ sym (take-add from n (lowered b))

@@ -51,11 +51,9 @@ same_lanes [] = refl
 same_lanes (b ∷ vs) = ap (λ bs. b ∷ bs) (same_lanes vs)
 
 -- the mask of a vector, as it is computed
-pub outside_lanes : (class : Class) (v : List ℕ) → length v ≡ 16
-    → mask_l (map (top 7) (zip2 bit_and
+pub outside_lanes : (class : Class) (v : List ℕ) → length v ≡ 16 → mask_l (map (top 7) (zip2 bit_and
     (zip2 bit_and (range_lanes (zip2 bit_or v (replicate 16 class.fold)) class.folded.0 class.folded.1)
-    (range_lanes v class.second.0 class.second.1)) (range_lanes v class.third.0 class.third.1))) % 2 ^ 64
-    ≡ outside class v
+    (range_lanes v class.second.0 class.second.1)) (range_lanes v class.third.0 class.third.1))) % 2 ^ 64 ≡ outside class v
 outside_lanes class v long =
     let folded = range_of_map (λ b. bit_or b class.fold) class.folded _ v long (zip2_splat bit_or v 16 class.fold long) in
     let second = range_of_map (λ b. b) class.second v v long (same_lanes v) in
@@ -68,8 +66,7 @@ outside_lanes class v long =
     let all : zip2 bit_and _ _ ≡ map (λ b. lane (is_outside class b)) v =
     zip2_of_maps bit_and (λ b. lane (one b && two b)) (λ b. lane (three b)) v both third
     ∙ (λ i. map (λ b. and_lane (one b && two b) (three b) i) v) in
-    ap (λ xs. mask_l (map (top 7) xs) % 2 ^ 64) all
-    ∙ ap (λ xs. mask_l xs % 2 ^ 64)
+    ap (λ xs. mask_l (map (top 7) xs) % 2 ^ 64) all ∙ ap (λ xs. mask_l xs % 2 ^ 64)
     (map-map (top 7) (λ b. lane (is_outside class b)) v ∙ (λ i. map (λ b. top_lane (is_outside class b) i) v))
     ∙ mask_l-mod (map (is_outside class) v) 64 (omega (arith, length-map v (is_outside class), long))
 

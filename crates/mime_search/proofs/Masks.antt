@@ -42,10 +42,8 @@ module _ (p : ℕ → Bool) where
   mask-joined n text room reach =
       let from = length text - n in
       let at : from + (n + n - length text) ≡ n = omega (arith, room, reach) in
-      ap (λ m. mask (take n text) + m * 2 ^ n)
-      (rest-mask (n + n - length text) (drop from text)
-      ∙ ap mask (drop-drop (n + n - length text) from text ∙ ap (λ m. drop m text) at))
-      ∙ sym (mask-split n text room)
+      ap (λ m. mask (take n text) + m * 2 ^ n) (rest-mask (n + n - length text) (drop from text)
+      ∙ ap mask (drop-drop (n + n - length text) from text ∙ ap (λ m. drop m text) at)) ∙ sym (mask-split n text room)
 
   -- the mask of two blocks
   pub mask-two : (bytes : List ℕ) → 32 ≤ length bytes
@@ -88,8 +86,7 @@ moved-fits mask last by n is few room =
 
 -- what the mask of the first bytes shows of those from a position on
 module _ (p : ℕ → Bool) (text : List ℕ) (at known found : ℕ) (is : found ≡ mask_l (map p (take known text)))
-    (there : known ≤ length text)
-    (few : known ≤ 64) (inside : at < known) where
+    (there : known ≤ length text) (few : known ≤ 64) (inside : at < known) where
   -- The bytes known from a position on, and those before it, are all that are known.
   whole : at + (known - at) ≡ known
   whole = omega (arith, inside)
@@ -102,13 +99,11 @@ module _ (p : ℕ → Bool) (text : List ℕ) (at known found : ℕ) (is : found
 
   -- Without a bit all known bytes are passed.
   pub known-none : found / 2 ^ at ≡ 0 → known ≤ at + prefix_len (λ b. not (p b)) (drop at text)
-  known-none none =
-      omega (arith, no_stop p text at (known - at) _ (omega (arith, whole, there)) (omega (arith, few)) next none, whole)
+  known-none none = omega (arith, no_stop p text at (known - at) _ (omega (arith, whole, there)) (omega (arith, few)) next none, whole)
 
   -- With a bit the lowest is that of a known byte.
   pub known-few : found / 2 ^ at ≢ 0 → at + count_trailing_zeros 64 (found / 2 ^ at) < known
-  known-few some =
-      omega (arith, stop_within p text at (known - at) _ (omega (arith, whole, there)) (omega (arith, few)) next some, whole)
+  known-few some = omega (arith, stop_within p text at (known - at) _ (omega (arith, whole, there)) (omega (arith, few)) next some, whole)
 
   -- With a bit the bytes before the lowest are passed.
   pub known-some : found / 2 ^ at ≢ 0

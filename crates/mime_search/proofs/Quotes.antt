@@ -33,8 +33,7 @@ plain_run (b ∷ bytes) = ⊎_elim
     (λ (plain : (b == quote || b == backslash) ≡ false).
     let parts = or_parts (b == quote) (b == backslash) plain in
     let next : 1 + plain_len bytes ≡ suc (plain_len bytes) = omega arith in
-    rw (parts.0, parts.1, next) (omega (arith, plain_run bytes)))
-    (cases_Bool (b == quote || b == backslash))
+    rw (parts.0, parts.1, next) (omega (arith, plain_run bytes))) (cases_Bool (b == quote || b == backslash))
 
 -- A search goes on after a run without quotes and backslashes.
 pub search_past_plain_run : (text : List ℕ) (from to : ℕ) → to ≡ from + plain_len (drop from text)
@@ -119,5 +118,4 @@ module _ (text : List ℕ) (at n found : ℕ) (room : at + n ≤ length text) (f
       ap (λ m. m / 2 ^ k) is ∙ mask-drop k (map is_mark (take n (drop at text)))
       ∙ ap mask_l (drop-map is_mark k (take n (drop at text)))
       ∙ ap (λ bytes. mask_l (map is_mark bytes)) (ap (λ m. drop k (take m (drop at text))) (sym all)
-      ∙ drop-take k (n - k) (drop at text)
-      ∙ ap (take (n - k)) (drop-drop k at text))
+      ∙ drop-take k (n - k) (drop at text) ∙ ap (take (n - k)) (drop-drop k at text))

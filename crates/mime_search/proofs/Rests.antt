@@ -6,8 +6,7 @@ use Rattle.mime_search.specs.Rests.{first_position}
 
 -- the byte that was looked for is at the position found
 pub slice_get-first_position : (byte : ℕ) (text : List ℕ) (position : ℕ) → position ≡ first_position byte text
-    → position < length text
-    → slice_get text position ≡ Some byte
+    → position < length text → slice_get text position ≡ Some byte
 slice_get-first_position byte text position is within =
     let inside : first_position byte text < length text = omega (arith, is, within) in
     let there = (Decides-eqb _ _).0 (passes_at_first (λ b. b == byte) text 0 inside) in

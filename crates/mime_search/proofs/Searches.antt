@@ -18,8 +18,7 @@ pub mask-drop : (n : ℕ) (ms : List Bool) → mask_l ms / 2 ^ n ≡ mask_l (dro
 mask-drop zero ms = div-one (mask_l ms)
 mask-drop (suc n) [] = zero-div (2 ^ suc n)
 mask-drop (suc n) (b ∷ ms) =
-    ap (λ k. mask_l (b ∷ ms) / k) (pow-suc 2 n ∙ mul_comm (2 ^ n) 2)
-    ∙ sym (div-div-eq-div-mul (mask_l (b ∷ ms)) 2 (2 ^ n))
+    ap (λ k. mask_l (b ∷ ms) / k) (pow-suc 2 n ∙ mul_comm (2 ^ n) 2) ∙ sym (div-div-eq-div-mul (mask_l (b ∷ ms)) 2 (2 ^ n))
     ∙ ap (λ k. k / 2 ^ n) (half b (mask_l ms)) ∙ mask-drop n ms
 
 -- a bit more, if it isn't set
@@ -37,22 +36,19 @@ all_pass p (x ∷ xs) e = none_fails (p x) _ (length xs) _ (prefix_len-le-length
 
 -- a run ends within the text
 pub run_within : (p : ℕ → Bool) (text : List ℕ) (from to : ℕ) → from ≤ length text
-    → to ≡ from + prefix_len p (drop from text)
-    → to ≤ length text
+    → to ≡ from + prefix_len p (drop from text) → to ≤ length text
 run_within p text from to within is = omega (arith, is, prefix_len-le-length p (drop from text), length-drop from text)
 
 -- the bits of the last block, without those before a position, are those of the bytes from there on
 pub last_bits : (class : Class) (text : List ℕ) (from found : ℕ) → 16 ≤ length text → length text < from + 16
-    → from ≤ length text
-    → found ≡ stops class (take 16 (drop (length text - 16) text))
+    → from ≤ length text → found ≡ stops class (take 16 (drop (length text - 16) text))
     → found / 2 ^ (from - (length text - 16)) ≡ stops class (take (length text - from) (drop from text))
 last_bits class text from found long end within is =
     let start = length text - 16 in
     let more = from - start in
     let there : start + more ≡ from = omega (arith, end) in
     ap (λ m. m / 2 ^ more) (is ∙ ap (stops class) (take_all 16 (drop start text) (omega (arith, length-drop start text))))
-    ∙ mask-drop more (map (is_stop class) (drop start text))
-    ∙ ap mask_l (drop-map (is_stop class) more (drop start text))
+    ∙ mask-drop more (map (is_stop class) (drop start text)) ∙ ap mask_l (drop-map (is_stop class) more (drop start text))
     ∙ ap (stops class) (drop-drop more start text ∙ ap (λ n. drop n text) there
     ∙ sym (take_all (length text - from) (drop from text) (omega (arith, length-drop from text))))
 
@@ -105,6 +101,5 @@ module _ (p : ℕ → Bool) (text : List ℕ) (at n found : ℕ) (room : at + n 
 
 -- a search that stops at one byte stops at its first position
 pub first_stop-position : (class : Class) (byte : ℕ) → ((b : ℕ) → is_stop class b ≡ (b == byte || b == byte))
-    → (text : List ℕ) (from : ℕ)
-    → end_of_run class text from ≡ from + position_or_len (λ b. b == byte) (drop from text)
+    → (text : List ℕ) (from : ℕ) → end_of_run class text from ≡ from + position_or_len (λ b. b == byte) (drop from text)
 first_stop-position class byte are text from = λ i. from + prefix_len (λ b. not ((are b ∙ or_self (b == byte)) i)) (drop from text)

@@ -112,7 +112,7 @@ pub fn search_start(text: &[u8], class: &Class) -> Start
 
 impl Start {
     /// Returns a position that is at least `from`, and at most that of the first byte from there on that stops the
-    /// search. If this byte is known, the result is its position.
+    /// search.
     #[inline(always)]
     pub fn stop_from(self, from: usize) -> usize
         requires { self.known ≤ WINDOW }

@@ -49,10 +49,8 @@ begun kept text value reads (there, same) =
           ∙ take-append-drop end text;
       counted = length-before_list cut.first cut.second ∙ omega (arith, ends);
       slash = ap (λ (v : MediaType). v.slash) (sym reads.valued) ∙ sym tops;
-      plus = ap (λ (v : MediaType). v.plus) (sym reads.valued)
-          ∙ ap (last_plus (length tree.top + 2)) (sym (lowered-drop 1 tree.sub))
-          ∙ last_plus-lowered (length tree.top + 2) (drop 1 tree.sub)
-          ∙ sym (last_plus-lowered (length tree.top + 2) (drop 1 tree.sub))
+      plus = ap (λ (v : MediaType). v.plus) (sym reads.valued) ∙ ap (last_plus (length tree.top + 2)) (sym (lowered-drop 1 tree.sub))
+          ∙ last_plus-lowered (length tree.top + 2) (drop 1 tree.sub) ∙ sym (last_plus-lowered (length tree.top + 2) (drop 1 tree.sub))
           ∙ ap (last_plus (length tree.top + 2)) (lowered-drop 1 tree.sub ∙ ap (drop 1) (sym cut.second_is)
           ∙ sym (lowered-drop 1 cut.second))
           ∙ last_plus-lowered (length tree.top + 2) (drop 1 cut.second) ∙ ap (λ n. last_plus (n + 2) (drop 1 cut.second)) (sym tops);
@@ -67,8 +65,7 @@ begun kept text value reads (there, same) =
 pub judged-by_list : (kept text : List ℕ) (value : MediaType) → Reads kept value → StartsWithEssence value.essence text
     → (before : Positions) → before ≡ positions_before_list value
     → (old new : Remaining) (verdict : Scanned) → old.left ≡ drop (length value.essence + 1) text
-    → old.count ≡ length value.essence + 1
-    → ScansList before old new verdict → Judges text new.count verdict
+    → old.count ≡ length value.essence + 1 → ScansList before old new verdict → Judges text new.count verdict
 judged-by_list kept text value reads starts before is old new verdict left count scans =
     let head = begun kept text value reads starts in
     let positions : positions_before_list value ≡ positions_of (before_list head.top head.sub) =

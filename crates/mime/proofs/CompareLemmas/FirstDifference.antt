@@ -41,8 +41,7 @@ record Begins (prefix whole : List ℕ) : Type 0 where
 -- a parameter is stripped to what its pair is
 stripped-parameter : (p : Parameter) → IsParameter p → stripped (text_of_parameter p) ≡ stripped_pair (pair_of (lowered_parameter p))
 stripped-parameter (plain name value) well =
-    stripped-append name (equals_byte ∷ value)
-    ∙ rw (lowered-lowered name, lowered-lowered_value name value) refl
+    stripped-append name (equals_byte ∷ value) ∙ rw (lowered-lowered name, lowered-lowered_value name value) refl
 stripped-parameter (quoted name content n) well =
     stripped-append name (equals_byte ∷ quote_byte ∷ (content ++ (quote_byte ∷ n)))
     ∙ rw (stripped-append content (quote_byte ∷ n), stripped-spaces n well.2, lowered-lowered name, lowered-lowered_value name content)
@@ -89,8 +88,7 @@ stripped-reads text value reads =
     subst (λ t. Begins (stripped t) (stripped_value value)) reads.spelled
     (subst (λ (v : MediaType). Begins (stripped (text_of tree)) (stripped_value v)) reads.valued (record {
       rest = tail.rest;
-      is = (λ i. essence i ++ tail.is i)
-          ∙ sym (ap (λ t. t ++ tail.rest) text_parts
+      is = (λ i. essence i ++ tail.is i) ∙ sym (ap (λ t. t ++ tail.rest) text_parts
           ∙ append_assoc (stripped (essence_of tree)) (stripped (text_of_tail tree.tail)) tail.rest);
     }))
 
@@ -114,8 +112,7 @@ same_byte (f ∷ prefix) x y xs ys rest others is = same_byte prefix x y xs ys r
 
 -- texts whose first difference reaches the value are read as values that aren't equal
 pub different_values : (one other : List ℕ) (first second : MediaType) → Reads one first → Reads other second
-    → DifferInValue one other
-    → ¬ (Same first second)
+    → DifferInValue one other → ¬ (Same first second)
 different_values one other first second reads also d same =
     let begins = stripped-reads one first reads in
     let other_begins = stripped-reads other second also in

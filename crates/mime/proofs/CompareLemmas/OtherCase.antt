@@ -183,8 +183,7 @@ lone_charset-same pairs others (name, content, lone, charset) low also same =
 
 -- a text that is read as a value with a lone charset, ignoring ASCII case, is read as one equal to it
 pub case_read-lone_charset : (text kept : List ℕ) (value : MediaType) (is : CaseRead text value) → Reads kept value
-    → IsLoneCharset value.pairs
-    → Same value is.read
+    → IsLoneCharset value.pairs → Same value is.read
 case_read-lone_charset text kept value is reads lone = (
   is.essence,
   lone_charset-same value.pairs is.read.pairs lone (read-low_pairs kept value reads) (read-low_pairs text is.read is.reads) is.pairs,

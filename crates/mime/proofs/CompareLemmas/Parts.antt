@@ -26,8 +26,7 @@ record ReadAt (text : List ℕ) (end count : ℕ) : Type 0 where
 
 -- The text of a tree is read at its end and its number of pairs.
 read_at-tree : (top sub : List ℕ) (tail : Tail) → let tree : SyntaxTree = record { top = top; sub = sub; tail = tail } in
-    IsWellFormed tree
-    → (end : ℕ) → semicolon_of (length top + 1 + length sub) tail ≡ Some end
+    IsWellFormed tree → (end : ℕ) → semicolon_of (length top + 1 + length sub) tail ≡ Some end
     → ReadAt (text_of tree) end (length (pairs_of_tail tail))
 read_at-tree top sub no_list well end at = absurd cc
 read_at-tree top sub (listed list) well end at =
@@ -105,8 +104,7 @@ text_is-by_parts kept text value reads some =
 
 -- a text that differs from the kept text only in case is accepted
 pub accepted_at-case : (kept text : List ℕ) (value : MediaType) → Reads kept value → value.pairs ≢ []
-    → lowered kept ≡ lowered text
-    → IsAcceptedAt text (length value.essence) (length value.pairs)
+    → lowered kept ≡ lowered text → IsAcceptedAt text (length value.essence) (length value.pairs)
 accepted_at-case kept text value reads some is =
     let found = case_read text kept value reads (sym is) in
     let counted = case_read-count text value found in
@@ -116,8 +114,7 @@ accepted_at-case kept text value reads some is =
 
 -- a text that differs from the kept text only in case is equal to the value, if the only parameter is a charset
 pub text_is-lone_charset : (kept text : List ℕ) (value : MediaType) → Reads kept value → value.pairs ≢ []
-    → lowered kept ≡ lowered text
-    → IsLoneCharset value.pairs → TextIs value text
+    → lowered kept ≡ lowered text → IsLoneCharset value.pairs → TextIs value text
 text_is-lone_charset kept text value reads some is lone =
     let found = case_read text kept value reads (sym is) in
     record {
@@ -141,8 +138,7 @@ lone_charset list is =
 -- the essence of a tree has no semicolon
 bare_essence : (top sub : List ℕ) → IsToken top → IsToken sub → HasNoSemicolon (top ++ (slash_byte ∷ sub))
 bare_essence top sub token sub_token =
-    list_all-append (λ b. not (b == semicolon_byte)) top (slash_byte ∷ sub)
-    ∙ cc (
+    list_all-append (λ b. not (b == semicolon_byte)) top (slash_byte ∷ sub) ∙ cc (
       are_other-token semicolon_byte semicolon_is_no_token top (AreTokenBytes-from_token top token),
       are_other-token semicolon_byte semicolon_is_no_token sub (AreTokenBytes-from_token sub sub_token),
     )
@@ -154,8 +150,7 @@ HasNoSemicolon-lowered = list_all-lowered (λ b. not (b == semicolon_byte)) (λ 
 
 -- a text that, lowercased, is the essence of a value without pairs is equal to the value
 pub text_is-from_lowered : (text kept : List ℕ) (value : MediaType) → Reads kept value → value.pairs ≡ []
-    → lowered text ≡ value.essence
-    → TextIs value text
+    → lowered text ≡ value.essence → TextIs value text
 text_is-from_lowered text kept value reads none is =
     let low = read-low_essence kept value reads in
     let same = sym (kept-essence value kept reads (ap length none)) in

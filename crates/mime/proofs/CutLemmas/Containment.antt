@@ -95,8 +95,7 @@ comma-dead text begun walked closed =
     elim (grow begun comma_byte) as (λ o. MatchOption o (Unit {0}) (λ after. IsOpen begun × IsOpen after) → o ≡ None) [
       | None ↦ λ leads. refl
       | Some after ↦ λ leads. absurd (closed (lacks-from_walk text _ (walked ∙ ap (λ s. Some s) leads.0.is) refl))
-    ]
-    (grow-foreign begun comma_byte comma-foreign)
+    ] (grow-foreign begun comma_byte comma-foreign)
 
 -- a viable text that a comma follows is split at the comma
 comma-split : (text bytes : List ℕ) (rest : Following bytes) → IsViable text → ¬ (IsUnclosed text)
@@ -112,8 +111,7 @@ accepted-closed text accepted unclosed = completed_is_rejected text MissingQuote
 -- a prefix of a viable text is viable
 take-viable : (text : List ℕ) (k n : ℕ) → k ≤ n → IsViable (take n text) → IsViable (take k text)
 take-viable text k n le viable =
-    subst IsViable (take-take k n text le)
-    (prefix_of_viable_is_viable (take k (take n text)) (drop k (take n text))
+    subst IsViable (take-take k n text le) (prefix_of_viable_is_viable (take k (take n text)) (drop k (take n text))
     (subst IsViable (sym (take-append-drop k (take n text))) viable))
 
 -- more bytes after a split text leave its split as it is
@@ -159,8 +157,7 @@ comma_contains before after items others rest end (unfinished t viable is) close
 comma_contains before after items others rest end (goes_on t p c l first own r split of_piece inner) closed cut =
     subst (λ i. Cut (t ++ (comma_byte ∷ after)) i end) (sym (append_assoc first own (items_of_rest r ++ others)))
     (goes_on (t ++ (comma_byte ∷ after)) p c (l ++ (comma_byte ∷ after)) first (own ++ (items_of_rest r ++ others)) end
-    (split-append t p c l (comma_byte ∷ after) refl split) of_piece
-    (comma_contains l after own others r end inner closed cut))
+    (split-append t p c l (comma_byte ∷ after) refl split) of_piece (comma_contains l after own others r end inner closed cut))
 
 -- ---- a printed list
 

@@ -71,16 +71,14 @@ split_unique text p c l q d m one two =
     record { piece = parts.0; character = same.0; left = same.1 }
 
 -- piece, character and what is left make up the text
-pub split-size : (text p c l : List ℕ) → IsSplit text p c l
-    → (length text ≡ length p + (length c + length l)) × (0 < length c)
+pub split-size : (text p c l : List ℕ) → IsSplit text p c l → (length text ≡ length p + (length c + length l)) × (0 < length c)
 split-size text p c l split = grind (arith, common_steps)
 
 -- what is split isn't viable
 pub split-not_viable : (text p c l : List ℕ) → IsSplit text p c l → IsViable text → ⊥
 split-not_viable text p c l split viable =
     let size = split-size text p c l split in
-    split.prefix.longest (length text) (omega (arith, size.0, size.1)) (omega arith)
-    (subst IsViable (sym (take-length text)) viable)
+    split.prefix.longest (length text) (omega (arith, size.0, size.1)) (omega arith) (subst IsViable (sym (take-length text)) viable)
 
 -- a byte that leads nowhere splits a text
 pub split-from_dead : (prefix bytes : List ℕ) (b : ℕ) (begun : Begun) (rest : Following bytes) → walk prefix ≡ Some begun
@@ -229,10 +227,8 @@ takes-viable text viable = record { pieces = []; end = text; cut = last text via
 pieces_unique : (text : List ℕ) (pieces : List (List ℕ × List ℕ)) (end : List ℕ) → Pieces text pieces end
     → (others : List (List ℕ × List ℕ)) (stop : List ℕ) → Pieces text others stop → (others ≡ pieces) × (stop ≡ end)
 pieces_unique text pieces end (last t viable) others stop (last u too) = (refl, refl)
-pieces_unique text pieces end (last t viable) others stop (next u q d m more e again found) =
-    absurd (split-not_viable u q d m again viable)
-pieces_unique text pieces end (next t p c l own e split found) others stop (last u viable) =
-    absurd (split-not_viable u p c l split viable)
+pieces_unique text pieces end (last t viable) others stop (next u q d m more e again found) = absurd (split-not_viable u q d m again viable)
+pieces_unique text pieces end (next t p c l own e split found) others stop (last u viable) = absurd (split-not_viable u p c l split viable)
 pieces_unique text pieces end (next t p c l own e split found) others stop (next u q d m more f again other) =
     let same = split_unique u q d m p c l again split in
     let rest = pieces_unique l own e found more f (subst (λ x. Pieces x more f) same.left other) in

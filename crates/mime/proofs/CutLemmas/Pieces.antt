@@ -148,8 +148,7 @@ after_position text at end there past border near =
 pub passes-stopped : (text piece left : List ℕ) (steps at end byte : ℕ) (positions : Option Positions)
     → StopsAt text steps byte positions → at ≡ steps - 1 → piece ≡ take at text → left ≡ drop end text
     → (at + 1 ≤ length text → at + 1 ≤ end) → IsCharBoundary text end
-    → ((i : ℕ) → at + 1 ≤ i → i < end → ¬ (IsCharBoundary text i))
-    → ReadsPiece text piece positions left steps
+    → ((i : ℕ) → at + 1 ≤ i → i < end → ¬ (IsCharBoundary text i)) → ReadsPiece text piece positions left steps
 passes-stopped text piece left steps at end byte positions (given, dead_at, rejected) is_at is_piece is_left past border near =
     let dead = subst (λ n. IsDeadAt text n byte) (sym is_at) dead_at in
     let size : length (take at text) ≡ at = length-take-le at text dead.prefix.within in
@@ -157,8 +156,7 @@ passes-stopped text piece left steps at end byte positions (given, dead_at, reje
     let after = after_position text at end there (past (omega (arith, there))) border near in
     subst (λ p. ReadsPiece text p positions left steps) (sym is_piece)
     (subst (ReadsPiece text (take at text) positions left) (omega (arith, given, is_at, size))
-    (passes-split text (take at text) after.0 left positions
-    (record {
+    (passes-split text (take at text) after.0 left positions (record {
       spelled = sym (take-append-drop at text) ∙ ap (λ t. take at text ++ t) (after.1 ∙ ap (λ t. after.0 ++ t) (sym is_left));
       prefix = subst (IsLongestPrefix text) (sym size) dead.prefix;
       is_character = subst (IsCharacter after.0) (sym is_left) after.2;
@@ -186,8 +184,7 @@ module _ (rest : List ℕ) (begins : BeginsCharacter rest) where
 
   -- the cut of what follows separators is that of the whole
   separated-cut : (run : List ℕ) → IsTrue (list_all is_ascii_not_token run) → (items : List CutItem) (end : List ℕ)
-      → Cut rest items end
-      → Cut (run ++ rest) items end
+      → Cut rest items end → Cut (run ++ rest) items end
   separated-cut [] all items end cut = cut
   separated-cut (b ∷ run) all items end cut =
       goes_on (b ∷ (run ++ rest)) [] (b ∷ []) (run ++ rest) [] items end (separator_splits b run all) (is_empty refl)
@@ -266,6 +263,5 @@ pub separators-begins : (text run rest : List ℕ) → IsUtf8 text → text ≡ 
 separators-begins text run [] utf8 is all = tt
 separators-begins text run (b ∷ rest) utf8 is all =
     let border = separators-boundary text run (b ∷ rest) utf8 is all in
-    not_following b rest
-    (subst (λ t. IsCharBoundary t 0) (ap (drop (length run)) is ∙ drop_at run (b ∷ rest) (length run) refl)
+    not_following b rest (subst (λ t. IsCharBoundary t 0) (ap (drop (length run)) is ∙ drop_at run (b ∷ rest) (length run) refl)
     (border_in_rest text (length run) 0 (subst (IsCharBoundary text) (omega arith) border)))

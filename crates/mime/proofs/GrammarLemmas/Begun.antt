@@ -156,8 +156,7 @@ walk_by-append step state (b ∷ xs) ys =
 -- the walk goes on from where the first part led
 pub walk_by-append_some : {S : Type 0} (step : S → ℕ → Option S) (state next : S) (xs ys : List ℕ)
     → walk_by step state xs ≡ Some next → walk_by step state (xs ++ ys) ≡ walk_by step next ys
-walk_by-append_some step state next xs ys e =
-    walk_by-append step state xs ys ∙ ap (option_and_then (λ s. walk_by step s ys)) e
+walk_by-append_some step state next xs ys e = walk_by-append step state xs ys ∙ ap (option_and_then (λ s. walk_by step s ys)) e
 
 -- a state that each byte of a class lengthens takes a run of the class
 walk_by-run : {S : Type 0} (step : S → ℕ → Option S) (class : ℕ → Bool) (position : List ℕ → S)
@@ -207,8 +206,7 @@ walk_from-subtype top =
 -- spaces go on after a semicolon
 pub walk_list-spaces : (closed : Closed) (n run : List ℕ) → IsTrue (list_all is_space run)
     → walk_list (list_at closed (in_spaces n)) run ≡ at_state closed (in_spaces (n ++ run))
-walk_list-spaces closed =
-    walk_by-run grow_list is_space (λ n. list_at closed (in_spaces n)) (λ n b yes. cond-true _ _ _ yes)
+walk_list-spaces closed = walk_by-run grow_list is_space (λ n. list_at closed (in_spaces n)) (λ n b yes. cond-true _ _ _ yes)
 
 -- a token is walked to a parameter's name
 pub walk_list-name : (closed : Closed) (n name : List ℕ) → IsToken name
@@ -231,8 +229,7 @@ walk_list-open closed n name taken [] all = ap (λ t. at_state closed (in_quotes
 walk_list-open closed n name taken (b ∷ run) all =
     let parts = and_parts (continues taken b) (takes_all (awaits_next (awaits_after false taken) b) run) all in
     walk_by-step grow_list (list_at closed (in_quotes n name taken)) (list_at closed (in_quotes n name (taken ++ (b ∷ [])))) b run
-    (cond-true (continues taken b) _ _ parts.0)
-    ∙ walk_list-open closed n name (taken ++ (b ∷ [])) run
+    (cond-true (continues taken b) _ _ parts.0) ∙ walk_list-open closed n name (taken ++ (b ∷ [])) run
     (subst (λ a. IsTrue (takes_all a run)) (sym (awaits_after-append false taken (b ∷ []))) parts.1)
     ∙ ap (λ t. at_state closed (in_quotes n name t)) (append_assoc taken (b ∷ []) run)
 

@@ -70,8 +70,7 @@ border-after text at b rest begun next utf8 left grown =
     let here = byte_at text at b rest left in
     ⊎_elim (λ ascii. inl (IsCharBoundary-after_ascii text at utf8 here.0 (omega (arith, here.1, ascii))))
     (λ high. inr (MatchOption-at_some (Unit {0}) (λ n. IsOpen begun × IsOpen n) next grown
-    (grow-foreign begun b (foreign-from_high b high))).1)
-    (cases_lt b 128)
+    (grow-foreign begun b (foreign-from_high b high))).1) (cases_lt b 128)
 
 -- before a byte that leads nowhere a character ends
 border-before_dead : (text : List ℕ) (at : ℕ) (bytes rest : List ℕ) (b : ℕ) (start begun : Begun) → IsUtf8 text
@@ -81,8 +80,7 @@ border-before_dead text at [] rest b start begun utf8 left walked dead border =
     let here = byte_at text at b rest left in
     let sum : at ≡ at + 0 = omega arith in
     let dead_here = subst (λ s. grow s b ≡ None) (sym (same_Some start begun walked)) dead in
-    subst (IsCharBoundary text) sum
-    (⊎_elim (λ ends. ends)
+    subst (IsCharBoundary text) sum (⊎_elim (λ ends. ends)
     (λ quotes. (
       omega (arith, here.0),
       λ within above.

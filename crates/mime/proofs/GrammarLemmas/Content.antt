@@ -113,8 +113,7 @@ takes_all-append awaiting (b ∷ run) more all taken =
 -- a byte that continues open content leaves it open
 pub IsOpenContent-push : (content : List ℕ) (b : ℕ) → IsOpenContent content → IsTrue (continues content b)
     → IsOpenContent (content ++ b ∷ [])
-IsOpenContent-push content b all taken =
-    takes_all-append false content (b ∷ []) all (and_from (continues content b) true taken refl)
+IsOpenContent-push content b all taken = takes_all-append false content (b ∷ []) all (and_from (continues content b) true taken refl)
 
 -- quoted text is taken, and awaits nothing
 pub takes_all-text : (run : List ℕ) → IsTrue (list_all is_quoted_text_byte run) → IsTrue (takes_all false run)
@@ -133,8 +132,7 @@ awaits_after-text (b ∷ run) all =
 
 -- open content that a quote doesn't continue is content
 pub IsContent-closed : (content : List ℕ) (b : ℕ) → IsOpenContent content → IsFalse (continues content b)
-    → IsTrue (b == quote_byte)
-    → IsContent content
+    → IsTrue (b == quote_byte) → IsContent content
 IsContent-closed content b all stopped same =
     IsContent-taken content all
     (sym (takes-quote (awaits_after false content)) ∙ ap (continues content) (sym (eqb-true b quote_byte same)) ∙ stopped)
@@ -154,8 +152,7 @@ takes_all-any true (b ∷ run) all =
 -- a quote after a letter closes the value
 pub closed-letter : (content : List ℕ) → IsFalse (continues (content ++ 120 ∷ []) quote_byte)
 closed-letter content =
-    takes-quote (awaits_after false (content ++ 120 ∷ []))
-    ∙ awaits_after-append false content (120 ∷ [])
+    takes-quote (awaits_after false (content ++ 120 ∷ [])) ∙ awaits_after-append false content (120 ∷ [])
     ∙ elim (awaits_after false content) as (λ a. awaits_next a 120 ≡ false) [ true ↦ refl | false ↦ refl ]
 
 -- ---- lowercasing
@@ -164,8 +161,7 @@ closed-letter content =
 takes_all-lowered : (awaiting : Bool) (bytes : List ℕ) → takes_all awaiting (lowered bytes) ≡ takes_all awaiting bytes
 takes_all-lowered awaiting [] = refl
 takes_all-lowered awaiting (b ∷ bytes) =
-    rw (takes-of_lowercase awaiting b)
-    (ap (λ rest. takes awaiting b && rest)
+    rw (takes-of_lowercase awaiting b) (ap (λ rest. takes awaiting b && rest)
     (ap (λ a. takes_all a (lowered bytes)) (awaits_next-lowercase awaiting b) ∙ takes_all-lowered (awaits_next awaiting b) bytes))
 
 -- Lowercasing doesn't change whether a byte is awaited.
@@ -179,7 +175,6 @@ awaits_after-lowered awaiting (b ∷ bytes) =
 pub IsContent-case : (content other : List ℕ) → lowered other ≡ lowered content → IsContent content → IsContent other
 IsContent-case content other same is =
     IsContent-taken other
-    (sym (takes_all-lowered false other) ∙ ap (takes_all false) same
-    ∙ takes_all-lowered false content ∙ content-taken content is)
+    (sym (takes_all-lowered false other) ∙ ap (takes_all false) same ∙ takes_all-lowered false content ∙ content-taken content is)
     (sym (awaits_after-lowered false other) ∙ ap (awaits_after false) same
     ∙ awaits_after-lowered false content ∙ content-awaits content is)

@@ -99,8 +99,7 @@ lacks_own text (in_list top sub list) walked = at list.position list.closed walk
             (text-in_value top sub closed n name (v ∷ value) ∙ spelled-from_walk text _ walked) (omega arith)
             (begun-from_walk text _ walked).list.position.2
     at (in_quotes n name content) closed walked =
-        own-by_fault text _ walked
-        (completes_not (codes "x/x") (takes_all-any awaited (codes "x/x") refl))
+        own-by_fault text _ walked (completes_not (codes "x/x") (takes_all-any awaited (codes "x/x") refl))
         (λ passes ends. completes_not (codes "x") (takes_all-any awaited (codes "x") refl) passes)
         (completes_not (codes "=x") (takes_all-any awaited (codes "=x") refl))
         (λ passes ends. completes_not (codes "x") (takes_all-any awaited (codes "x") refl) passes)
@@ -156,10 +155,8 @@ dead_unique text pos at byte there first second =
 -- two faults of a text are the same
 fault_unique : (text : List ℕ) (first second : ParseError) → IsFault text first → IsFault text second → first ≡ second
 fault_unique text (InvalidToken pos byte) (InvalidToken at there) one two = dead_unique text pos at byte there one two
-fault_unique text (InvalidToken pos byte) other one two =
-    absurd (not_viable-at_dead text pos byte one (viable-from_lacks text other two))
-fault_unique text other (InvalidToken pos byte) one two =
-    absurd (not_viable-at_dead text pos byte two (viable-from_lacks text other one))
+fault_unique text (InvalidToken pos byte) other one two = absurd (not_viable-at_dead text pos byte one (viable-from_lacks text other two))
+fault_unique text other (InvalidToken pos byte) one two = absurd (not_viable-at_dead text pos byte two (viable-from_lacks text other one))
 fault_unique text first second one two = lacks_unique text first second one two
 
 -- a rejected text has exactly one fault

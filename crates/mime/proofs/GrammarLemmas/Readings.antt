@@ -56,8 +56,7 @@ walk_list-quoted : (closed : Closed) (n name content m : List ℕ) → IsContent
 unfolding is_token_byte
 walk_list-quoted closed n name content m fine white =
     walk_by-append_some grow_list (list_at closed (in_quotes n name [])) (list_at closed (in_quotes n name content))
-    content (quote_byte ∷ m)
-    (walk_list-open closed n name [] content (content-taken content fine))
+    content (quote_byte ∷ m) (walk_list-open closed n name [] content (content-taken content fine))
     ∙ walk_by-step grow_list (list_at closed (in_quotes n name content)) (list_at closed (after_quotes n name content [])) quote_byte m
     (cond-false (continues content quote_byte) _ _ (content-closed content fine))
     ∙ walk_list-after_quotes closed n name content [] m white
@@ -83,8 +82,7 @@ walk_list-text : (closed : Closed) (list : Parameters) → AreParameters list
 walk_list-text closed (blank n) fine = walk_list-spaces closed [] n fine
 walk_list-text closed (final n parameter) fine =
     walk_by-append_some grow_list (list_at closed (in_spaces [])) (list_at closed (in_spaces n)) n (text_of_parameter parameter)
-    (walk_list-spaces closed [] n fine.0)
-    ∙ walk_list-parameter closed n parameter fine.1
+    (walk_list-spaces closed [] n fine.0) ∙ walk_list-parameter closed n parameter fine.1
 walk_list-text closed (more n parameter rest) fine =
     walk_by-append_some grow_list (list_at closed (in_spaces [])) (list_at closed (in_spaces n))
     n (text_of_parameter parameter ++ (semicolon_byte ∷ text_of_list rest)) (walk_list-spaces closed [] n fine.0)

@@ -214,8 +214,7 @@ pub tree_of-spelled : (begun : Begun) → IsBegun begun
     → MatchOption (tree_of begun) (Unit {0}) (λ tree. IsWellFormed tree × (text_of tree ≡ text_of_begun begun))
 tree_of-spelled (in_type top) here = tt
 tree_of-spelled (in_subtype top []) here = tt
-tree_of-spelled (in_subtype top (s ∷ sub)) here =
-    ((here.0, here.1, tt), ap (λ t. top ++ (slash_byte ∷ t)) (append-nil (s ∷ sub)))
+tree_of-spelled (in_subtype top (s ∷ sub)) here = ((here.0, here.1, tt), ap (λ t. top ++ (slash_byte ∷ t)) (append-nil (s ∷ sub)))
 tree_of-spelled (in_list top sub list) here =
     elim (list_at_end list.position) as (λ o.
     MatchOption o (Unit {0}) (λ rest. AreParameters rest × (text_of_list rest ≡ text_of_state list.position))

@@ -56,8 +56,7 @@ completes-open_quotes : (top sub : List ℕ) (closed : Closed) (n name content :
     → IsTrue (completes (in_list top sub (list_at closed (in_quotes n name content))) (codes "x\""))
 unfolding is_quoted_byte
 completes-open_quotes top sub closed n name content =
-    ap (λ o. is_some (option_and_then tree_of o))
-    (walk_by-append_some grow (in_list top sub (list_at closed (in_quotes n name content)))
+    ap (λ o. is_some (option_and_then tree_of o)) (walk_by-append_some grow (in_list top sub (list_at closed (in_quotes n name content)))
     (in_list top sub (list_at closed (in_quotes n name (content ++ (120 ∷ []))))) (120 ∷ []) (quote_byte ∷ [])
     (walk_from-open top sub closed n name content (120 ∷ []) (takes_all-any (awaits_after false content) (120 ∷ []) refl)))
     ∙ ap (λ o. is_some (option_and_then tree_of (option_and_then (λ next. walk_from next []) (option_map (in_list top sub) o))))
@@ -67,8 +66,7 @@ completes-open_quotes top sub closed n name content =
 pub lacks-from_walk : (text : List ℕ) (begun : Begun) → walk text ≡ Some begun → tree_of begun ≡ None
     → Lacks text (lacking begun)
 unfolding is_token_byte
-lacks-from_walk text (in_type []) walked unfinished =
-    (accepted-from_completes text (codes "x/x") (in_type []) walked refl, tt)
+lacks-from_walk text (in_type []) walked unfinished = (accepted-from_completes text (codes "x/x") (in_type []) walked refl, tt)
 lacks-from_walk text (in_type (t ∷ top)) walked unfinished =
     (accepted-from_completes text (codes "x/x") (in_type (t ∷ top)) walked refl, tt)
 lacks-from_walk text (in_subtype top []) walked unfinished = (
@@ -129,8 +127,7 @@ empty_is_viable = viable-from_walk [] (in_type []) refl
 
 -- each prefix of a viable text is viable
 pub prefix_of_viable_is_viable : PrefixOfViableIsViable
-prefix_of_viable_is_viable prefix more viable =
-    (more ++ viable.0, subst IsAccepted (append_assoc prefix more viable.0) viable.1)
+prefix_of_viable_is_viable prefix more viable = (more ++ viable.0, subst IsAccepted (append_assoc prefix more viable.0) viable.1)
 
 -- ---- the prefix
 
@@ -153,10 +150,8 @@ prefix-from_walk prefix rest b begun walked dead = record {
       let more : n ≡ length prefix + suc k = omega arith in
       let text : take n (prefix ++ (b ∷ rest)) ≡ prefix ++ (b ∷ take k rest) =
       ap (λ i. take i (prefix ++ (b ∷ rest))) more ∙ take-append-add prefix (b ∷ rest) (suc k) in
-      not_viable-from_walk (prefix ++ (b ∷ take k rest))
-      (walk_by-append_some grow (in_type []) begun prefix (b ∷ take k rest) walked
-      ∙ ap (option_and_then (λ next. walk_from next (take k rest))) dead)
-      (subst IsViable text viable);
+      not_viable-from_walk (prefix ++ (b ∷ take k rest)) (walk_by-append_some grow (in_type []) begun prefix (b ∷ take k rest) walked
+      ∙ ap (option_and_then (λ next. walk_from next (take k rest))) dead) (subst IsViable text viable);
 }
 
 -- a text has at most one prefix

@@ -36,15 +36,13 @@ after_slash-read text value reads =
 
 -- what follows the slash is the subtype, and a plus with the suffix if there is one
 after_slash : (text : List ℕ) (value : MediaType) (plus : Option ℕ) → Reads text value → value.plus ≡ plus
-    → drop (value.slash + 1) value.essence
-    ≡ slice_range value.essence (value.slash + 1) (unwrap_or plus (length value.essence))
+    → drop (value.slash + 1) value.essence ≡ slice_range value.essence (value.slash + 1) (unwrap_or plus (length value.essence))
     ++ suffix_text (option_map (λ position. drop (position + 1) value.essence) plus)
 after_slash text value plus reads is =
     drop_split value.essence (value.slash + 1) _ (subtype_end text value.essence value plus reads refl is).0
     ∙ ap (λ rest. slice_range value.essence (value.slash + 1) (unwrap_or plus (length value.essence)) ++ rest) (from_plus plus is)
   where
-    from_plus : (plus : Option ℕ) → value.plus ≡ plus
-        → drop (unwrap_or plus (length value.essence)) value.essence
+    from_plus : (plus : Option ℕ) → value.plus ≡ plus → drop (unwrap_or plus (length value.essence)) value.essence
         ≡ suffix_text (option_map (λ position. drop (position + 1) value.essence) plus)
     from_plus None is = drop_all (length value.essence) value.essence (omega arith)
     from_plus (Some p) is = drop-from value.essence p plus_byte (plus_in text value.essence value p reads refl is).there
@@ -52,8 +50,7 @@ after_slash text value plus reads is =
 -- The essence is its parts.
 pub essence_is_parts : EssenceIsParts
 essence_is_parts text value reads =
-    sym (take-append-drop value.slash value.essence)
-    ∙ ap (λ rest. type_of value ++ rest)
+    sym (take-append-drop value.slash value.essence) ∙ ap (λ rest. type_of value ++ rest)
     (drop-from value.essence value.slash slash_byte (slash_in text value.essence value reads refl)
     ∙ ap (λ rest. slash_byte ∷ rest) (after_slash text value value.plus reads refl))
 
@@ -65,8 +62,7 @@ same_essence one other first second reads again = (
       (subst (λ t. Reads t (without_parameters first)) same (essence_is_read one first reads)) (essence_is_read other second again) in
       (ap type_of bare, ap subtype_of bare, ap suffix_of bare),
   λ same.
-      essence_is_parts one first reads
-      ∙ (λ i. same.0 i ++ (slash_byte ∷ (same.1 i ++ suffix_text (same.2 i))))
+      essence_is_parts one first reads ∙ (λ i. same.0 i ++ (slash_byte ∷ (same.1 i ++ suffix_text (same.2 i))))
       ∙ sym (essence_is_parts other second again),
 )
 
@@ -83,8 +79,7 @@ unsafe-dead begun b unsafe =
     elim (grow begun b) as (λ o. MatchOption o (Unit {0}) (λ next. IsOpen begun × IsOpen next) → grow begun b ≡ o → o ≡ None) [
       | None ↦ λ leads is. refl
       | Some next ↦ λ leads is. sym is ∙ ap (λ (state : Begun). grow state b) leads.0.is ∙ closed leads.0
-    ]
-    (grow-foreign begun b foreign) refl
+    ] (grow-foreign begun b foreign) refl
   where
     foreign : IsForeign b
     foreign = IsForeign-outside b (grind (arith, nat_tests, unsafe))
@@ -156,8 +151,7 @@ kept_is_safe text value reads =
       kept = walked-safe (in_type []) walked.0 value.kept walked.2.0;
       top = subst IsToken (sym top) low.0;
       sub = token-take _ (drop (value.slash + 1) value.essence) (subtype_some text value value.plus reads refl) after;
-      suffix = suffix_bytes (suffix_of value)
-          (list_all-parts is_token_byte (subtype_of value) (suffix_text (suffix_of value))
+      suffix = suffix_bytes (suffix_of value) (list_all-parts is_token_byte (subtype_of value) (suffix_text (suffix_of value))
           (subst AreTokenBytes (after_slash text value value.plus reads refl) (AreTokenBytes-from_token _ after))).1;
       pairs = subst (λ (v : MediaType). AllByRecursion IsSafePair v.pairs) reads.valued
           ((elim (lowered_tail reads.tree.tail) as (λ tail. IsTail tail → AllByRecursion IsSafePair (pairs_of_tail tail))

@@ -7,8 +7,7 @@ use Rattle.mime.specs.{Bytes.is_token_byte, Bytes.quote_byte, Bytes.semicolon_by
 use Rattle.mime.proofs.{GrammarLemmas.Begun.in_type, GrammarLemmas.Begun.in_subtype, GrammarLemmas.Begun.in_list, GrammarLemmas.Begun.begun_list, GrammarLemmas.Begun.walk-type, GrammarLemmas.Begun.ListState, GrammarLemmas.Begun.in_spaces, GrammarLemmas.Begun.in_name, GrammarLemmas.Begun.in_value, GrammarLemmas.Begun.in_quotes, GrammarLemmas.Begun.after_quotes, GrammarLemmas.Begun.BegunList, GrammarLemmas.Begun.grow_state, GrammarLemmas.Begun.grow_list, GrammarLemmas.Begun.close, GrammarLemmas.Begun.walk_by-step, GrammarLemmas.Begun.walk_list-spaces, GrammarLemmas.Begun.walk_list-name, GrammarLemmas.Begun.walk_list-value, GrammarLemmas.Begun.walk_list-open, GrammarLemmas.Begun.walk_list-after_quotes, ScanLemmas.Passing.given_then, ScanLemmas.Passing.given_whole, ScanLemmas.Passing.given_sum, GrammarLemmas.Spelling.walk_from-lengthens, ScanLemmas.Verdicts.Leads, ScanLemmas.Verdicts.positions_of_list, ScanLemmas.Verdicts.ListLeads, ScanLemmas.Verdicts.list_run, ScanLemmas.Verdicts.list_byte, BytesLemmas.quote_is_no_token, BytesLemmas.semicolon_is_no_token}
 
 -- nothing was walked yet
-pub none_walked : {old new : Remaining} {first : Option ℕ} → GivesFirst old new first
-    → Leads (in_type []) old new first (in_type [])
+pub none_walked : {old new : Remaining} {first : Option ℕ} → GivesFirst old new first → Leads (in_type []) old new first (in_type [])
 none_walked g = record { run = []; given = g.0; walked = refl }
 
 -- a type was walked
@@ -82,8 +81,7 @@ pub quotes_walked : {closed : List (List ℕ × Parameter)} {spaces name : List 
     → b ≡ quote_byte
     → (q : PassesContent from new stop) → ListLeads old new stop (record { closed = closed; position = in_quotes spaces name q.run })
 quotes_walked {closed} {spaces} {name} {b = b} r g e q =
-    list_run
-    (list_byte (list_run r g.0 refl)
+    list_run (list_byte (list_run r g.0 refl)
     (cond-false (is_token_byte b) _ _ (ap is_token_byte e ∙ quote_is_no_token) ∙ cond-true _ _ _ (eq-eqb b quote_byte e)))
     q.given (walk_list-open closed spaces name [] q.run q.of_class)
 
@@ -100,8 +98,7 @@ pub record Valued (closed : List (List ℕ × Parameter)) (spaces : List ℕ) (o
 
 -- a byte outside a class that goes on, and no semicolon, leads nowhere
 only_semicolon : (class : ℕ → Bool) (left : List ℕ) (stop : Option ℕ) (go closed : ℕ → Option BegunList)
-    → MatchOption stop (left ≡ []) (λ b. IsFalse (class b))
-    → MatchOption stop (left ≡ [])
+    → MatchOption stop (left ≡ []) (λ b. IsFalse (class b)) → MatchOption stop (left ≡ [])
     (λ b. b ≢ semicolon_byte → (if class b then go b else (if b == semicolon_byte then closed b else None)) ≡ None)
 only_semicolon class left stop go closed s = search rules
 

@@ -17,8 +17,7 @@ given_whole {new} {xs} {b} g = grind (arith, common_steps)
 
 -- a run of a class, and the next byte or the end
 pub reaches_next : {class : ℕ → Bool} {old mid new : Remaining} {stop : Option ℕ} → Passing class old mid
-    → GivesFirst mid new stop
-    → Reaches class old new stop
+    → GivesFirst mid new stop → Reaches class old new stop
 reaches_next p first = record { run = p.run; of_class = p.of_class; given = rw (sym (append-nil p.run)) (given_then p.given first.0) }
 
 -- what is counted and what is left make one sum
@@ -41,8 +40,7 @@ passes_before p [] (suc n) within = refl
 passes_before p (x ∷ xs) (suc n) within = go (p x) refl within (passes_before p xs n)
   where
     go : (b : Bool) → p x ≡ b → suc n ≤ cond b (1 + prefix_len p xs) 0
-        → (n ≤ prefix_len p xs → list_all p (take n xs) ≡ true)
-        → (p x && list_all p (take n xs)) ≡ true
+        → (n ≤ prefix_len p xs → list_all p (take n xs) ≡ true) → (p x && list_all p (take n xs)) ≡ true
     go true is within rest = and_from (p x) _ is (rest (omega (arith, within)))
     go false is within rest = absurd (omega (arith, within))
 
@@ -68,10 +66,7 @@ pub gives_at : (text : List ℕ) (at before : ℕ) → at < length text
     → GivesFirst (reader_at text at before) (reader_at text (at + 1) before) (Some (get_or text at 0))
 gives_at text at before room =
     let next : at + 1 ≡ suc at = omega arith in (
-      record {
-        bytes = drop-cons text at 0 room ∙ ap (λ m. get_or text at 0 ∷ drop m text) (sym next);
-        counted = omega arith;
-      },
+      record { bytes = drop-cons text at 0 room ∙ ap (λ m. get_or text at 0 ∷ drop m text) (sym next); counted = omega arith },
       tt,
     )
 
@@ -81,8 +76,7 @@ passing_none class now = record { run = []; of_class = refl; given = record { by
 
 -- a run of a class is one of a wider class
 abbrev pub reaches_wider : {class wider : ℕ → Bool} {old new : Remaining} {stop : Option ℕ}
-    → ((b : ℕ) → class b ≡ true → wider b ≡ true)
-    → Reaches class old new stop → Reaches wider old new stop
+    → ((b : ℕ) → class b ≡ true → wider b ≡ true) → Reaches class old new stop → Reaches wider old new stop
 reaches_wider {class} {wider} within p = record {
   run = p.run;
   of_class = list_all-wider class wider within p.run p.of_class;
@@ -164,8 +158,7 @@ taking_backslash {old} {mid} {new} {stop} p passes test =
     let text = awaits_after-text passes.run passes.of_class in
     subst (λ awaiting. Taking awaiting old new)
     (awaits_after-append false passes.run (backslash_byte ∷ []) ∙ ap (λ (a : Bool). awaits_next a backslash_byte) text)
-    (taking_run p given
-    (takes_all-append false passes.run (backslash_byte ∷ []) (takes_all-text passes.run passes.of_class)
+    (taking_run p given (takes_all-append false passes.run (backslash_byte ∷ []) (takes_all-text passes.run passes.of_class)
     (subst (λ awaiting. IsTrue (takes_all awaiting (backslash_byte ∷ []))) (sym text)
     (and_from (takes false backslash_byte) true takes-backslash refl))))
 

@@ -54,8 +54,7 @@ pub last_plus-run_after : (at : ℕ) (xs ys run : List ℕ) (position count : �
     → last_plus at ((xs ++ (ys ++ (plus_byte ∷ []))) ++ run) ≡ Some (position + count)
 last_plus-run_after at xs ys run position count is last =
     let grouped : (xs ++ (ys ++ (plus_byte ∷ []))) ++ run ≡ (xs ++ ys) ++ (plus_byte ∷ run) = simp append_assoc in
-    ap (last_plus at) grouped
-    ∙ last_plus-later at (xs ++ ys) (plus_byte ∷ run) (position + count)
+    ap (last_plus at) grouped ∙ last_plus-later at (xs ++ ys) (plus_byte ∷ run) (position + count)
     (last (at + length (xs ++ ys)) ∙ ap (λ n. Some (n + count)) (omega (arith, is, length-append xs ys)))
 
 -- ---- many pluses
@@ -70,8 +69,7 @@ pluses_none now = record {
 
 -- A plus more is passed.
 pub pluses_plus : {old mid new : Remaining} {b count : ℕ} → PassesPluses old mid count → GivesFirst mid new (Some b)
-    → b ≡ plus_byte
-    → PassesPluses old new (new.count - old.count)
+    → b ≡ plus_byte → PassesPluses old new (new.count - old.count)
 pluses_plus {old} {mid} {new} {b} {count} p gives is =
     let passing = passing_more p.passing gives (ap is_token_byte is ∙ is_token_plus) in
     let size : length passing.run ≡ new.count - old.count = omega (arith, passing.given.counted) in

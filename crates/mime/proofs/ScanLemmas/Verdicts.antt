@@ -15,8 +15,7 @@ pub record Leads (start : Begun) (old now : Remaining) (stop : Option ℕ) (begu
 
 -- one more run was given
 pub reaches_run : {start begun next : Begun} {old mid new : Remaining} {stop : Option ℕ} {run : List ℕ}
-    → Leads start old mid None begun → Given mid new run stop → walk_from begun run ≡ Some next
-    → Leads start old new stop next
+    → Leads start old mid None begun → Given mid new run stop → walk_from begun run ≡ Some next → Leads start old new stop next
 reaches_run {start} {begun} {run = run} r g e = record {
   run = r.run ++ run;
   given = given_then r.given g;
@@ -88,10 +87,7 @@ pub scans_at : {old now : Remaining} {stop : Option ℕ} {begun : Begun} (positi
 scans_at {old} {now} {stop = None} {begun} positions r end e =
     let bytes : old.left ≡ r.run = r.given.bytes ∙ ap (λ rest. r.run ++ rest) end ∙ append-nil r.run in
     let size : now.count - old.count ≡ length r.run = omega (arith, r.given.counted) in
-    record {
-      counted = omega (arith, r.given.counted);
-      judged = rw (e, size, bytes) (judged r.run begun (tree_of begun) r.walked refl);
-    }
+    record { counted = omega (arith, r.given.counted); judged = rw (e, size, bytes) (judged r.run begun (tree_of begun) r.walked refl) }
 scans_at {old} {now} {stop = Some b} {begun} positions r dead e =
     let size : now.count - old.count - 1 ≡ length r.run = omega (arith, r.given.counted) in
     record {
@@ -123,8 +119,7 @@ positions_of_list-tree : (top sub : List ℕ) (list : BegunList)
     → positions_of_list (positions_of (before_list top sub)) list ≡ option_map positions_of (tree_of (in_list top sub list))
 positions_of_list-tree top sub list = at_end (list_at_end list.position)
   where
-    at_end : (end : Option Parameters)
-        → option_map
+    at_end : (end : Option Parameters) → option_map
         (λ rest. record (positions_of (before_list top sub)) { pair_count = 0 + (length list.closed + length (pairs_of_list rest)) }) end
         ≡ option_map positions_of
         (option_map (λ rest. record { top = top; sub = sub; tail = listed rest }) (option_map (with_closed list.closed) end))

@@ -128,14 +128,12 @@ media_bytes media after =
 
 -- the bytes of pairs, and what follows them
 more_bytes : (pair : List ℕ × List ℕ) (pairs : List (List ℕ × List ℕ)) (after : List ℕ)
-    → flat_map pair_bytes (pair ∷ pairs) ++ after
-    ≡ pair.0 ++ (255 ∷ (pair.1 ++ (255 ∷ (flat_map pair_bytes pairs ++ after))))
+    → flat_map pair_bytes (pair ∷ pairs) ++ after ≡ pair.0 ++ (255 ∷ (pair.1 ++ (255 ∷ (flat_map pair_bytes pairs ++ after))))
 more_bytes pair pairs after = grind (arith, common_steps)
 
 -- pairs and essences whose bytes begin with the same are the same
 pairs_same : (xs ys : List (List ℕ × List ℕ)) (one other m n : List ℕ) → AllByRecursion IsFedPair xs
-    → AllByRecursion IsFedPair ys
-    → AreTextBytes one → AreTextBytes other → ¬ (AreTokenBytes one) → ¬ (AreTokenBytes other)
+    → AllByRecursion IsFedPair ys → AreTextBytes one → AreTextBytes other → ¬ (AreTokenBytes one) → ¬ (AreTokenBytes other)
     → flat_map pair_bytes xs ++ (one ++ (255 ∷ m)) ≡ flat_map pair_bytes ys ++ (other ++ (255 ∷ n))
     → (one ≡ other) × (xs ≡ ys)
 unfolding is_token_byte

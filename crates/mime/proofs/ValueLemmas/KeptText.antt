@@ -83,8 +83,7 @@ keeps_as tree kept text well holds spelled valued = record {
 }
 
 -- the lowercased text of a tree with a list: lowercased up to the semicolon, and then pair by pair
-whole_text : (top sub : List ℕ) (list : Parameters) → AreParameters list
-    → text_of (lowered_tree (tree_with top sub (listed list)))
+whole_text : (top sub : List ℕ) (list : Parameters) → AreParameters list → text_of (lowered_tree (tree_with top sub (listed list)))
     ≡ lowered (take (length top + 1 + length sub + 1) (text_of (tree_with top sub (listed list))))
     ++ lowered_within (length (pairs_of_list list)) (drop (length top + 1 + length sub + 1) (text_of (tree_with top sub (listed list))))
 whole_text top sub list well =
@@ -102,13 +101,11 @@ essence_text : (top sub text : List ℕ) → text ≡ top ++ (slash_byte ∷ sub
 essence_text top sub text is = rw (is, lowered-append top (slash_byte ∷ sub), append-nil (lowered sub)) refl
 
 -- every accepted text is kept so
-keeps_parts : (top sub : List ℕ) (tail : Tail) → IsWellFormed (tree_with top sub tail)
-    → Keeps (tree_with top sub tail)
+keeps_parts : (top sub : List ℕ) (tail : Tail) → IsWellFormed (tree_with top sub tail) → Keeps (tree_with top sub tail)
     (kept_text_of (length (pairs_of_tail tail)) (semicolon_of (length top + 1 + length sub) tail) (text_of (tree_with top sub tail)))
     (kept_positions (positions_of (tree_with top sub tail)))
 keeps_parts top sub no_list well =
-    keeps_as _ (tree_with top sub no_list) _ well refl
-    (essence_text top sub _ (ap (λ x. top ++ (slash_byte ∷ x)) (append-nil sub))) refl
+    keeps_as _ (tree_with top sub no_list) _ well refl (essence_text top sub _ (ap (λ x. top ++ (slash_byte ∷ x)) (append-nil sub))) refl
 keeps_parts top sub (listed (blank n)) well =
     keeps_as _ (tree_with top sub no_list) _ (well.0, well.1, tt) refl
     (essence_text top sub _ (take-essence (tree_with top sub (listed (blank n))))) refl
@@ -133,8 +130,7 @@ pairs_within-text_of top sub list well = rw (drop-to_semicolon top sub (text_of_
 media_whole : (top sub : List ℕ) (list : Parameters) → AreParameters list
     → let tree = tree_with top sub (listed list) in kept_text (pairs_of_list list) tree ≡ text_of tree
     → value_of_low tree ≡ media_of (text_of tree) (positions_of tree)
-media_whole top sub list well kept =
-    cc (kept, take-essence (tree_with top sub (listed list)), pairs_within-text_of top sub list well)
+media_whole top sub list well kept = cc (kept, take-essence (tree_with top sub (listed list)), pairs_within-text_of top sub list well)
 
 -- the value of a kept tree is that of its text and its positions
 media_parts : (top sub : List ℕ) (tail : Tail) → IsTail tail
@@ -157,8 +153,7 @@ media_of-kept text positions is_kept =
 
 -- an accepted text reads as its tree's value
 pub reads_as : {text : List ℕ} {positions : Positions} {value : MediaType} (has : HasPositions text positions)
-    → value_of has.tree ≡ value
-    → Reads text value
+    → value_of has.tree ≡ value → Reads text value
 reads_as has valued = record { tree = has.tree; well_formed = has.well_formed; spelled = has.spelled; valued = valued }
 
 -- a kept text is read as the value of its parts
@@ -211,18 +206,15 @@ semicolon-there top sub (listed list) s is =
 
 -- an accepted text has a semicolon where its positions say so
 pub slice_get-semicolon : (text : List ℕ) (positions : Positions) (s : ℕ) → HasPositions text positions
-    → positions.semicolon ≡ Some s
-    → slice_get text s ≡ Some semicolon_byte
+    → positions.semicolon ≡ Some s → slice_get text s ≡ Some semicolon_byte
 slice_get-semicolon text positions s has is =
     at_tree (λ t q. q.semicolon ≡ Some s → slice_get t s ≡ Some semicolon_byte) text positions has
     (semicolon-there has.tree.top has.tree.sub has.tree.tail s) is
 
 -- the kept text of a text with a pair is that text with some parts lowercased
-pub kept-in_part : (count s : ℕ) (text : List ℕ)
-    → IsLoweredInPart text (with_pairs_lowered count s text)
+pub kept-in_part : (count s : ℕ) (text : List ℕ) → IsLoweredInPart text (with_pairs_lowered count s text)
 kept-in_part count s text =
-    subst (λ t. IsLoweredInPart t (with_pairs_lowered count s text))
-    (take-append-drop (s + 1) text)
+    subst (λ t. IsLoweredInPart t (with_pairs_lowered count s text)) (take-append-drop (s + 1) text)
     (in_parts _ _ _ _ (lowercase (take (s + 1) text)) (lowered_within-in_part count (drop (s + 1) text)))
 
 -- The kept text of a text with a pair is as long as that text.

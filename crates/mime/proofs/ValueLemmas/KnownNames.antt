@@ -19,8 +19,7 @@ first_equals-le text n is = ⊎_elim
 -- The byte at the first position of an equals sign is one, unless the text ends.
 get_or-first_equals : (text : List ℕ) → first_position equals_byte text < length text
     → get_or text (first_position equals_byte text) 0 == equals_byte ≡ true
-get_or-first_equals text within =
-    grind (arith, nat_tests, prefix_len_stops (λ b. not (b == equals_byte)) text 0 within)
+get_or-first_equals text within = grind (arith, nat_tests, prefix_len_stops (λ b. not (b == equals_byte)) text 0 within)
 
 -- The first position of an equals sign isn't that of any other byte.
 pub first_equals-other : (text : List ℕ) (n : ℕ) → n < length text → get_or text n 0 ≢ equals_byte
@@ -46,8 +45,7 @@ has_equals-before (b ∷ text) = ⊎_elim
     (λ (is : b == equals_byte ≡ true). rw is refl)
     (λ (other : b == equals_byte ≡ false).
     let on : suc (first_position equals_byte text) ≡ first_position equals_byte (b ∷ text) = rw other (omega arith) in
-    subst (λ n. has_equals (take n (b ∷ text)) ≡ false) on (rw other (has_equals-before text)))
-    (cases_Bool (b == equals_byte))
+    subst (λ n. has_equals (take n (b ∷ text)) ≡ false) on (rw other (has_equals-before text))) (cases_Bool (b == equals_byte))
 
 -- A name that is a text but for case is as long as the text.
 pub first_equals-named : (list text : List ℕ) → lowered (cut_of list).name ≡ lowered text
@@ -73,7 +71,6 @@ first_equals-taken body text is none least = ⊎_elim
     let there = get_or-take (length text) body at 0 before in
     absurd (true≢false (
     sym (list_any_at (λ b. b == equals_byte) (take (length text) body) at 0 (omega (arith, before, size))
-    (rw there (get_or-first_equals body within)))
-    ∙ has_equals-case _ text is ∙ none)))
+    (rw there (get_or-first_equals body within))) ∙ has_equals-case _ text is ∙ none)))
     (λ (after : length text ≤ first_position equals_byte body). omega (arith, after, least))
     (cases_lt (first_position equals_byte body) (length text))

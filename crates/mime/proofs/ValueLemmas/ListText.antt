@@ -68,8 +68,7 @@ cut_value-plain whole name (v ∷ value) follow rest all follows =
 
 -- a quoted value is cut up to its closing quote
 cut_value-quoted : (whole : ℕ) (name content n follow rest : List ℕ) → IsContent content → AreSpaces n
-    → IsFollow semicolon_byte follow rest
-    → cut_after_equals whole name (quote_byte ∷ (content ++ (quote_byte ∷ (n ++ follow))))
+    → IsFollow semicolon_byte follow rest → cut_after_equals whole name (quote_byte ∷ (content ++ (quote_byte ∷ (n ++ follow))))
     ≡ record { name = name; value_start = whole - length (content ++ (quote_byte ∷ (n ++ follow))); value = content; rest = rest }
 cut_value-quoted whole name content n follow rest is white follows =
     let bytes : List ℕ = content ++ (quote_byte ∷ (n ++ follow)) in
@@ -131,12 +130,10 @@ head_counted n name opening after = grind (arith, common_steps)
 
 -- the first pair cut from the text of a parameter and what follows it
 cut_of-parameter : (n : List ℕ) (p : Parameter) (follow rest : List ℕ) → AreSpaces n → IsParameter p
-    → IsFollow semicolon_byte follow rest
-    → cut_of (n ++ (text_of_parameter p ++ follow))
+    → IsFollow semicolon_byte follow rest → cut_of (n ++ (text_of_parameter p ++ follow))
     ≡ record { name = (pair_of p).0; value_start = length (n ++ head_of p); value = (pair_of p).1; rest = rest }
 cut_of-parameter n (plain name value) follow rest white (named, token) follows =
-    ap (λ x. cut_of (n ++ x)) (append_assoc name (equals_byte ∷ value) follow)
-    ∙ cut_of-named n name (value ++ follow) white named
+    ap (λ x. cut_of (n ++ x)) (append_assoc name (equals_byte ∷ value) follow) ∙ cut_of-named n name (value ++ follow) white named
     ∙ cut_value-plain _ name value follow rest (AreTokenBytes-from_token value token) follows
     ∙ ap (λ h. record { name = name; value_start = h; value = value; rest = rest })
     (head_counted n name (equals_byte ∷ []) (value ++ follow))
@@ -144,8 +141,7 @@ cut_of-parameter n (quoted name content m) follow rest white (named, is, blanks)
     let after = content ++ (quote_byte ∷ (m ++ follow)) in
     let grouped : text_of_parameter (quoted name content m) ++ follow ≡ name ++ (equals_byte ∷ quote_byte ∷ after) =
     simp append_assoc in
-    ap (λ x. cut_of (n ++ x)) grouped
-    ∙ cut_of-named n name (quote_byte ∷ after) white named
+    ap (λ x. cut_of (n ++ x)) grouped ∙ cut_of-named n name (quote_byte ∷ after) white named
     ∙ cut_value-quoted _ name content m follow rest is blanks follows
     ∙ ap (λ h. record { name = name; value_start = h; value = content; rest = rest })
     (head_counted n name (equals_byte ∷ quote_byte ∷ []) after)
@@ -193,10 +189,8 @@ lowered_within-parameter count n p rest white well =
       parts = subst (λ (c : PairCut). list ≡ (n ++ head_of p) ++ (c.value ++ ((end_of p ++ (semicolon_byte ∷ [])) ++ c.rest)))
           (sym cut) parts;
       value_start = ap (λ (c : PairCut). c.value_start) cut;
-    })
-    ∙ ap (λ (c : PairCut). (lowered (n ++ head_of p) ++ (lowered_value c.name c.value ++ (end_of p ++ (semicolon_byte ∷ []))))
-    ++ lowered_within (suc count) c.rest) cut
-    ∙ rw (lowered-append n (head_of p), lowered-spaces n white) (simp append_assoc)
+    }) ∙ ap (λ (c : PairCut). (lowered (n ++ head_of p) ++ (lowered_value c.name c.value ++ (end_of p ++ (semicolon_byte ∷ []))))
+    ++ lowered_within (suc count) c.rest) cut ∙ rw (lowered-append n (head_of p), lowered-spaces n white) (simp append_assoc)
     ∙ ap (λ x. n ++ x) (lowered_parameter-parts p (semicolon_byte ∷ lowered_within (suc count) rest))
 
 -- Under any name, lowercasing changes nothing around a value.
@@ -225,9 +219,7 @@ lowered_last-named n name after white is =
       middle = [];
       parts = subst (λ (c : PairCut). list ≡ head ++ (c.value ++ c.rest)) (sym cut) parts;
       value_start = ap (λ (c : PairCut). c.value_start) cut;
-    })
-    ∙ ap (λ (c : PairCut). (lowered head ++ (lowered_value c.name c.value ++ [])) ++ c.rest) cut
-    ∙ rw (
+    }) ∙ ap (λ (c : PairCut). (lowered head ++ (lowered_value c.name c.value ++ [])) ++ c.rest) cut ∙ rw (
       append-nil (lowered head ++ (lowered_value name after ++ [])),
       append-nil (lowered_value name after),
       lowered-append n (name ++ (equals_byte ∷ [])),
@@ -240,14 +232,12 @@ lowered_last-parameter : (n : List ℕ) (p : Parameter) (back : List ℕ) → Ar
     → lowered_within 1 (n ++ (text_of_parameter p ++ back)) ≡ n ++ (text_of_parameter (lowered_parameter p) ++ back)
 lowered_last-parameter n (plain name value) back white (named, token) low =
     ap (λ x. lowered_within 1 (n ++ x)) (append_assoc name (equals_byte ∷ value) back)
-    ∙ lowered_last-named n name (value ++ back) white named
-    ∙ rw (lowered_value-around name [] value back refl low) (simp append_assoc)
+    ∙ lowered_last-named n name (value ++ back) white named ∙ rw (lowered_value-around name [] value back refl low) (simp append_assoc)
 lowered_last-parameter n (quoted name content m) back white (named, is, blanks) low =
     let after = quote_byte ∷ (m ++ back) in
     let grouped : text_of_parameter (quoted name content m) ++ back ≡ name ++ (equals_byte ∷ quote_byte ∷ (content ++ after)) =
     simp append_assoc in
-    ap (λ x. lowered_within 1 (n ++ x)) grouped
-    ∙ lowered_last-named n name (quote_byte ∷ (content ++ after)) white named
+    ap (λ x. lowered_within 1 (n ++ x)) grouped ∙ lowered_last-named n name (quote_byte ∷ (content ++ after)) white named
     ∙ rw (lowered_value-around name (quote_byte ∷ []) content after refl
     (rw (lowered-append m back, lowered-spaces m blanks, low) refl)) (simp append_assoc)
 
@@ -256,8 +246,7 @@ pub lowered_within-text_of_list : (list : Parameters) → AreParameters list
     → lowered_within (length (pairs_of_list list)) (text_of_list list) ≡ text_of_list (lowered_list list)
 lowered_within-text_of_list (blank n) well = refl
 lowered_within-text_of_list (final n p) (white, well) =
-    ap (λ x. lowered_within 1 (n ++ x)) (sym (append-nil (text_of_parameter p)))
-    ∙ lowered_last-parameter n p [] white well refl
+    ap (λ x. lowered_within 1 (n ++ x)) (sym (append-nil (text_of_parameter p))) ∙ lowered_last-parameter n p [] white well refl
     ∙ ap (λ x. n ++ x) (append-nil (text_of_parameter (lowered_parameter p)))
 lowered_within-text_of_list (more n p (blank m)) (white, well, blanks) =
     lowered_last-parameter n p (semicolon_byte ∷ m) white well (ap (λ x. semicolon_byte ∷ x) (lowered-spaces m blanks))

@@ -13,8 +13,7 @@ pub lowered_start-more : (bytes text : List ℕ) (done from to : ℕ) → bytes 
 lowered_start-more bytes text done from to so_far before after within =
     let size = length-lowered (take done text) ∙ length-take-le done text (omega (arith, after, within)) in
     let all : lowered bytes ≡ lowered text =
-    ap lowered so_far
-    ∙ rw (lowered-append (lowered (take done text)) (drop done text), lowered-lowered (take done text))
+    ap lowered so_far ∙ rw (lowered-append (lowered (take done text)) (drop done text), lowered-lowered (take done text))
     (sym (lowered-append (take done text) (drop done text)) ∙ ap lowered (take-append-drop done text)) in
     let start : take from bytes ≡ lowered (take from text) =
     sym (take-take from done bytes before) ∙ ap (take from) (ap (take done) so_far ∙ take_at _ _ done size)
@@ -93,8 +92,7 @@ lowered_to-sizes bytes left from count whole so_far =
 -- the next pair is lowercased, and what is before it
 pub lowered_to-more : (bytes left part rest : List ℕ) (from low count next : ℕ) (whole : List ℕ)
     (so_far : IsLoweredTo bytes left from count whole) → count ≡ suc next → let cut = cut_before next left in
-    low ≡ cond (is_charset cut.name) (length cut.value) 0
-    → let P = take (length bytes - from) (drop from bytes) in
+    low ≡ cond (is_charset cut.name) (length cut.value) 0 → let P = take (length bytes - from) (drop from bytes) in
     let n = length bytes - length left - from + (cut.value_start + low) in
     part ≡ lowered (take n P) ++ drop n P → rest ≡ cut.rest
     → let new = put_mid from (length bytes - from) bytes part in IsLoweredTo new rest (length new - length rest) next whole
@@ -113,8 +111,7 @@ lowered_to-more bytes left part rest from low count next whole so_far counts low
     let before : take from bytes ≡ done = ap (take from) so_far.parts ∙ take_at done (between ++ left) from so_far.at in
     let after = drop_all (length bytes - from) (drop from bytes) (omega (arith, length-drop from bytes)) in
     let written : part ≡ lowered between ++ (first ++ rest) =
-    lowers ∙ (λ i. lowered (take (there i) (behind i)) ++ drop (there i) (behind i))
-    ∙ rw (
+    lowers ∙ (λ i. lowered (take (there i) (behind i)) ++ drop (there i) (behind i)) ∙ rw (
       take-add (length between) k (between ++ left),
       ← drop-drop k (length between) (between ++ left),
       take_at between left (length between) refl,
@@ -134,8 +131,7 @@ lowered_to-more bytes left part rest from low count next whole so_far counts low
           append_assoc done (lowered between ++ first) (lowered_within next rest)
           ∙ ap (λ x. done ++ x) (append_assoc (lowered between) first (lowered_within next rest)
           ∙ ap (λ x. lowered between ++ x) (rw rests (sym (lowered_within-first next left lies))
-          ∙ ap (λ m. lowered_within m left) (sym counts)))
-          ∙ so_far.comes;
+          ∙ ap (λ m. lowered_within m left) (sym counts))) ∙ so_far.comes;
       none = λ _. refl;
     }
 

@@ -63,8 +63,7 @@ first_quote awaiting (b ∷ text) n e free before = ⊎_elim
     let rest = first_quote (awaits_next awaiting b) text (n - 1) (omega (arith, on))
     (λ none. let is_none = before 0 (omega (arith, none, on)) in search rules)
     (λ m same. before (suc m) (omega (arith, same))) in
-    cond-false (not awaiting && b == quote_byte) _ _ (search rules) ∙ omega (arith, rest, on))
-    (cases_Bool (b == quote_byte))
+    cond-false (not awaiting && b == quote_byte) _ _ (search rules) ∙ omega (arith, rest, on)) (cases_Bool (b == quote_byte))
 
 -- content ends at the first quote, if no backslash precedes it
 pub content_len-first_quote : (text : List ℕ) (n : ℕ) → n ≡ first_position quote_byte text
@@ -86,8 +85,7 @@ EndsWith list bytes = (prefix : List ℕ) × (prefix ++ bytes ≡ list)
 pub ends-drop : (n : ℕ) (list bytes : List ℕ) → EndsWith list bytes → EndsWith list (drop n bytes)
 ends-drop n list bytes (prefix, whole) = (
   prefix ++ take n bytes,
-  append_assoc prefix (take n bytes) (drop n bytes)
-      ∙ ap (λ x. prefix ++ x) (take-append-drop n bytes) ∙ whole,
+  append_assoc prefix (take n bytes) (drop n bytes) ∙ ap (λ x. prefix ++ x) (take-append-drop n bytes) ∙ whole,
 )
 
 -- a value that begins an end of the list lies in the list
@@ -172,8 +170,7 @@ lowered_within-first count list lies =
     let size = length list - length cut.rest in
     let whole : length (first_lowered list cut lies) + length cut.rest ≡ length list = grind (arith, common_steps) in
     ap (λ x. x ++ lowered_within count cut.rest)
-    (ap (take size) (lowered_first-joined list cut lies)
-    ∙ take_at (first_lowered list cut lies) cut.rest size (omega (arith, whole)))
+    (ap (take size) (lowered_first-joined list cut lies) ∙ take_at (first_lowered list cut lies) cut.rest size (omega (arith, whole)))
 
 -- the pairs of any list, lowercased, are the list with some parts lowercased
 pub lowered_within-in_part : (count : ℕ) (list : List ℕ) → IsLoweredInPart list (lowered_within count list)

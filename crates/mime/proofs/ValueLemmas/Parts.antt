@@ -44,8 +44,7 @@ plus_is_last text value reads =
     let sub = lowered reads.tree.sub in
     let slash = length reads.tree.top in
     let view : (i : ℕ) → slice_get (top ++ (slash_byte ∷ sub)) (slash + 2 + i) ≡ slice_get (drop 1 sub) i =
-    λ i. slice_get-after top (slash_byte ∷ sub) (suc (suc i)) _ (omega (arith, length-lowered reads.tree.top))
-    ∙ search rules in
+    λ i. slice_get-after top (slash_byte ∷ sub) (suc (suc i)) _ (omega (arith, length-lowered reads.tree.top)) ∙ search rules in
     subst (λ (v : MediaType). IsLastPlus v.essence (v.slash + 1) (v.slash + 2) v.plus) reads.valued
     (last_plus-is_last (top ++ (slash_byte ∷ sub)) (slash + 1) (slash + 2) (drop 1 sub) (omega arith) view)
 
@@ -65,8 +64,7 @@ pub record PlusIn (essence : List ℕ) (slash plus : ℕ) : Type 0 where
 
 -- the plus of a value that was read lies in its essence
 pub plus_in : (text essence : List ℕ) (value : MediaType) (plus : ℕ) → Reads text value → essence ≡ value.essence
-    → value.plus ≡ Some plus
-    → PlusIn essence value.slash plus
+    → value.plus ≡ Some plus → PlusIn essence value.slash plus
 plus_in text essence value plus reads is found =
     let last = MatchOption-at_some (HasNoPlusFrom value.essence (value.slash + 2)) _ plus found (plus_is_last text value reads) in
     record { above = last.0; there = rw is (last.1) }
@@ -86,8 +84,7 @@ subtype_end text essence value (Some plus) reads is found =
 
 -- the suffix begins after the plus, at a character within the essence
 pub suffix_start : (text essence : List ℕ) (value : MediaType) (plus : ℕ) → Reads text value → essence ≡ value.essence
-    → IsUtf8 essence
-    → value.plus ≡ Some plus → (plus < length essence) × IsCharBoundary essence (plus + 1)
+    → IsUtf8 essence → value.plus ≡ Some plus → (plus < length essence) × IsCharBoundary essence (plus + 1)
 suffix_start text essence value plus reads is utf8 found =
     let at = plus_in text essence value plus reads is found in
     (slice_get_within essence plus plus_byte at.there, boundary_after essence plus plus_byte utf8 at.there (lit< tt))
@@ -127,8 +124,7 @@ items_of-low ((name, value) ∷ pairs) (low, others) =
 
 -- the first value of a list is what is found, if its name is accepted; and it is low
 pub first_value-found : (Accepts : List ℕ → Bool → Type 0) (count : ℕ) (list name back value : List ℕ) (flag : Bool)
-    → count ≢ 0
-    → AreLowPairs (pairs_within count list) → name ≡ before_byte equals_byte (without_spaces list)
+    → count ≢ 0 → AreLowPairs (pairs_within count list) → name ≡ before_byte equals_byte (without_spaces list)
     → back ≡ after_byte equals_byte (without_spaces list) → Accepts name true
     → value ≡ (cut_after_equals (length list) name back).value → flag ≡ bytes_eq name (codes "charset")
     → IsFirstAccepted Accepts (items_of (pairs_within count list)) (Some (value, flag)) × IsLowIf flag value

@@ -12,13 +12,12 @@ plus-not_zero text positions is_kept is =
     absurd (omega (arith, at.above))
 
 -- the positions in a text that is read as a value with a parameter
-pub read-positions : (text : List ℕ) (value : MediaType) → Reads text value → length value.pairs ≢ 0
-    → HasPositions text (record {
-      slash = value.slash;
-      plus = value.plus;
-      semicolon = Some (length value.essence);
-      pair_count = length value.pairs;
-    })
+pub read-positions : (text : List ℕ) (value : MediaType) → Reads text value → length value.pairs ≢ 0 → HasPositions text (record {
+  slash = value.slash;
+  plus = value.plus;
+  semicolon = Some (length value.essence);
+  pair_count = length value.pairs;
+})
 read-positions text value reads some = record {
   tree = reads.tree;
   well_formed = reads.well_formed;
@@ -30,8 +29,7 @@ read-positions text value reads some = record {
 }
   where
     go : (top sub : List ℕ) (tail : Tail) (value : MediaType) → value_of_low (record { top = top; sub = sub; tail = tail }) ≡ value
-        → length value.pairs ≢ 0
-        → positions_of (record { top = top; sub = sub; tail = tail })
+        → length value.pairs ≢ 0 → positions_of (record { top = top; sub = sub; tail = tail })
         ≡ record { slash = value.slash; plus = value.plus; semicolon = Some (length value.essence); pair_count = length value.pairs }
     go top sub no_list value is some = absurd (some (sym (ap (λ (v : MediaType). length v.pairs) is)))
     go top sub (listed list) value is some =
@@ -60,8 +58,7 @@ read-kept text value reads kept some =
     }
   where
     go : (pairs : List (List ℕ × List ℕ)) → length pairs ≡ length value.pairs
-        → kept_text pairs (lowered_tree reads.tree) ≡ value.kept
-        → text_of (lowered_tree reads.tree) ≡ text
+        → kept_text pairs (lowered_tree reads.tree) ≡ value.kept → text_of (lowered_tree reads.tree) ≡ text
     go [] none is = absurd (some (sym none))
     go (pair ∷ pairs) none is = is ∙ kept
 

@@ -61,8 +61,7 @@ pub one_positions : (text : List ℕ) (first second : Positions) → HasPosition
     → first ≡ second
 one_positions text first second has also =
     sym has.same_positions ∙ ap positions_of (one_tree has.tree also.tree has.well_formed also.well_formed (has.spelled
-    ∙ sym also.spelled))
-    ∙ also.same_positions
+    ∙ sym also.spelled)) ∙ also.same_positions
 
 -- `*/*` is accepted
 pub star-accepted : (text : List ℕ) → text ≡ 42 ∷ 47 ∷ 42 ∷ [] → IsAccepted text

@@ -20,8 +20,7 @@ exact {cmp = cmp} total same x y = (same x y, λ is. ap (cmp x) (sym is) ∙ tie
 
 -- what two orders find, one after the other
 finds_then : {X : Type 0} (x y : X) (P Q : Type 0) (a b : Ordering) → (a ≡ Less) ↔ P → (a ≡ Equal) ↔ (x ≡ y)
-    → (b ≡ Less) ↔ Q
-    → (ordering_then a b ≡ Less) ↔ (P ⊎ ((x ≡ y) × Q))
+    → (b ≡ Less) ↔ Q → (ordering_then a b ≡ Less) ↔ (P ⊎ ((x ≡ y) × Q))
 finds_then x y P Q a b less equal rest = search rules
 
 -- the order of lists finds less what is before, if that of their items does
@@ -139,8 +138,7 @@ differ_in_beginnings text other n m at within also differ = grind (arith, common
 
 -- values whose essences differ are ordered by the bytes at which these first differ
 pub ordered_by_essence : (x y : MediaType) (at : ℕ) → at < length x.essence → at < length y.essence
-    → DifferAt x.essence y.essence 0 at
-    → media_cmp x y ≡ nat_cmp (slice_index x.essence at) (slice_index y.essence at)
+    → DifferAt x.essence y.essence 0 at → media_cmp x y ≡ nat_cmp (slice_index x.essence at) (slice_index y.essence at)
 ordered_by_essence x y at within also differ =
     let essences = ordered_by_difference x.essence y.essence at within also differ in
     decided (slice_cmp nat_cmp x.essence y.essence) _

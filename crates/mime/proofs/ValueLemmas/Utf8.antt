@@ -27,8 +27,7 @@ lowered-in_part text partly (in_parts prefix back low_prefix low_back first seco
 
 -- a text lowercased in part has the same length
 pub length-in_part : (text partly : List ℕ) → IsLoweredInPart text partly → length partly ≡ length text
-length-in_part text partly lowers =
-    sym (length-lowered partly) ∙ ap length (lowered-in_part text partly lowers) ∙ length-lowered text
+length-in_part text partly lowers = sym (length-lowered partly) ∙ ap length (lowered-in_part text partly lowers) ∙ length-lowered text
 
 -- the parts of a text without capitals have none
 low_parts : (prefix back : List ℕ) → lowered (prefix ++ back) ≡ prefix ++ back
@@ -88,8 +87,7 @@ of_character c partly is low = ⊎_elim
     (λ ascii. of_ascii c partly ascii (low ∙ ap lowered (encode_ascii c ascii)))
     (λ above.
     let none = list_all-wider _ is_no_letter (λ b high. grind (arith, nat_tests)) (encode c) (high_bytes c is above) in
-    subst IsUtf8 (sym (stays (encode c) partly none low)) (IsUtf8-encode c is))
-    (cases_lt c 128)
+    subst IsUtf8 (sym (stays (encode c) partly none low)) (IsUtf8-encode c is)) (cases_lt c 128)
 
 -- a text with the lowercased form of characters is valid UTF-8
 of_characters : (characters partly : List ℕ) → scalars characters ≡ true → lowered partly ≡ lowered (encodes characters)
@@ -100,8 +98,7 @@ of_characters (c ∷ characters) partly are is =
     let parts = and_parts (scalar c) (scalars characters) are in
     let cut = lowered-parts (encode c) (encodes characters) partly is in
     let n = length (encode c) in
-    subst IsUtf8 (take-append-drop n partly)
-    (IsUtf8-append (take n partly) (drop n partly)
+    subst IsUtf8 (take-append-drop n partly) (IsUtf8-append (take n partly) (drop n partly)
     (of_character c (take n partly) parts.0 cut.0) (of_characters characters (drop n partly) parts.1 cut.1))
 
 -- a text in UTF-8, lowercased in part, is in UTF-8

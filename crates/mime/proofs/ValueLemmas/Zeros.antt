@@ -27,7 +27,6 @@ pub zeros-same : (bytes others : List ℕ) (len other size : ℕ) → len ≤ le
 zeros-same bytes others len other size within also zeros more same =
     let lengths = sym (length-take-le len bytes within) ∙ ap length same ∙ length-take-le other others also in (
       lengths,
-      sym (take-append-drop len bytes)
-          ∙ ap₂ (λ x y. x ++ y) same (zeros ∙ ap (λ n. replicate (size - n) 0) lengths ∙ sym more)
+      sym (take-append-drop len bytes) ∙ ap₂ (λ x y. x ++ y) same (zeros ∙ ap (λ n. replicate (size - n) 0) lengths ∙ sym more)
           ∙ take-append-drop other others,
     )

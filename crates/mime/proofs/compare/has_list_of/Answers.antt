@@ -23,16 +23,14 @@ returns-in-Accepted c =
     let judged = judged-by_list _ c.args.s.now _ c.requires.reads c.requires.begins c.before_list.result c.before_list.ensures
     c.new-reader.result
     c.parameters.new.reader _ (c.new-reader.ensures.left ∙ c.text.ensures ∙ c.of-list.ensures
-    ∙ ap (λ n. drop (n + 1) c.args.s.now) end)
-    (c.new-reader.ensures.count ∙ ap (λ n. n + 1) end) c.in-Accepted.ensures in (
+    ∙ ap (λ n. drop (n + 1) c.args.s.now) end) (c.new-reader.ensures.count ∙ ap (λ n. n + 1) end) c.in-Accepted.ensures in (
       λ is.
           let at = c.has_shape.ensures.0 is in
           record {
             positions = c.in-Accepted.positions;
             has = judged.1;
             at = at.0 ∙ ap Some end;
-            counted = at.1
-                ∙ c.param_count.ensures;
+            counted = at.1 ∙ c.param_count.ensures;
           },
       λ is.
           let one = one_positions c.args.s.now c.in-Accepted.positions is.positions judged.1 is.has in
@@ -48,6 +46,5 @@ returns-in_default c =
     let judged = judged-by_list _ c.args.s.now _ c.requires.reads c.requires.begins c.before_list.result c.before_list.ensures
     c.new-reader.result
     c.parameters.new.reader _ (c.new-reader.ensures.left ∙ c.text.ensures ∙ c.of-list.ensures
-    ∙ ap (λ n. drop (n + 1) c.args.s.now) end)
-    (c.new-reader.ensures.count ∙ ap (λ n. n + 1) end) c.parameters.ensures in
+    ∙ ap (λ n. drop (n + 1) c.args.s.now) end) (c.new-reader.ensures.count ∙ ap (λ n. n + 1) end) c.parameters.ensures in
     (λ bad. absurd cc, λ is. absurd (rejected-not_accepted _ _ _ judged c.in_default.not-Accepted (accepted-from_positions _ _ is.has)))

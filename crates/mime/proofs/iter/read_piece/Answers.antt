@@ -20,15 +20,13 @@ returns-then-not-is_token-clause-reads c =
     let scans = scans_at None (none_walked (first_given here))
     (cond-false _ _ _ (sym c.is_token.ensures ∙ c.if-not-is_token.true)) refl in
     let judged = judged-from_scan _ _ _ _ _ _ scans refl refl c.count.ensures.count in
-    rw (c.none.ensures.positions, c.none.ensures.steps)
-    (passes-stopped _ _ _ _ 0 _ _ _ judged (omega (arith, c.count.ensures.count))
+    rw (c.none.ensures.positions, c.none.ensures.steps) (passes-stopped _ _ _ _ 0 _ _ _ judged (omega (arith, c.count.ensures.count))
     c.none.ensures.piece c.range_from.ensures.value next.bound next.boundary next.nearest)
 
 pub returns-in-Accepted-clause-reads : goal.returns-in-Accepted-clause-reads
 returns-in-Accepted-clause-reads c =
     let here = (goal.at.returns-in-Accepted-clause-reads c).Start in
-    rw (c.nothing_of.ensures)
-    (passes-whole _ _ _
+    rw (c.nothing_of.ensures) (passes-whole _ _ _
     (judged-from_scan _ _ _ _ _ _ (c.in-Accepted.ensures (start here) (first_given here)) refl refl c.count-steps.ensures.count))
 
 pub returns-in-Unfinished-clause-reads : goal.returns-in-Unfinished-clause-reads

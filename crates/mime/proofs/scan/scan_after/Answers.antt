@@ -7,22 +7,18 @@ use Rattle.mime.proofs.scan.scan_after.Goals as goal
 
 pub returns-then-not-is_token : goal.returns-then-not-is_token
 returns-then-not-is_token c = λ start gives.
-    scans_at None (none_walked gives)
-    (cond-false _ _ _ (sym c.is_token.ensures ∙ c.if-not-is_token.true)) refl
+    scans_at None (none_walked gives) (cond-false _ _ _ (sym c.is_token.ensures ∙ c.if-not-is_token.true)) refl
 
 pub returns-in-None : goal.returns-in-None
 returns-in-None c = λ start gives.
-    scans_at None
-    (type_walked gives (sym c.is_token.ensures ∙ c.if-not-is_token.false)
+    scans_at None (type_walked gives (sym c.is_token.ensures ∙ c.if-not-is_token.false)
     c.in-None.ensures)
     c.in-None.ensures.stopped refl
 
 pub returns-in-Some : goal.returns-in-Some
 returns-in-Some c = λ start gives.
-    scans_at None
-    (type_walked gives (sym c.is_token.ensures ∙ c.if-not-is_token.false)
-    c.in-Some.ensures)
-    (cond-false _ _ _ c.in-Some.ensures.stopped ∙ cond-false _ _ _ (ne_eqb _ slash_byte c.in-Some.byte-test.1)) refl
+    scans_at None (type_walked gives (sym c.is_token.ensures ∙ c.if-not-is_token.false)
+    c.in-Some.ensures) (cond-false _ _ _ c.in-Some.ensures.stopped ∙ cond-false _ _ _ (ne_eqb _ slash_byte c.in-Some.byte-test.1)) refl
 
 -- the slash after the type, and its position
 slashed : (c : After-position-slash) (start : Remaining) → GivesFirst start c.args.reader.now (Some c.args.first)
@@ -33,14 +29,7 @@ slashed c start gives =
 
 -- The position of the slash is the length of the type.
 slash_is : (c : After-position-slash) → c.position-slash.result ≡ length (c.args.first ∷ c.in-Some-eq47.ensures.run)
-slash_is c =
-    omega (
-      arith,
-      c.requires,
-      c.position-slash.ensures,
-      c.count-from.ensures.count,
-      c.in-Some-eq47.ensures.given.counted,
-    )
+slash_is c = omega (arith, c.requires, c.position-slash.ensures, c.count-from.ensures.count, c.in-Some-eq47.ensures.given.counted)
 
 pub returns-in_default : goal.returns-in_default
 returns-in_default c = λ start gives.
@@ -71,8 +60,7 @@ subtyped c start gives slash =
           c.subtype-plus.ensures.passes.of_class));
       stopped = c.subtype-plus.ensures.passes.stopped;
       plussed =
-          c.subtype-plus.ensures.plus
-          ∙ ap (λ at. last_plus at c.subtype-plus.ensures.passes.run)
+          c.subtype-plus.ensures.plus ∙ ap (λ at. last_plus at c.subtype-plus.ensures.passes.run)
           (omega (arith, before, others, next, c.count-from.ensures.count));
       counted = omega (arith, before, others, next, c.subtype-plus.ensures.passes.given.counted);
     }
@@ -97,9 +85,7 @@ returns c = λ start gives.
     let here = goal.at.returns c in
     let s = rw c.in-Some-eq59.is at (subtyped here.After-subtype-plus start gives (slashed here.After-position-slash start gives)) in
     let sub = c.in-Some-next.first ∷ s.others in
-    scans_list
-    (reaches_byte s.walked
-    (cond-false _ _ _ s.stopped ∙ cond-true _ _ _
+    scans_list (reaches_byte s.walked (cond-false _ _ _ s.stopped ∙ cond-true _ _ _
     (eq-eqb _ semicolon_byte (rw c.in-Some-eq59.field-0-is at c.in-Some-eq59.field-0-test))))
     (ap (λ (positions : Positions). record positions { semicolon = Some c.position.result })
     (essence_is _ _ (c.args.first ∷ c.in-Some-eq47.ensures.run) s.others (slash_is here.After-position-slash) s.plussed)

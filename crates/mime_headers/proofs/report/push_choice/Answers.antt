@@ -13,8 +13,7 @@ returns c =
     let empty : vec_items c.push_shown.new.text ≡ read ++ empty_row old read = search rules in
     let rows = rw c.deref.ensures.value at c.in_ok-ranking.ensures in
     let best = rw c.deref-2.ensures.value at c.in_ok-is_acceptable.ensures in
-    let text : vec_items c.push_best.new.text
-    ≡ read ++ (empty_row old read
+    let text : vec_items c.push_best.new.text ≡ read ++ (empty_row old read
     ++ (offer_rows (codes "offer ") ranges offers ranking ++ (best_row offers ranking).0)) =
     simp (best.rows, rows.rows, empty, append_assoc) in (
       λ none. absurd (omega (arith, some, none, length-map c.args.lines.now vec_items)),

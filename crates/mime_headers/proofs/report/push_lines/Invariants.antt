@@ -10,12 +10,10 @@ invariant-loop-line l =
 
 abbrev pub invariant-loop-rest : goal.invariant-loop-rest
 invariant-loop-rest l =
-    (end : List ℕ × List MediaType)
-    → AddsLines (l.left ∷ map vec_items (drop (l.line-index + 1) l.lines)) (
+    (end : List ℕ × List MediaType) → AddsLines (l.left ∷ map vec_items (drop (l.line-index + 1) l.lines)) (
       vec_items l.text,
       map (λ range. range.media) (vec_items l.ranges),
-    ) end
-    → AddsLines (map vec_items l.fn.lines) (vec_items l.fn.text, map (λ range. range.media) (vec_items l.fn.ranges)) end
+    ) end → AddsLines (map vec_items l.fn.lines) (vec_items l.fn.text, map (λ range. range.media) (vec_items l.fn.ranges)) end
 
 abbrev pub decreases-loop-rest : goal.decreases-loop-rest
 decreases-loop-rest l = length l.left

@@ -4,7 +4,7 @@ use Rattle.std.specs.List.{prefix_len}
 use Rattle.std.proofs.{lemmas.Bool.cases_lt, lemmas.List.Sums.prefix_len-drop_all, lemmas.List.Sums.prefix_len-drop_no, lemmas.List.Sums.prefix_len-drop_yes}
 use Rattle.mime_http.proofs.Common.{is_token_byte}
 use Rattle.mime_http.proofs.ReadAt.{are_token_bytes, run_goes_on}
-use Rattle.mime_http.specs.declared.reader.TheConstants.{TOKEN_STOPS}
+use Rattle.mime_search.specs.declared.class.TheConstants.{TOKEN_STOPS}
 use Rattle.mime_http.proofs.reader.token_end.Goals as goal
 
 pub returns-then-is_token_at-clause-end : goal.returns-then-is_token_at-clause-end

@@ -12,5 +12,4 @@ returns-then-class-clause-mask c =
     ∙ stops_inside c.args.class.now c.args.bytes c.fits-bytes.0 c.if-class.true
 
 pub returns-else-class-clause-mask : goal.returns-else-class-clause-mask
-returns-else-class-clause-mask c =
-    c.outside_in_lanes-outside.ensures.mask ∙ stops_outside c.args.class.now c.args.bytes c.if-class.false
+returns-else-class-clause-mask c = c.outside_in_lanes-outside.ensures.mask ∙ stops_outside c.args.class.now c.args.bytes c.if-class.false

@@ -22,7 +22,5 @@ returns g c =
       c.requires.same,
       length-put_chunk last mid (take part (drop last bytes)),
       length-put_chunk 0 c.args.out.now (take part bytes),
-    )))
-    ∙ take_more_put_chunk last mid (take part (drop last bytes)) (length bytes) (omega (arith, ap length end, length-drop last bytes))
-    (omega (arith, c.requires.same, length-put_chunk 0 c.args.out.now (take part bytes)))
-    ∙ cc (start, end, take-append-drop last bytes)
+    ))) ∙ take_more_put_chunk last mid (take part (drop last bytes)) (length bytes) (omega (arith, ap length end, length-drop last bytes))
+    (omega (arith, c.requires.same, length-put_chunk 0 c.args.out.now (take part bytes))) ∙ cc (start, end, take-append-drop last bytes)

@@ -12,8 +12,7 @@ returns-clause-left c =
     search_past_run _ c.of-class.ensures text c.if-text-ge-BLOCK.at c.first_stop.result c.first_stop.ensures.end
     ∙ elim c.if-text-ge-BLOCK.branch [
       | then-text-ge-BLOCK+else-stops-ne0 w ↦
-          ap left w.at-is
-          ∙ no_mark text c.args.from _ _ w.stops_from-size.ensures.within w.stops_from-size.ensures.few
+          ap left w.at-is ∙ no_mark text c.args.from _ _ w.stops_from-size.ensures.within w.stops_from-size.ensures.few
           (w.stops_from-size.ensures.mask
           ∙ (λ i. mask_l (map (λ b. c.of-class.ensures b i) (take w.stops_from-size.result.0 (drop c.args.from text)))))
           w.if-stops-ne0.false

@@ -7,8 +7,7 @@ use Rattle.mime_search.proofs.search.first_stop.Goals as goal
 pub returns-then-stops-ne0-clause-end : goal.returns-then-stops-ne0-clause-end
 returns-then-stops-ne0-clause-end c =
     a_stop (is_stop c.args.class.now) c.args.text.now c.loop-at.at 16 _ (omega (arith, c.loop-at-test.true)) (omega arith)
-    c.stops_in_block-stops.ensures.mask c.if-stops-ne0.true
-    ∙ c.loop-at.invariant.same
+    c.stops_in_block-stops.ensures.mask c.if-stops-ne0.true ∙ c.loop-at.invariant.same
 
 pub returns-then-stops-ne0-clause-within : goal.returns-then-stops-ne0-clause-within
 returns-then-stops-ne0-clause-within c =
@@ -24,6 +23,5 @@ loop-at-preserved c = record {
   within = omega (arith, c.loop-at-test.true);
   same =
       no_stop (is_stop c.args.class.now) c.args.text.now c.loop-at.at 16 _ (omega (arith, c.loop-at-test.true)) (omega arith)
-      c.stops_in_block-stops.ensures.mask c.if-stops-ne0.false
-      ∙ c.loop-at.invariant.same;
+      c.stops_in_block-stops.ensures.mask c.if-stops-ne0.false ∙ c.loop-at.invariant.same;
 }

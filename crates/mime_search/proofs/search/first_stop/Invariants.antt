@@ -4,10 +4,7 @@ use Rattle.mime_search.specs.Classes.{end_of_run}
 use Rattle.mime_search.proofs.search.first_stop.Given as goal
 
 abbrev pub invariant-loop-at : goal.invariant-loop-at
-invariant-loop-at l = record {
-  within : l.at ≤ length l.text;
-  same : end_of_run l.class l.text l.at ≡ end_of_run l.class l.text l.from;
-}
+invariant-loop-at l = record { within : l.at ≤ length l.text; same : end_of_run l.class l.text l.at ≡ end_of_run l.class l.text l.from }
 
 abbrev pub decreases-loop-at : goal.decreases-loop-at
 decreases-loop-at l = length l.text - l.at

@@ -8,11 +8,9 @@ returns c =
     let text = c.args.text.now in
     let back = drop (length text - 8) text in
     let size = length-drop (length text - 8) text in
-    pick_l_whole 0 (take 8 text ++ take 8 back) 16
-    (omega (
+    pick_l_whole 0 (take 8 text ++ take 8 back) 16 (omega (
       arith,
       length-append (take 8 text) (take 8 back),
       length-take-le 8 text c.requires,
       length-take-le 8 back (omega (arith, size, c.requires)),
-    ))
-    ∙ ap (λ t. take 8 text ++ t) (take_all 8 back (omega (arith, size, c.requires)))
+    )) ∙ ap (λ t. take 8 text ++ t) (take_all 8 back (omega (arith, size, c.requires)))

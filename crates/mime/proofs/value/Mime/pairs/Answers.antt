@@ -6,11 +6,9 @@ use Rattle.mime.proofs.value.Mime.pairs.Goals as goal
 
 pub returns-clause-pairs : goal.returns-clause-pairs
 returns-clause-pairs c =
-    c.of_text.ensures ∙ rw (c.semicolon.ensures, c.as_str-text.ensures)
-    (ap (λ (kept : OwnedMedia). kept.media.pairs) c.self.view_is)
+    c.of_text.ensures ∙ rw (c.semicolon.ensures, c.as_str-text.ensures) (ap (λ (kept : OwnedMedia). kept.media.pairs) c.self.view_is)
 
 pub returns-clause-low : goal.returns-clause-low
 returns-clause-low c =
-    rw (returns-clause-pairs c)
-    (subst (λ (kept : OwnedMedia). AreLowPairs kept.media.pairs) c.self.view_is
+    rw (returns-clause-pairs c) (subst (λ (kept : OwnedMedia). AreLowPairs kept.media.pairs) c.self.view_is
     (read-low_pairs _ _ (reads-from_kept _ _ c.self.invariant.kept)))

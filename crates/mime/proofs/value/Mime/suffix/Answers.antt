@@ -8,8 +8,7 @@ overflow_add-plus c =
     let is = c.essence_str.ensures ∙ ap (λ kept. kept.media.essence) (sym c.self.view_is) in
     omega (
       arith,
-      (suffix_start _ _ _ _ (reads-from_kept _ _ c.self.invariant.kept) is c.essence_str.utf8
-          (rw c.plus.ensures at c.in_ok-plus.was)).0,
+      (suffix_start _ _ _ _ (reads-from_kept _ _ c.self.invariant.kept) is c.essence_str.utf8 (rw c.plus.ensures at c.in_ok-plus.was)).0,
     )
 
 pub range_from-requires : goal.range_from-requires

@@ -7,8 +7,7 @@ use Rattle.mime.proofs.{ValueLemmas.Pairs.content_len-first_quote, value.pairs.c
 use Rattle.mime.proofs.value.pairs.content_len.Goals as goal
 
 pub bounds-text-quote : goal.bounds-text-quote
-bounds-text-quote c =
-    omega (arith, c.requires, prefix_len-le-length (λ b. not (b == quote_byte)) c.args.text.now, c.if-quote-eq0.false)
+bounds-text-quote c = omega (arith, c.requires, prefix_len-le-length (λ b. not (b == quote_byte)) c.args.text.now, c.if-quote-eq0.false)
 
 pub returns-then-quote-eq0 : goal.returns-then-quote-eq0
 returns-then-quote-eq0 c =

@@ -16,8 +16,7 @@ taken body text name end name_is end_is least named none =
 pub returns-in_default-clause-other : goal.returns-in_default-clause-other
 returns-in_default-clause-other g c = λ _. (
   c.if-is_only.true,
-  λ accepted. c.cut_name_of_size.ensures.other c.in_default.is
-      (ap (first_position equals_byte) c.without_spaces-list.ensures
+  λ accepted. c.cut_name_of_size.ensures.other c.in_default.is (ap (first_position equals_byte) c.without_spaces-list.ensures
       ∙ first_equals-named c.args.list.now c.in-Some.text.now (c.in-Some.ensures _ accepted)),
 )
 

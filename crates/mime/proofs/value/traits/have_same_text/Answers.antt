@@ -13,8 +13,7 @@ none (Some at) is = absurd (true≢false is)
 
 pub returns-clause-same : goal.returns-clause-same
 returns-clause-same c = λ is. same_from_text _ _ c.args.first.now.media c.args.second.now.media c.as_str.ensures.reads
-    c.as_str-2.ensures.reads
-    (same_text _ _ (sym is ∙ c.eq.ensures))
+    c.as_str-2.ensures.reads (same_text _ _ (sym is ∙ c.eq.ensures))
 
 pub returns-in-Short-text-clause-same : goal.returns-in-Short-text-clause-same
 returns-in-Short-text-clause-same c = λ is.

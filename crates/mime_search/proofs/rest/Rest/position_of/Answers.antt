@@ -21,8 +21,7 @@ returns-then-text-ge-BLOCK c =
       a_stop (is_stop c.of-class.result) text 0 16 _ (omega (arith, c.if-text-ge-BLOCK.true)) (omega arith)
           c.stops_in_block-stops.ensures.mask c.if-stops-eq0.false,
       first_stop-position c.of-class.result c.args.byte c.of-class.ensures text 0,
-    )
-    ∙ ap (first_position c.args.byte) (c.as_bytes-text.ensures.value ∙ c.self.view_is)
+    ) ∙ ap (first_position c.args.byte) (c.as_bytes-text.ensures.value ∙ c.self.view_is)
 
 pub returns : goal.returns
 returns c =

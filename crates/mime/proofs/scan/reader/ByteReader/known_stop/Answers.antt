@@ -20,13 +20,7 @@ pub invariant_of-self-2 : goal.invariant_of-self-2
 invariant_of-self-2 c =
     let keeps = c.self.invariant in
     let near = known-few (is_stop TOKEN_STOPS) _ _ _ _ keeps.mask keeps.there keeps.few c.if-self.false c.if-stops-eq0.false in
-    record {
-      within = omega (arith, keeps.there, near);
-      fits = keeps.fits;
-      few = keeps.few;
-      there = keeps.there;
-      mask = keeps.mask;
-    }
+    record { within = omega (arith, keeps.there, near); fits = keeps.fits; few = keeps.few; there = keeps.there; mask = keeps.mask }
 
 pub returns : goal.returns
 returns c =
@@ -36,8 +30,7 @@ returns c =
     let stop = inside.at + count_trailing_zeros 64 (inside.stops / 2 ^ inside.at) in
     let near = known-few (is_stop TOKEN_STOPS) _ _ _ _ keeps.mask keeps.there keeps.few c.if-self.false c.if-stops-eq0.false in
     let first = known-some (is_stop TOKEN_STOPS) text _ _ _ keeps.mask keeps.there keeps.few c.if-self.false c.if-stops-eq0.false in
-    reaches_wider are_token_bytes
-    (subst
+    reaches_wider are_token_bytes (subst
     (λ old. Reaches (λ b. not (is_stop TOKEN_STOPS b)) old (reader_at text (stop + 1) inside.before) (Some (get_or text stop 0)))
     c.self.view_is
     (reaches_next (passing_skip _ text inside.at stop inside.before (omega (arith, near, keeps.there)) (omega arith) (omega (arith, first)))
@@ -49,8 +42,7 @@ returns-then-stops-eq0 c =
     let keeps = c.self.invariant in
     let text = inside.text.now in
     let all = known-none (is_stop TOKEN_STOPS) text _ _ _ keeps.mask keeps.there keeps.few c.if-self.false c.if-stops-eq0.true in
-    reaches_wider are_token_bytes
-    (reaches_then
+    reaches_wider are_token_bytes (reaches_then
     (subst (λ old. Passing (λ b. not (is_stop TOKEN_STOPS b)) old (reader_at text inside.known inside.before)) c.self.view_is
     (passing_skip _ text inside.at inside.known inside.before keeps.within (omega (arith, c.if-self.false)) all))
     c.skip_blocks.ensures)

@@ -8,8 +8,7 @@ use Rattle.mime.proofs.scan.reader.ByteReader.look_further.Goals as goal
 pub stops_in_window-self-inside-requires-clause-first : goal.stops_in_window-self-inside-requires-clause-first
 stops_in_window-self-inside-requires-clause-first c =
     let inside = c.self.inside in
-    c.self.invariant.mask ∙ ap (λ n. stops TOKEN_STOPS (take n inside.text.now)) c.if-self-eq-BLOCK.true
-    ∙ ap (stops TOKEN_STOPS)
+    c.self.invariant.mask ∙ ap (λ n. stops TOKEN_STOPS (take n inside.text.now)) c.if-self-eq-BLOCK.true ∙ ap (stops TOKEN_STOPS)
     (sym (take-take 16 c.min.result inside.text.now (omega (arith, c.min.ensures, c.if-self-eq-BLOCK.true, c.if-self.true))))
 
 pub stops_in_window-self-inside-requires-clause-few : goal.stops_in_window-self-inside-requires-clause-few

@@ -16,11 +16,9 @@ returns-then-left-eq1-clause-found g c =
     let list = c.loop-left.list in
     let first = c.in-Some.ensures in
     let none : c.loop-left.left - 1 ≡ 0 = omega (arith, c.if-left-eq1.true) in
-    c.loop-left.invariant.decides None
-    (found-next (g.K.ParamKey.Accepts c.args.key.now) c.loop-left.left list None c.loop-left-test.true
+    c.loop-left.invariant.decides None (found-next (g.K.ParamKey.Accepts c.args.key.now) c.loop-left.left list None c.loop-left-test.true
     (λ accepted. true≢false (sym (first.accepted.1 (subst (λ n. g.K.ParamKey.Accepts c.args.key.now n true)
-    (sym (cut_of-name list _ first.name)) accepted)) ∙ c.if-first.false))
-    (rw none refl))
+    (sym (cut_of-name list _ first.name)) accepted)) ∙ c.if-first.false)) (rw none refl))
 
 pub loop-left-preserved : goal.loop-left-preserved
 loop-left-preserved g c =

@@ -13,8 +13,7 @@ returns-then-have_same_owned_text-clause-computed c =
     sym (equal-media c.args.self.now.media c.args.other.now.media (c.have_same_owned_text.ensures c.if-have_same_owned_text.true))
 
 pub returns-then-is_ne-clause-order : goal.returns-then-is_ne-clause-order
-returns-then-is_ne-clause-order c =
-    tells_answer c.args.self.now.media c.args.other.now.media c.cmp-order.result (search rules)
+returns-then-is_ne-clause-order c = tells_answer c.args.self.now.media c.args.other.now.media c.cmp-order.result (search rules)
 
 pub returns-then-param_count-eq0-clause-computed : goal.returns-then-param_count-eq0-clause-computed
 returns-then-param_count-eq0-clause-computed c =
