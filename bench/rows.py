@@ -104,7 +104,7 @@ def others():
     yield Row("content_type of text/html ; charset=utf-8", "field", "text/html ; charset=utf-8", differs=True)
     yield Row("content_type of application/json, application/json", "field", "application/json, application/json",
               most=340)
-    for label, spaces, most in (("a space", 1, 450), ("2 KB of spaces", 2_048, None)):
+    for label, spaces, most in (("a space", 1, 450), ("2 KB of spaces", 2_048, 5_500)):
         yield Row(f"content_type of an open string and {label}", "field", f'text/html; charset="utf-8{" " * spaces}', most=most)
     yield Row("covers: profiles that differ at the end", "covers", *profiles("sz"), most=520)
     yield Row("best of three such ranges and three such offers", "best", ", ".join(profiles("abc")), "\n".join(profiles("xyz")), most=4_700)
