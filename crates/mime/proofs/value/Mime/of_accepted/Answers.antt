@@ -11,4 +11,4 @@ returns-in-Ok-clause-read c = rw (c.of_kept.ensures.media, c.in-Ok.ensures, c.po
 
 pub returns-in-Err-clause-explained : goal.returns-in-Err-clause-explained
 returns-in-Err-clause-explained c =
-    rw c.new.ensures (_, kept_reads _ _ c.requires, omega (arith, c.kept_len.ensures.kept, c.if-kept_len-le-SHORT.false))
+    rw c.new.ensures (_, kept_reads _ _ c.requires, omega (arith, c.kept_len.ensures.kept))
