@@ -1,5 +1,5 @@
 -- The heads of an input, and the values of a field there (RFC 9110, 5.5, 5.6.2 and 5.6.3; RFC 9112, 2 to 5).
-use Rattle.std.specs.Prelude.{ℕ, ◌-◌, Bool, false, true, List, [], ◌∷◌, ◌++◌, ◌==◌, ◌||◌, ◌&&◌, not, nat_lt, map, filter, take, drop, length, if◌then◌else◌, codes, Option, Some, None, option_map, option_to_list, unwrap_or}
+use Rattle.std.specs.Prelude.{ℕ, ◌-◌, Bool, List, [], ◌∷◌, ◌++◌, ◌==◌, ◌||◌, ◌&&◌, not, nat_lt, map, filter, take, drop, length, if◌then◌else◌, codes, Option, Some, None, option_map, option_to_list, unwrap_or}
 use Rattle.std.specs.{Char.is_ascii_digit, List.list_all, List.list_any, List.slice_index, List.before_first, List.after_first, Str.bytes_eq, Str.str_eq_ignore_ascii_case, Str.Lines.strip_carriage_return}
 use Rattle.mime.specs.{Bytes.is_token_byte, Grammar.is_space}
 use Rattle.mime_http.specs.HttpList.{trim_start, trimmed}
@@ -109,13 +109,19 @@ abbrev pub title_of : List (List ℕ) → List ℕ
 title_of [] = []
 title_of (line ∷ lines) = line
 
--- The heads that begin at each start line, and at the first line of a field if no start line is before it (`first`).
-abbrev pub begun_heads : Bool → Bool → List (List ℕ) → List (List (List ℕ))
-begun_heads cut first [] = []
-begun_heads cut first (line ∷ lines) =
-    if is_start (text_of line) || (first && is_field (text_of line))
-    then head_at cut (line ∷ lines) ++ begun_heads cut false lines
-    else begun_heads cut first lines
+-- the heads that begin at start lines
+abbrev pub started_heads : Bool → List (List ℕ) → List (List (List ℕ))
+started_heads cut [] = []
+started_heads cut (line ∷ lines) =
+    (if is_start (text_of line) then head_at cut (line ∷ lines) else []) ++ started_heads cut lines
+
+-- the head that begins at the first start line or the first line of a field, and those that begin at later start lines
+abbrev pub begun_heads : Bool → List (List ℕ) → List (List (List ℕ))
+begun_heads cut [] = []
+begun_heads cut (line ∷ lines) =
+    if is_start (text_of line) || is_field (text_of line)
+    then head_at cut (line ∷ lines) ++ started_heads cut lines
+    else begun_heads cut lines
 
 -- whether a line begins one of the two fields
 abbrev pub is_one : List ℕ → Bool
@@ -123,10 +129,10 @@ is_one line = begins (codes "content-type:") line || begins (codes "accept:") li
 
 -- whether a head counts: it has a start line, or one of the two fields
 abbrev pub counts : List (List ℕ) → Bool
-counts head = list_any is_one head || is_start (title_of head)
+counts head = is_start (title_of head) || list_any is_one head
 
 abbrev pub heads_of : Bool → List (List ℕ) → List (List (List ℕ))
-heads_of cut lines = filter counts (begun_heads cut true lines)
+heads_of cut lines = filter counts (begun_heads cut lines)
 
 -- ---- fields
 

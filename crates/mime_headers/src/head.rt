@@ -1,11 +1,11 @@
 //! The heads of an input, and the values of their fields.
 
-ghost use Rattle.std.specs.Prelude.{◌≡◌, ◌≤◌, ◌++◌, ◌==◌, ◌||◌, ◌&&◌, length, map, option_map, option_to_list, IfOk};
+ghost use Rattle.std.specs.Prelude.{◌≡◌, ◌≤◌, false, [], ◌∷◌, ◌++◌, ◌==◌, ◌||◌, ◌&&◌, length, drop, map, filter, option_map, option_to_list, if◌then◌else◌, IfOk, OnOk};
 ghost use Rattle.std.specs.List.{before_first, after_first, list_all};
 ghost use Rattle.std.specs.Vec.{vec_items};
 ghost use Rattle.mime.specs.Bytes.{is_token_byte};
 ghost use Rattle.mime_http.specs.HttpList.{trimmed};
-ghost use Rattle.mime_headers.specs.Head.{bare, bare_lines, begins, continued, counts, from_angle, goes_on, head_at, heads_of, is_field, is_request_line, is_code, is_end, is_interim, is_one, is_spaced, is_start, is_status_line, is_token, is_version, own_text, text_of, title_of, values_of};
+ghost use Rattle.mime_headers.specs.Head.{bare, bare_lines, begins, continued, counts, from_angle, goes_on, head_at, heads_of, is_field, is_request_line, is_code, is_end, is_interim, is_one, is_spaced, is_start, is_status_line, is_token, is_version, own_text, started_heads, text_of, title_of, values_of};
 ghost use Rattle.mime_headers.specs.Inner.{lines_now};
 
 use mime_http::trimmed;
@@ -199,25 +199,37 @@ fn is_end(mark: &[u8], line: &[u8], own: Option<&[u8]>) -> bool
     is_start(text_of(line)) || own.map_or(trimmed(mark).is_empty(), |text| text.is_empty())
 }
 
-/// Returns the head that the first of lines begins, or `None` if only the end of an input that is cut off ends it.
-fn head_at<'a>(alloc: Global, lines: &[&'a [u8]], is_cut: bool) -> Made<Option<Head<'a>>>
-    ensures { IfOk result (λ head. head_at is_cut (map (λ line. line.now) lines.now) ≡ option_to_list (option_map lines_now head)) }
+/// Returns the head that a line begins, if it `begins` one, and the number of lines before its end. `lines` are those after the line. If only
+/// the end of an input that is cut off ends the head, returns `None` for it.
+fn cut_head<'a>(
+    alloc: Global,
+    begins: bool,
+    line: &'a [u8],
+    lines: &[&'a [u8]],
+    is_cut: bool,
+) -> Made<(Option<Head<'a>>, usize)>
+    ensures head { IfOk result (λ cut. (if begins then head_at is_cut (line.now ∷ map (λ line. line.now) lines.now) else [])
+        ≡ option_to_list (option_map lines_now cut.0)) }
+    ensures rest { IfOk result (λ cut.
+        started_heads is_cut (map (λ line. line.now) (drop cut.1 lines.now)) ≡ started_heads is_cut (map (λ line. line.now) lines.now)) }
+    ensures none { IfOk result (λ cut. begins ≡ false → cut.1 ≡ 0) }
+    ensures within { IfOk result (λ cut. cut.1 ≤ length lines.now) }
 {
-    let Some((line, lines)) = lines.split_first() else {
-        return Ok(None);
-    };
+    if !begins {
+        return Ok((None, 0));
+    }
     let text = text_of(line);
     let mark = &line[..line.len() - text.len()];
     let mut head = Vec::new(alloc);
     head.push(text)?;
-    for next in lines {
+    for (at, next) in lines.iter().enumerate() {
         let own = own_text(mark, next);
         if is_end(mark, next, own) {
-            return Ok(Some(head));
+            return Ok((Some(head), at));
         }
         head.extend_from_slice(own.as_slice())?;
     }
-    Ok((!is_cut).then_some(head))
+    Ok(((!is_cut).then_some(head), lines.len()))
 }
 
 /// Returns the first line of a head, which is its title, or an empty slice if it has no line.
@@ -241,12 +253,28 @@ fn is_one(line: &[u8]) -> bool
 fn counts(head: &[&[u8]]) -> bool
     ensures { result ≡ counts (map (λ line. line.now) head.now) }
 {
+    if is_start(title_of(head)) {
+        return true;
+    }
     for line in head {
         if is_one(line) {
             return true;
         }
     }
-    is_start(title_of(head))
+    false
+}
+
+/// Adds a head, if there is one and it counts.
+fn push_counted<'a>(heads: &mut Vec<Head<'a>>, head: Option<Head<'a>>) -> Made<()>
+    ensures { OnOk result (map lines_now (vec_items heads.new) ≡ map lines_now (vec_items heads.old)
+        ++ filter counts (option_to_list (option_map lines_now head.entry))) }
+{
+    if let Some(head) = head {
+        if counts(&head) {
+            heads.push(head)?;
+        }
+    }
+    Ok(())
 }
 
 /// Returns the heads of an input's lines. In an input that is cut off, a head counts only if one of the lines ends it.
@@ -255,17 +283,13 @@ pub(crate) fn heads_of<'a>(alloc: Global, lines: &[&'a [u8]], is_cut: bool) -> M
 {
     let mut heads = Vec::new(alloc);
     let mut first = true;
-    for (at, line) in lines.iter().enumerate() {
-        if !begins_head(first, text_of(line)) {
-            continue;
-        }
-        first = false;
-        let Some(head) = head_at(alloc, &lines[at..], is_cut)? else {
-            continue;
-        };
-        if counts(&head) {
-            heads.push(head)?;
-        }
+    let mut at = 0;
+    while at < lines.len() {
+        let begins = begins_head(first, text_of(lines[at]));
+        let (head, len) = cut_head(alloc, begins, lines[at], &lines[at + 1..], is_cut)?;
+        push_counted(&mut heads, head)?;
+        first &= !begins;
+        at += 1 + len;
     }
     Ok(heads)
 }

@@ -14,7 +14,7 @@ pub enum RunError {
     Write,
     /// The source has more than 1,048,576 bytes.
     TooLong,
-    /// The input has no head of a request or a response.
+    /// The input has no head, as of a request, a response or a mail.
     NoHead,
     /// Memory ran out.
     NoMemory,
