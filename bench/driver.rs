@@ -51,7 +51,7 @@ struct Given<'a> {
 const OPERATIONS: &str =
     "read read_and_look_up look_up_charset look_up_boundary look_up_charset_str look_up_missing walk parts essence eq \
     eq_str cmp hash clone print items field serve boundary write_parameter negotiate weight_of covers unescape accept best order weight \
-    write_charset write_boundary write_name hash_default";
+    write_charset write_boundary write_name hash_default rank";
 
 /// The calls from C.
 const CALLS: &[(&str, fn(&Given, usize) -> usize)] = &[

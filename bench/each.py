@@ -48,6 +48,7 @@ CALLS = [
     ("MimeIter", "items", beside(TEXTS)),
     ("Accept::from_lines", "accept", beside(HEADERS)),
     *((label, label, beside(HEADERS, "\n".join(OFFERS))) for label in ("best", "order")),
+    ("rank_offers", "rank", beside(HEADERS, "\n".join(OFFERS))),
     ("best of offers with parameters", "best", beside([*HEADERS, ", ".join(DETAILED)], "\n".join(DETAILED))),
     ("weight", "weight", OFFERED),
     ("weight_of", "weight_of", beside([*dict.fromkeys(it.strip() for header in HEADERS for it in header.split(","))])),
@@ -64,7 +65,7 @@ CALLS = [
 
 # The function of mime_bench that makes an operation, if it hasn't its name.
 MADE_BY = {"boundary": "meant_boundary", "weight_of": "weight", "covers": "cover",
-           **dict.fromkeys("unescape accept best order weight write_charset write_boundary write_name".split(), "one")}
+           **dict.fromkeys("unescape accept best order rank weight write_charset write_boundary write_name".split(), "one")}
 
 
 def counted(driver, label, operation, pairs):
