@@ -33,8 +33,9 @@ pub fn read_to_limit<S: Source>(alloc: Global, source: &mut S) -> Result<Vec<u8>
     // If the result is `TooLong`, the source had one byte more than the limit.
     ensures too_long { result ≡ Err RunError.TooLong
         → (bytes : List ℕ) × Consumes (S.left source.old) (S.left source.new) bytes × (length bytes ≡ limit + 1) }
-    // The result is never `Write`.
+    // The result is never `Write` or `NoHead`.
     ensures no_write { result ≢ Err RunError.Write }
+    ensures no_head { result ≢ Err RunError.NoHead }
 {
     read(alloc, source, LIMIT)
 }
