@@ -71,7 +71,7 @@ fn write_and_read(
         Kind::Charset => with_charset(job.alloc, base, text)?,
         Kind::Boundary => with_boundary(job.alloc, base, text)?,
     };
-    let Some(mime) = made else {
+    let Some(mime) = &made else {
         job.digest.number(1);
         return Ok(());
     };
@@ -88,7 +88,7 @@ fn write_and_read(
         }
         Kind::Charset => (),
         Kind::Boundary => {
-            if let Some(bytes) = boundary(job.alloc, &mime)? {
+            if let Some(bytes) = boundary(job.alloc, mime)? {
                 job.digest.bytes(&bytes);
             }
         }
