@@ -46,7 +46,11 @@ pub(crate) fn shown(bytes: &[u8]) -> &str {
 
 /// Returns the lines of a field as `str::lines` does, each as bytes. An empty field has no lines.
 pub(crate) fn lines_of(alloc: Global, field: &str) -> Result<Vec<&[u8]>, AllocError> {
-    field.lines().map(|line| line.as_bytes()).collect(alloc)
+    let mut lines = Vec::new(alloc);
+    for line in field.lines() {
+        lines.push(line.as_bytes())?;
+    }
+    Ok(lines)
 }
 
 /// Returns the media types that two strings are read as, or `None` if one isn't.
