@@ -16,10 +16,10 @@ MORE, LEAST, ROUNDS, TIMES = 1.03, 3, 2, 8
 VALUES, HEADERS = ([*dict.fromkeys(it)] for it in (TYPES + LONGER, ACCEPTS))
 TEXTS, NEXT = VALUES + HEADERS, VALUES[1:] + VALUES[:1]
 ESSENCES, OFFERED = [(it, it.split(";")[0].strip()) for it in VALUES if ";" in it], [(it, offer) for it in HEADERS for offer in OFFERS]
-# The values of parameters, without their quotes.
 # Offers that have parameters, and with them what a client asks for.
 DETAILED = ["text/html; charset=utf-8; level=1", "application/json; version=2", *profiles("sz")]
 PROFILES = [(one, other) for one in DETAILED for other in DETAILED]
+# The values of parameters, without their quotes.
 PARAMETERS = [it for it in dict.fromkeys(it.strip('"') for it in re.findall(r'=("(?:[^\\"]|\\.)*"|[^\s;]+)', "\n".join(VALUES))) if it]
 
 

@@ -14,41 +14,22 @@ fn device(left: &'static [u8]) -> Device<Calls> {
 }
 
 #[test]
-fn reads_by_these_calls_alone(rt: HostRuntime) {
-    let failed = Err(RunError::Read);
-    let cases: [(&[u8], Result<usize, RunError>); 3] = [
-        (b"rr", Ok(8192)),
-        (b"x", failed),
-        (b"rx", failed),
+fn makes_these_calls_alone(rt: HostRuntime) {
+    let cases: [(&[u8], &[u8], Result<usize, RunError>); 5] = [
+        (b"rr", b"wf", Ok(8192)),
+        (b"x", b"", Err(RunError::Read)),
+        (b"rx", b"", Err(RunError::Read)),
+        (b"rr", b"x", Err(RunError::Write)),
+        (b"rr", b"wx", Err(RunError::Write)),
     ];
-    for (calls, answer) in cases {
-        let mut source = device(calls);
-        let got = read_to_limit(rt.alloc(), &mut source).map(|input| input.len());
-        let left = source.inner.left;
-        assert!(rt;
-            got == answer && left.is_empty(),
-            "{got:?}, {} left",
-            left.len()
-        );
-    }
-}
-
-#[test]
-fn writes_by_these_calls_alone(rt: HostRuntime) {
-    let failed = Err(RunError::Write);
-    let cases: [(&[u8], Result<(), RunError>); 3] = [
-        (b"wf", Ok(())),
-        (b"x", failed),
-        (b"wx", failed),
-    ];
-    for (calls, answer) in cases {
-        let mut sink = device(calls);
-        let got = write_report(&mut sink, REPORT);
-        let left = sink.inner.left;
-        assert!(rt;
-            got == answer && left.is_empty(),
-            "{got:?}, {} left",
-            left.len()
-        );
+    for (reads, writes, answer) in cases {
+        let (mut source, mut sink) = (device(reads), device(writes));
+        let read = read_to_limit(rt.alloc(), &mut source);
+        let got = read.and_then(|input| {
+            write_report(&mut sink, REPORT)?;
+            Ok(input.len())
+        });
+        let left = (source.inner.left.len(), sink.inner.left.len());
+        assert!(rt; got == answer && left == (0, 0), "{got:?}, {left:?} left");
     }
 }

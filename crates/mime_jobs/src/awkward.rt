@@ -1,5 +1,6 @@
 //! The job of a server that reads values and headers of 2 to 60 KB, which a client may send to slow the server down.
 
+use crate::Job;
 use crate::digest::Digest;
 use crate::random::Random;
 use crate::texts::{Text, media_types_of};
@@ -70,7 +71,7 @@ fn texts_of(alloc: Global, shapes: &[Shape], random: &mut Random) -> Result<Vec<
 }
 
 /// Adds to a digest a media type's essence, and the results of look-ups, a hash, comparisons, a clone and a walk over the parameters.
-fn look_up(alloc: Global, mime: &Mime, digest: &mut Digest) -> Result<(), AllocError> {
+fn look_up(mime: &Mime, digest: &mut Digest) -> Result<(), AllocError> {
     digest.media_type(mime);
     digest.found(mime.get_param(CHARSET));
     digest.found(mime.get_param(BOUNDARY));
@@ -90,24 +91,20 @@ fn look_up(alloc: Global, mime: &Mime, digest: &mut Digest) -> Result<(), AllocE
     Ok(())
 }
 
-fn read_value(alloc: Global, value: &[u8], digest: &mut Digest) -> Result<(), AllocError> {
-    match content_type(alloc, value) {
-        Ok(mime) => look_up(alloc, &mime, digest),
+fn read_value(job: &mut Job, value: &[u8]) -> Result<(), AllocError> {
+    match content_type(job.alloc, value) {
+        Ok(mime) => look_up(&mime, &mut job.digest),
         Err(error) => {
-            digest.field_error(&error);
+            job.digest.field_error(&error);
             Ok(())
         }
     }
 }
 
 /// Adds to a digest a header's number of ranges, the lengths of its bad entries, the best offer's position and the first offer's weight.
-fn read_header(
-    alloc: Global,
-    line: &[u8],
-    offers: &[Mime],
-    digest: &mut Digest,
-) -> Result<(), AllocError> {
-    let accept = Accept::from_lines(alloc, &[line])?;
+fn read_header(job: &mut Job, line: &[u8], offers: &[Mime]) -> Result<(), AllocError> {
+    let digest = &mut job.digest;
+    let accept = Accept::from_lines(job.alloc, &[line])?;
     digest.number(accept.ranges().len());
     for bad in accept.bad() {
         digest.number(bad.len());
@@ -131,24 +128,19 @@ fn read_list(alloc: Global, list: &str, digest: &mut Digest) {
     digest.number(usize::try_from(items.steps()).unwrap_or(0));
 }
 
-pub(crate) fn awkward(
-    alloc: Global,
-    random: &mut Random,
-    rounds: u64,
-    digest: &mut Digest,
-) -> Result<(), AllocError> {
-    let offers = media_types_of(alloc, &OFFERS)?;
-    let mut values = texts_of(alloc, &VALUES, random)?;
-    let mut lists = texts_of(alloc, &LISTS, random)?;
-    for _ in 0..rounds {
+pub(crate) fn awkward(job: &mut Job) -> Result<(), AllocError> {
+    let offers = media_types_of(job.alloc, &OFFERS)?;
+    let mut values = texts_of(job.alloc, &VALUES, &mut job.random)?;
+    let mut lists = texts_of(job.alloc, &LISTS, &mut job.random)?;
+    for _ in 0..job.rounds {
         for text in values.iter_mut() {
             text.go_on();
-            read_value(alloc, text.bytes(), digest)?;
+            read_value(job, text.bytes())?;
         }
         for text in lists.iter_mut() {
             text.go_on();
-            read_header(alloc, text.bytes(), &offers, digest)?;
-            read_list(alloc, text.text(), digest);
+            read_header(job, text.bytes(), &offers)?;
+            read_list(job.alloc, text.text(), &mut job.digest);
         }
     }
     Ok(())

@@ -1,5 +1,6 @@
 //! The job of a program that counts, sorts and prints a log of media types.
 
+use crate::Job;
 use crate::digest::Digest;
 use crate::random::Random;
 use crate::texts::Text;
@@ -98,39 +99,27 @@ struct Counts {
     ordered: BTreeMap<Mime, u64>,
 }
 
-fn count_hashed(counts: &mut HashMap<Mime, u64>, mime: Mime) -> Result<u64, AllocError> {
-    let count = counts.entry(mime)?.or_insert(0);
+/// Adds 1 to a count, and returns the result.
+fn counted(count: &mut u64) -> u64 {
     *count = count.wrapping_add(1);
-    Ok(*count)
-}
-
-fn count_ordered(counts: &mut BTreeMap<Mime, u64>, mime: Mime) -> Result<u64, AllocError> {
-    let count = counts.entry(mime)?.or_insert(0);
-    *count = count.wrapping_add(1);
-    Ok(*count)
+    *count
 }
 
 /// Counts the media type of the line at position `at`: every eighth line in `ordered`, the others in `hashed`.
-fn count(
-    alloc: Global,
-    counts: &mut Counts,
-    text: &str,
-    at: usize,
-    digest: &mut Digest,
-) -> Result<(), AllocError> {
-    let mime = match Mime::from_str(alloc, text) {
+fn count(job: &mut Job, counts: &mut Counts, text: &str, at: usize) -> Result<(), AllocError> {
+    let mime = match Mime::from_str(job.alloc, text) {
         Ok(mime) => mime,
         Err(error) => {
-            digest.fault(error.fault());
+            job.digest.fault(error.fault());
             return Ok(());
         }
     };
     let count = if at % 8 == 1 {
-        count_ordered(&mut counts.ordered, mime)?
+        counted(counts.ordered.entry(mime)?.or_insert(0))
     } else {
-        count_hashed(&mut counts.hashed, mime)?
+        counted(counts.hashed.entry(mime)?.or_insert(0))
     };
-    digest.number(count as usize);
+    job.digest.number(count as usize);
     Ok(())
 }
 
@@ -181,50 +170,40 @@ fn skewed(random: &mut Random) -> usize {
 
 /// Counts the media types in the lines of one log. Every fourth line isn't counted, but added to a list, which is read and emptied at every
 /// twelfth line.
-fn one_log(
-    alloc: Global,
-    values: &mut [Value],
-    random: &mut Random,
-    digest: &mut Digest,
-) -> Result<(), AllocError> {
+fn one_log(job: &mut Job, values: &mut [Value]) -> Result<(), AllocError> {
     let mut counts = Counts {
-        hashed: HashMap::new(alloc),
-        ordered: BTreeMap::new(alloc),
+        hashed: HashMap::new(job.alloc),
+        ordered: BTreeMap::new(job.alloc),
     };
-    let mut list = String::new(alloc);
+    let mut list = String::new(job.alloc);
     for at in 0..LINES {
-        let Some(value) = values.get_mut(skewed(random)) else {
+        let Some(value) = values.get_mut(skewed(&mut job.random)) else {
             continue;
         };
         let text = value.next();
         if at % 4 != 0 {
-            count(alloc, &mut counts, text, at, digest)?;
+            count(job, &mut counts, text, at)?;
             continue;
         }
         push_entry(&mut list, text)?;
         if at % 12 == 0 {
-            add_list(alloc, list.as_str(), digest);
+            add_list(job.alloc, list.as_str(), &mut job.digest);
             list.clear();
         }
     }
-    add_counts(alloc, &counts, digest)
+    add_counts(job.alloc, &counts, &mut job.digest)
 }
 
-pub(crate) fn log(
-    alloc: Global,
-    random: &mut Random,
-    rounds: u64,
-    digest: &mut Digest,
-) -> Result<(), AllocError> {
-    let mut values = Vec::with_capacity(alloc, VALUES)?;
+pub(crate) fn log(job: &mut Job) -> Result<(), AllocError> {
+    let mut values = Vec::with_capacity(job.alloc, VALUES)?;
     for number in 0..VALUES {
-        values.push(Value::of(alloc, number, random)?)?;
+        values.push(Value::of(job.alloc, number, &mut job.random)?)?;
     }
-    for _ in 0..rounds {
+    for _ in 0..job.rounds {
         for value in values.iter_mut() {
             value.go_on();
         }
-        one_log(alloc, &mut values, random, digest)?;
+        one_log(job, &mut values)?;
     }
     Ok(())
 }

@@ -30,10 +30,7 @@ struct Asked {
 
 /// Returns the number in an argument, or 0 if there is none.
 fn number_in(word: Option<String>) -> u64 {
-    match word {
-        Some(word) => word.as_str().parse::<u64>().unwrap_or(0),
-        None => 0,
-    }
+    word.map_or(0, |word| word.as_str().parse().unwrap_or(0))
 }
 
 /// Returns the job that the arguments select, or `None` if there are no arguments.
@@ -45,37 +42,38 @@ fn asked_job(mut arguments: Args) -> Option<Asked> {
     Some(Asked { job, seed, rounds })
 }
 
-/// Does a job, and adds its results to a digest.
-fn done(
-    alloc: Global,
-    job: &str,
-    seed: u64,
-    rounds: u64,
-    digest: &mut Digest,
-) -> Result<(), AllocError> {
-    let mut random = Random::new(seed);
-    match job {
-        "requests" => requests::requests(alloc, &mut random, rounds, digest),
-        "negotiation" => negotiation::negotiation(alloc, &mut random, rounds, digest),
-        "log" => log::log(alloc, &mut random, rounds, digest),
-        "writing" => writing::writing(alloc, &mut random, rounds, digest),
-        "awkward" => awkward::awkward(alloc, &mut random, rounds, digest),
-        _ => Ok(()),
-    }
+/// What a job works with.
+#[derive(Drop)]
+pub(crate) struct Job {
+    pub(crate) alloc: Global,
+    pub(crate) random: Random,
+    pub(crate) rounds: u64,
+    /// The digest of the results of this job and of those before it.
+    pub(crate) digest: Digest,
 }
 
 /// Returns the digest of the results of a job, or of all jobs.
 fn digest_of(alloc: Global, asked: &Asked) -> Result<u64, AllocError> {
-    let mut digest = Digest::new();
-    let (seed, rounds) = (asked.seed, asked.rounds);
-    if asked.job.as_str() != "all" {
-        done(alloc, asked.job.as_str(), seed, rounds, &mut digest)?;
-        return Ok(digest.finish());
+    let mut job = Job {
+        alloc,
+        random: Random::new(asked.seed),
+        rounds: asked.rounds,
+        digest: Digest::new(),
+    };
+    for name in ["requests", "negotiation", "log", "writing", "awkward"] {
+        if asked.job.as_str() != "all" && asked.job.as_str() != name {
+            continue;
+        }
+        job.random = Random::new(asked.seed);
+        match name {
+            "requests" => requests::requests(&mut job)?,
+            "negotiation" => negotiation::negotiation(&mut job)?,
+            "log" => log::log(&mut job)?,
+            "writing" => writing::writing(&mut job)?,
+            _ => awkward::awkward(&mut job)?,
+        }
     }
-    for job in ["requests", "negotiation", "log", "writing", "awkward"] {
-        done(alloc, job, seed, rounds, &mut digest)?;
-    }
-    Ok(digest.finish())
+    Ok(job.digest.finish())
 }
 
 fn main(rt: HostRuntime) -> io::Result<()> {

@@ -1,7 +1,7 @@
 //! The job of a server that chooses what it sends according to the `Accept` header of each request.
 
+use crate::Job;
 use crate::digest::Digest;
-use crate::random::Random;
 use crate::texts::{Text, media_types_of, texts_of};
 use mime::Mime;
 use mime_http::Accept;
@@ -106,15 +106,10 @@ fn add_read(accept: &Accept, digest: &mut Digest) {
 }
 
 /// Adds what a server needs from a header to a digest: mostly, the best offer's position.
-fn choose(
-    alloc: Global,
-    accept: &Accept,
-    offers: &[Mime],
-    at: usize,
-    digest: &mut Digest,
-) -> Result<(), AllocError> {
+fn choose(job: &mut Job, accept: &Accept, offers: &[Mime], at: usize) -> Result<(), AllocError> {
+    let digest = &mut job.digest;
     if at % 8 == 0 {
-        for position in &accept.order(alloc, offers)? {
+        for position in &accept.order(job.alloc, offers)? {
             digest.number(*position);
         }
         return Ok(());
@@ -128,21 +123,16 @@ fn choose(
     Ok(())
 }
 
-pub(crate) fn negotiation(
-    alloc: Global,
-    random: &mut Random,
-    rounds: u64,
-    digest: &mut Digest,
-) -> Result<(), AllocError> {
-    let mut texts = texts_of(alloc, random, &PATTERNS, COUNT)?;
-    let all = all_offers(alloc)?;
-    for _ in 0..rounds {
+pub(crate) fn negotiation(job: &mut Job) -> Result<(), AllocError> {
+    let mut texts = texts_of(job.alloc, &mut job.random, &PATTERNS, COUNT)?;
+    let all = all_offers(job.alloc)?;
+    for _ in 0..job.rounds {
         for (at, text) in texts.iter_mut().enumerate() {
             text.go_on();
-            let accept = accept_of(alloc, text, at)?;
-            add_read(&accept, digest);
+            let accept = accept_of(job.alloc, text, at)?;
+            add_read(&accept, &mut job.digest);
             if let Some(offers) = all.get(at % 6) {
-                choose(alloc, &accept, offers, at / 6, digest)?;
+                choose(job, &accept, offers, at / 6)?;
             }
         }
     }

@@ -1,6 +1,6 @@
 //! Random numbers that depend on a seed.
 
-ghost use Rattle.std.specs.Prelude.{◌<◌, length};
+ghost use Rattle.std.specs.Prelude.{◌<◌};
 
 /// A random number generator, SplitMix64 (Steele, Lea and Flood, 2014).
 #[derive(Drop)]
@@ -27,13 +27,5 @@ impl Random {
         ensures { result < limit }
     {
         (self.next() % limit as u64) as usize
-    }
-
-    /// Returns one of these strings at random.
-    pub(crate) fn one_of<'a>(&mut self, strings: &[&'a str]) -> &'a str
-        requires { 0 < length strings.now }
-    {
-        let at = self.below(strings.len());
-        strings[at]
     }
 }

@@ -1,11 +1,10 @@
 //! The job of a server that reads the `Content-Type` of each request.
 
-use crate::digest::Digest;
-use crate::random::Random;
+use crate::Job;
 use crate::texts::texts_of;
 use mime::{BOUNDARY, CHARSET, Mime, TEXT_HTML_UTF_8, mime_eq_str};
 use mime_http::{boundary, content_type};
-use std::alloc::{AllocError, Global};
+use std::alloc::AllocError;
 
 /// The number of strings in a round.
 const COUNT: usize = 4096;
@@ -55,13 +54,9 @@ static PATTERNS: [&str; 40] = [
 ];
 
 /// Adds what a server needs from one value to a digest.
-fn look_at(
-    alloc: Global,
-    value: &[u8],
-    html: &Mime,
-    digest: &mut Digest,
-) -> Result<(), AllocError> {
-    let mime = match content_type(alloc, value) {
+fn look_at(job: &mut Job, value: &[u8], html: &Mime) -> Result<(), AllocError> {
+    let digest = &mut job.digest;
+    let mime = match content_type(job.alloc, value) {
         Ok(mime) => mime,
         Err(error) => {
             digest.field_error(&error);
@@ -74,24 +69,19 @@ fn look_at(
     digest.found(mime.get_param("version"));
     digest.flag(mime_eq_str(&mime, "application/json"));
     digest.flag(mime == *html);
-    if let Some(boundary) = boundary(alloc, &mime)? {
+    if let Some(boundary) = boundary(job.alloc, &mime)? {
         digest.bytes(&boundary);
     }
     Ok(())
 }
 
-pub(crate) fn requests(
-    alloc: Global,
-    random: &mut Random,
-    rounds: u64,
-    digest: &mut Digest,
-) -> Result<(), AllocError> {
-    let mut texts = texts_of(alloc, random, &PATTERNS, COUNT)?;
+pub(crate) fn requests(job: &mut Job) -> Result<(), AllocError> {
+    let mut texts = texts_of(job.alloc, &mut job.random, &PATTERNS, COUNT)?;
     let html = TEXT_HTML_UTF_8.mime();
-    for _ in 0..rounds {
+    for _ in 0..job.rounds {
         for text in texts.iter_mut() {
             text.go_on();
-            look_at(alloc, text.bytes(), &html, digest)?;
+            look_at(job, text.bytes(), &html)?;
         }
     }
     Ok(())

@@ -150,7 +150,7 @@ pub(crate) fn texts_of(
     let mut texts = Vec::with_capacity(alloc, count)?;
     for number in 0..count {
         if !patterns.is_empty() {
-            let pattern = random.one_of(patterns);
+            let pattern = patterns[random.below(patterns.len())];
             texts.push(Text::of(alloc, pattern, number, random)?)?;
         }
     }

@@ -1,11 +1,10 @@
 //! The job of a server that writes headers, and reads file names and boundaries back.
 
-use crate::digest::Digest;
-use crate::random::Random;
-use crate::texts::{Text, media_types_of, texts_of};
+use crate::Job;
+use crate::texts::{media_types_of, texts_of};
 use mime::Mime;
 use mime_http::{boundary, unescape, with_boundary, with_charset, with_parameter};
-use std::alloc::{AllocError, Global};
+use std::alloc::AllocError;
 use std::fmt::Write;
 
 /// The number of strings of each kind in a round.
@@ -51,118 +50,73 @@ struct Buffers {
     meant: Vec<u8>,
 }
 
-/// Adds a media type's header to a digest, or 1 if there is no media type.
-fn add_printed(
-    made: &Option<Mime>,
-    buffers: &mut Buffers,
-    digest: &mut Digest,
-) -> Result<(), AllocError> {
-    match made {
-        Some(mime) => {
-            buffers.printed.clear();
-            write!(buffers.printed, "Content-Type: {mime}\r\n")?;
-            digest.text(buffers.printed.as_str());
-        }
-        None => digest.number(1),
-    }
-    Ok(())
+/// What a string is written as.
+#[derive(Clone, Copy)]
+enum Kind {
+    FileName,
+    Charset,
+    Boundary,
 }
 
-/// Writes a file's name as a parameter, and reads it back.
-fn write_file(
-    alloc: Global,
-    base: &Mime,
-    file: &str,
-    buffers: &mut Buffers,
-    digest: &mut Digest,
-) -> Result<(), AllocError> {
-    let made = with_parameter(alloc, base, "name", file)?;
-    add_printed(&made, buffers, digest)?;
-    let Some(mime) = made else {
-        return Ok(());
-    };
-    if let Some(value) = mime.get_param("name") {
-        buffers.meant.clear();
-        unescape(value.text, &mut buffers.meant)?;
-        digest.bytes(&buffers.meant);
-    }
-    Ok(())
-}
-
-/// Writes a boundary as a parameter, and reads it back.
-fn write_boundary(
-    alloc: Global,
+/// Writes a string as a parameter, prints the media type as a header, or adds 1 to the digest if there is none, and reads the string back.
+fn write_and_read(
+    job: &mut Job,
+    kind: Kind,
     base: &Mime,
     text: &str,
     buffers: &mut Buffers,
-    digest: &mut Digest,
 ) -> Result<(), AllocError> {
-    let made = with_boundary(alloc, base, text)?;
-    add_printed(&made, buffers, digest)?;
-    let Some(mime) = made else {
+    let made = match kind {
+        Kind::FileName => with_parameter(job.alloc, base, "name", text)?,
+        Kind::Charset => with_charset(job.alloc, base, text)?,
+        Kind::Boundary => with_boundary(job.alloc, base, text)?,
+    };
+    let Some(mime) = &made else {
+        job.digest.number(1);
         return Ok(());
     };
-    if let Some(bytes) = boundary(alloc, &mime)? {
-        digest.bytes(&bytes);
-    }
-    Ok(())
-}
-
-/// The strings of all kinds.
-#[derive(Drop)]
-struct Texts {
-    files: Vec<Text>,
-    charsets: Vec<Text>,
-    boundaries: Vec<Text>,
-}
-
-fn one_round(
-    alloc: Global,
-    bases: &[Mime],
-    texts: &mut Texts,
-    buffers: &mut Buffers,
-    digest: &mut Digest,
-) -> Result<(), AllocError> {
-    for (at, text) in texts.files.iter_mut().enumerate() {
-        text.go_on();
-        if let Some(base) = bases.get(at % 8) {
-            write_file(alloc, base, text.text(), buffers, digest)?;
+    buffers.printed.clear();
+    write!(buffers.printed, "Content-Type: {mime}\r\n")?;
+    job.digest.text(buffers.printed.as_str());
+    match kind {
+        Kind::FileName => {
+            if let Some(value) = mime.get_param("name") {
+                buffers.meant.clear();
+                unescape(value.text, &mut buffers.meant)?;
+                job.digest.bytes(&buffers.meant);
+            }
         }
-    }
-    for (at, text) in texts.charsets.iter_mut().enumerate() {
-        text.go_on();
-        if let Some(base) = bases.get(at % 8) {
-            let made = with_charset(alloc, base, text.text())?;
-            add_printed(&made, buffers, digest)?;
-        }
-    }
-    for (at, text) in texts.boundaries.iter_mut().enumerate() {
-        text.go_on();
-        if let Some(base) = bases.get(at % 8) {
-            write_boundary(alloc, base, text.text(), buffers, digest)?;
+        Kind::Charset => (),
+        Kind::Boundary => {
+            if let Some(bytes) = boundary(job.alloc, mime)? {
+                job.digest.bytes(&bytes);
+            }
         }
     }
     Ok(())
 }
 
-pub(crate) fn writing(
-    alloc: Global,
-    random: &mut Random,
-    rounds: u64,
-    digest: &mut Digest,
-) -> Result<(), AllocError> {
-    let bases = media_types_of(alloc, &BASES)?;
-    let mut texts = Texts {
-        files: texts_of(alloc, random, &FILES, COUNT)?,
-        charsets: texts_of(alloc, random, &CHARSETS, COUNT)?,
-        boundaries: texts_of(alloc, random, &BOUNDARIES, COUNT)?,
-    };
+pub(crate) fn writing(job: &mut Job) -> Result<(), AllocError> {
+    let bases = media_types_of(job.alloc, &BASES)?;
+    let (alloc, random) = (job.alloc, &mut job.random);
+    let mut all = [
+        (Kind::FileName, texts_of(alloc, random, &FILES, COUNT)?),
+        (Kind::Charset, texts_of(alloc, random, &CHARSETS, COUNT)?),
+        (Kind::Boundary, texts_of(alloc, random, &BOUNDARIES, COUNT)?),
+    ];
     let mut buffers = Buffers {
-        printed: String::new(alloc),
-        meant: Vec::new(alloc),
+        printed: String::new(job.alloc),
+        meant: Vec::new(job.alloc),
     };
-    for _ in 0..rounds {
-        one_round(alloc, &bases, &mut texts, &mut buffers, digest)?;
+    for _ in 0..job.rounds {
+        for (kind, texts) in all.iter_mut() {
+            for (at, text) in texts.iter_mut().enumerate() {
+                text.go_on();
+                if let Some(base) = bases.get(at % 8) {
+                    write_and_read(job, *kind, base, text.text(), &mut buffers)?;
+                }
+            }
+        }
     }
     Ok(())
 }

@@ -1,7 +1,7 @@
-//! Tests of what no clause states: the calls that a run makes, and that memory suffices. vectors/ and tools/program test the reports.
+//! Tests of the calls that a run makes, and that it succeeds if memory suffices. No clause states these. vectors/ and tools/program test
+//! the reports.
 
 use crate::{Device, Mode, RunError, run};
-use mime::Mime;
 use mime_io::Calls;
 
 const LINE: &[u8] = b"a/b";
@@ -46,14 +46,6 @@ fn a_report_may_be_longer_than_the_limit(rt: HostRuntime) {
         Mode::Parts,
     );
     assert!(rt; got == Ok(()) && sink.inner.left.is_empty(), "{got:?}");
-}
-
-#[test]
-fn memory_is_found(rt: HostRuntime) {
-    // No clause promises memory for a text of more than 40 bytes.
-    let text = "multipart/form-data; boundary=0123456789a";
-    let error = Mime::from_str(rt.alloc(), text).err();
-    assert!(rt; error.is_none(), "memory ran out");
 }
 
 /// Runs with a slice of bytes as the sink, which doesn't allocate, between the lines `now` and `end`. tools/refused_requests refuses, in

@@ -41,8 +41,5 @@ pub(crate) fn strings_of(alloc: Global, fields: &str) -> Vec<String> {
 
 /// Returns the string at a position in a row, or an empty string if there is none.
 pub(crate) fn string_at(strings: &[String], at: usize) -> &str {
-    match strings.get(at) {
-        Some(text) => text.as_str(),
-        None => "",
-    }
+    strings.get(at).map_or("", |text| text.as_str())
 }

@@ -3,7 +3,7 @@
 use crate::fields::string_at;
 use crate::values::{read, read_or_not};
 use mime::Mime;
-use mime_http::{Accept, FieldError, boundary, lacked, rank_offers, unescape};
+use mime_http::{Accept, boundary, lacked, lacking, rank_offers, unescape};
 use std::alloc::{AllocError, Global};
 use std::fmt::{Display, Write};
 
@@ -12,25 +12,31 @@ pub(crate) fn show<T: Display>(out: &mut String, answer: &T) {
     let _ = write!(out, "{answer}|");
 }
 
+/// Shows an answer, or `none`.
+pub(crate) fn show_option<T: Display + Drop>(out: &mut String, answer: Option<T>) {
+    match answer {
+        Some(answer) => show(out, &answer),
+        None => show(out, &"none"),
+    }
+}
+
+/// Shows an answer, or the error.
+pub(crate) fn show_result<T: Display + Drop, E: Display + Drop>(
+    out: &mut String,
+    answer: Result<T, E>,
+) {
+    match answer {
+        Ok(answer) => show(out, &answer),
+        Err(error) => show(out, &error),
+    }
+}
+
 /// Shows an answer about a string, or that the string isn't read.
 pub(crate) fn show_read<T: Display + Drop>(out: &mut String, answer: Option<T>) {
     match answer {
         Some(answer) => show(out, &answer),
-        None => show_text(out, Some("not read")),
+        None => show(out, &"not read"),
     }
-}
-
-/// Shows an answer, or nothing if memory ran out.
-pub(crate) fn show_found<T: Display + Drop>(out: &mut String, answer: Result<T, AllocError>) {
-    if let Ok(answer) = answer {
-        show(out, &answer);
-    }
-}
-
-/// Shows a text, or `none`.
-pub(crate) fn show_text(out: &mut String, answer: Option<&str>) {
-    let _ = out.push_str(answer.unwrap_or("none"));
-    let _ = out.push('|');
 }
 
 /// Returns bytes as a text, or `not text` if they aren't UTF-8.
@@ -54,7 +60,7 @@ pub(crate) fn read_both(alloc: Global, one: &str, other: &str) -> Option<(Mime, 
 }
 
 /// Reads the `Accept` header whose lines are in a field.
-fn header_of(alloc: Global, field: &str) -> Result<Accept, AllocError> {
+pub(crate) fn header_of(alloc: Global, field: &str) -> Result<Accept, AllocError> {
     Accept::from_lines(alloc, &lines_of(alloc, field)?)
 }
 
@@ -78,58 +84,29 @@ pub(crate) fn offers_of(alloc: Global, strings: &[String]) -> Result<Vec<Mime>, 
     Ok(offers)
 }
 
-/// Shows the media type of a value, or the error.
-pub(crate) fn show_value(out: &mut String, read: Result<Mime, FieldError>) {
-    match read {
-        Ok(mime) => show(out, &mime),
-        Err(error) => show(out, &error),
-    }
-}
-
 /// Shows the ranges of a header, and then its bad entries.
-fn show_header(out: &mut String, header: Result<Accept, AllocError>) {
+pub(crate) fn show_header(out: &mut String, header: Result<Accept, AllocError>) {
     if let Ok(accept) = header {
-        show_ranges(out, accept.ranges());
-        show_bad(out, accept.bad());
-    }
-}
-
-pub(crate) fn show_accept(alloc: Global, out: &mut String, field: &str) {
-    show_header(out, header_of(alloc, field));
-}
-
-pub(crate) fn show_accept_in_latin_1(alloc: Global, out: &mut String, text: &str) {
-    show_header(out, Accept::from_lines(alloc, &[&latin_1(alloc, text)]));
-}
-
-/// Shows the ranges of a header, read without its bad entries.
-pub(crate) fn show_without_bad(alloc: Global, out: &mut String, field: &str) {
-    if let Ok(lines) = lines_of(alloc, field)
-        && let Ok(accept) = Accept::from_lines_without_bad(alloc, &lines)
-    {
-        show_ranges(out, accept.ranges());
+        show_all(out, accept.ranges());
+        show(out, &"bad:");
+        for entry in accept.bad() {
+            show(out, &shown(entry));
+        }
     }
 }
 
 /// Shows the ranges of a line, and then the number of its bad entries and the position of the first one.
 pub(crate) fn show_counting_bad(alloc: Global, out: &mut String, line: &str) {
     if let Ok((accept, bad)) = Accept::from_line_counting_bad(alloc, line.as_bytes()) {
-        show_ranges(out, accept.ranges());
+        show_all(out, accept.ranges());
         show(out, &bad.count);
-        show_position(out, bad.first);
+        show_option(out, bad.first);
     }
 }
 
-fn show_ranges(out: &mut String, ranges: &[Mime]) {
-    for range in ranges {
-        show(out, range);
-    }
-}
-
-fn show_bad(out: &mut String, bad: &[Vec<u8>]) {
-    show_text(out, Some("bad:"));
-    for entry in bad {
-        show_text(out, Some(shown(entry)));
+fn show_all<T: Display>(out: &mut String, answers: &[T]) {
+    for answer in answers {
+        show(out, answer);
     }
 }
 
@@ -151,14 +128,7 @@ pub(crate) fn show_weights(alloc: Global, out: &mut String, strings: &[String]) 
 /// Shows the position of the best offer among a row's offers, or `none`.
 pub(crate) fn show_best(alloc: Global, out: &mut String, strings: &[String]) {
     if let Ok((accept, offers)) = request_of(alloc, strings) {
-        show_position(out, accept.best(&offers));
-    }
-}
-
-fn show_position(out: &mut String, position: Option<usize>) {
-    match position {
-        Some(at) => show(out, &at),
-        None => show_text(out, None),
+        show_option(out, accept.best(&offers));
     }
 }
 
@@ -171,22 +141,29 @@ pub(crate) fn show_lacked(
     offer: &str,
 ) {
     let Some((range, offer)) = read_both(alloc, range, offer) else {
-        return show_text(out, Some("not read"));
+        return show(out, &"not read");
     };
     let decider = read(alloc, decider);
     let Some((name, value)) = lacked(&range, decider.as_ref(), &offer) else {
-        return show_text(out, None);
+        return show(out, &"none");
     };
-    show(out, &name.text);
-    show(out, &value.text);
+    show(out, &name);
+    show(out, &value);
+}
+
+/// Shows the position of the first range with a parameter that the first offer lacks, or `none`.
+pub(crate) fn show_lacking(alloc: Global, out: &mut String, strings: &[String]) {
+    if let Ok((accept, offers)) = request_of(alloc, strings)
+        && let Some(offer) = offers.first()
+    {
+        show_option(out, lacking(accept.ranges(), offer));
+    }
 }
 
 /// Shows positions, in their order.
 pub(crate) fn show_positions(out: &mut String, positions: Result<Vec<usize>, AllocError>) {
     if let Ok(positions) = positions {
-        for at in &positions {
-            show(out, at);
-        }
+        show_all(out, &positions);
     }
 }
 
@@ -205,20 +182,16 @@ pub(crate) fn show_ranking(alloc: Global, out: &mut String, strings: &[String]) 
         for one in &ranking {
             show(out, &one.offer);
             show(out, &one.weight);
-            show_position(out, one.range);
+            show_option(out, one.range);
         }
     }
 }
 
 /// Unescapes two values into this buffer, one after the other, and shows its bytes.
-fn show_meant(out: &mut String, mut buffer: Vec<u8>, value: &str, other: &str) {
+pub(crate) fn show_meant(out: &mut String, mut buffer: Vec<u8>, value: &str, other: &str) {
     let _ = unescape(value, &mut buffer);
     let _ = unescape(other, &mut buffer);
-    show_text(out, Some(shown(&buffer)));
-}
-
-pub(crate) fn show_unescaped(alloc: Global, out: &mut String, value: &str, other: &str) {
-    show_meant(out, Vec::new(alloc), value, other);
+    show(out, &shown(&buffer));
 }
 
 /// Unescapes two values into a buffer with capacity for both, and shows its bytes.
@@ -230,22 +203,30 @@ pub(crate) fn show_unescaped_in_room(alloc: Global, out: &mut String, value: &st
 }
 
 pub(crate) fn show_boundary(alloc: Global, out: &mut String, field: &str) {
-    let Some(mime) = read_or_not(alloc, out, field) else {
-        return;
-    };
-    match boundary(alloc, &mime) {
-        Ok(Some(boundary)) => show_text(out, Some(shown(&boundary))),
-        Ok(None) => show_text(out, None),
-        Err(_) => (),
+    if let Some(mime) = read_or_not(alloc, out, field)
+        && let Ok(found) = boundary(alloc, &mime)
+    {
+        show_option(out, found.as_ref().map(|boundary| shown(boundary)));
     }
 }
 
-/// Shows a media type that was made, `none`, or that the string isn't read to which a parameter was to be added.
-pub(crate) fn show_made(out: &mut String, made: Option<Result<Option<Mime>, AllocError>>) {
-    match made {
-        Some(Ok(Some(mime))) => show(out, &mime),
-        Some(Ok(None)) => show_text(out, None),
-        Some(Err(_)) => (),
-        None => show_text(out, Some("not read")),
+/// Shows a media type that was made, or `none`.
+pub(crate) fn show_made(out: &mut String, made: Result<Option<Mime>, AllocError>) {
+    if let Ok(made) = made {
+        show_option(out, made);
+    }
+}
+
+/// Shows the media type that is made from that of a string, or `none`, or that the string isn't read.
+pub(crate) fn show_made_from<F: FnOnce(&Mime) -> Result<Option<Mime>, AllocError>>(
+    alloc: Global,
+    out: &mut String,
+    field: &str,
+    make: F,
+)
+    requires { F.IsAlwaysCallable make }
+{
+    if let Some(mime) = read_or_not(alloc, out, field) {
+        show_made(out, make(&mime));
     }
 }

@@ -1,7 +1,7 @@
 //! The rows about the media types in a string.
 
 use crate::fields::string_at;
-use crate::values::show_media_type;
+use crate::values::{read, show_media_type};
 use mime::{Bad, Mime, MimeIter};
 use std::alloc::Global;
 use std::fmt::Write;
@@ -39,19 +39,12 @@ pub(crate) fn show_again(alloc: Global, out: &mut String, text: &str) {
     show_items(out, iter);
 }
 
-fn is_equal(alloc: Global, one: &Mime, text: &str) -> bool {
-    match Mime::from_str(alloc, text) {
-        Ok(other) => *one == other,
-        Err(_) => false,
-    }
-}
-
 /// Shows a sign for each string after the first: `=` if its media type is equal to the first string's next item, or else a space.
 pub(crate) fn show_list(alloc: Global, out: &mut String, strings: &[String]) {
     let mut iter = MimeIter::new(alloc, string_at(strings, 0));
     for at in 1..strings.len() {
         let is_equal = match iter.next() {
-            Some(Ok(item)) => is_equal(alloc, &item, string_at(strings, at)),
+            Some(Ok(item)) => read(alloc, string_at(strings, at)).is_some_and(|it| it == item),
             _ => false,
         };
         let _ = out.push(if is_equal { '=' } else { ' ' });

@@ -2,7 +2,7 @@
 
 use crate::constants::ATOMS;
 use crate::fields::string_at;
-use crate::http::{lines_of, offers_of, show, show_found, show_positions, show_text, shown};
+use crate::http::{lines_of, offers_of, show, show_option, show_positions, show_result, shown};
 use crate::values::read_or_not;
 use mime::Mime;
 use mime_examples::bare::bare_of;
@@ -16,7 +16,6 @@ use mime_examples::file_name::{file_name, with_file_name, written_and_read};
 use mime_examples::files::type_of_file;
 use mime_examples::handler::handler_of;
 use mime_examples::header::header_text;
-use mime_examples::key::quality_of;
 use mime_examples::multipart::parts;
 use mime_examples::negotiate::chosen;
 use mime_examples::order::in_order;
@@ -24,30 +23,13 @@ use mime_examples::parts::described;
 use mime_examples::static_file::type_for;
 use mime_http::content_type;
 use std::alloc::{AllocError, Global};
-use std::fmt::{Display, Write};
-
-/// Shows an answer, or the error.
-pub(crate) fn show_whether<E: Display + Drop>(out: &mut String, answer: Result<bool, E>) {
-    match answer {
-        Ok(answer) => show(out, &answer),
-        Err(error) => show(out, &error),
-    }
-}
-
-/// Shows a status, or `none`.
-pub(crate) fn show_status(out: &mut String, status: Option<u16>) {
-    match status {
-        Some(status) => show(out, &status),
-        None => show_text(out, None),
-    }
-}
+use std::fmt::Write;
 
 /// Shows a media type without its parameters, and whether the result has parameters.
 pub(crate) fn show_bare_of(alloc: Global, out: &mut String, field: &str) {
-    let Some(mime) = read_or_not(alloc, out, field) else {
-        return;
-    };
-    if let Ok(bare) = bare_of(alloc, &mime) {
+    if let Some(mime) = read_or_not(alloc, out, field)
+        && let Ok(bare) = bare_of(alloc, &mime)
+    {
         show(out, &bare);
         show(out, &bare.params().next().is_some());
     }
@@ -55,16 +37,16 @@ pub(crate) fn show_bare_of(alloc: Global, out: &mut String, field: &str) {
 
 pub(crate) fn show_caret_line(alloc: Global, out: &mut String, text: &str) {
     let Some(error) = Mime::from_str(alloc, text).err() else {
-        return show_text(out, None);
+        return show(out, &"none");
     };
-    show_found(out, caret_line(alloc, text, &error));
+    show_result(out, caret_line(alloc, text, &error));
 }
 
 pub(crate) fn show_caret_below(alloc: Global, out: &mut String, value: &str) {
-    let Some(error) = content_type(alloc, value.as_bytes()).err() else {
-        return show_text(out, None);
-    };
-    show_found(out, caret_below(alloc, value.as_bytes(), &error));
+    match content_type(alloc, value.as_bytes()) {
+        Ok(_) => show(out, &"none"),
+        Err(error) => show_result(out, caret_below(alloc, value.as_bytes(), &error)),
+    }
 }
 
 /// Returns the lines of a row's header, and its offers.
@@ -75,22 +57,18 @@ fn request_of(alloc: Global, strings: &[String]) -> Result<(Vec<&[u8]>, Vec<Mime
 
 /// Shows the offer that a server sends, or the status of its reply.
 pub(crate) fn show_chosen(alloc: Global, out: &mut String, strings: &[String]) {
-    let Ok((lines, offers)) = request_of(alloc, strings) else {
-        return;
-    };
-    match chosen(alloc, &lines, &offers) {
-        Ok(offer) => show_text(out, Some(header_text(offer))),
-        Err(status) => show(out, &status),
+    if let Ok((lines, offers)) = request_of(alloc, strings) {
+        show_result(
+            out,
+            chosen(alloc, &lines, &offers).map(|offer| header_text(offer)),
+        );
     }
 }
 
 /// Counts the media types of the fields after the first. Shows the count of the first field's media type, and then each count with its
 /// media type, sorted by media type.
 pub(crate) fn show_counts(rt: &HostRuntime, out: &mut String, strings: &[String]) {
-    let Ok(mut counts) = no_counts(rt) else {
-        return;
-    };
-    let Ok(offers) = offers_of(rt.alloc(), strings) else {
+    let (Ok(mut counts), Ok(offers)) = (no_counts(rt), offers_of(rt.alloc(), strings)) else {
         return;
     };
     for mime in offers {
@@ -99,18 +77,17 @@ pub(crate) fn show_counts(rt: &HostRuntime, out: &mut String, strings: &[String]
     if let Some(mime) = read_or_not(rt.alloc(), out, string_at(strings, 0)) {
         show(out, counts.get(&mime).unwrap_or(&0));
     }
-    let Ok(rows) = sorted(rt.alloc(), counts) else {
-        return;
-    };
-    for (mime, count) in &rows {
-        show(out, count);
-        show(out, mime);
+    if let Ok(rows) = sorted(rt.alloc(), counts) {
+        for (mime, count) in &rows {
+            show(out, count);
+            show(out, mime);
+        }
     }
 }
 
 pub(crate) fn show_described(alloc: Global, out: &mut String, field: &str) {
     if let Some(mime) = read_or_not(alloc, out, field) {
-        show_found(out, described(alloc, &mime));
+        show_result(out, described(alloc, &mime));
     }
 }
 
@@ -120,18 +97,12 @@ pub(crate) fn show_handler_of(alloc: Global, out: &mut String, field: &str) {
     }
 }
 
-pub(crate) fn show_quality_of(alloc: Global, out: &mut String, field: &str) {
-    if let Some(mime) = read_or_not(alloc, out, field) {
-        show_text(out, Some(quality_of(&mime)));
-    }
-}
-
 /// Shows a document's media type and body.
 pub(crate) fn show_received(alloc: Global, out: &mut String, value: &str, body: &str) {
     match received(alloc, value.as_bytes(), body.as_bytes()) {
         Ok(document) => {
             show(out, &document.mime);
-            show_text(out, Some(shown(document.body)));
+            show(out, &shown(document.body));
         }
         Err(error) => show(out, &error),
     }
@@ -140,7 +111,7 @@ pub(crate) fn show_received(alloc: Global, out: &mut String, value: &str, body: 
 /// Shows the string that `type_of_file` returns, and whether this string's kept text is the same.
 pub(crate) fn show_type_of_file(alloc: Global, out: &mut String, name: &str) {
     let type_ = type_of_file(name);
-    show_text(out, Some(type_));
+    show(out, &type_);
     if let Some(mime) = read_or_not(alloc, out, type_) {
         show(out, &(mime.as_str() == type_));
     }
@@ -148,12 +119,8 @@ pub(crate) fn show_type_of_file(alloc: Global, out: &mut String, name: &str) {
 
 /// Shows the media type of a file that a server sends, or the status of its reply.
 pub(crate) fn show_type_for(alloc: Global, out: &mut String, name: &str, lines: &str) {
-    let Ok(lines) = lines_of(alloc, lines) else {
-        return;
-    };
-    match type_for(alloc, name, &lines) {
-        Ok(mime) => show_text(out, Some(mime.as_str())),
-        Err(status) => show(out, &status),
+    if let Ok(lines) = lines_of(alloc, lines) {
+        show_result(out, type_for(alloc, name, &lines));
     }
 }
 
@@ -161,7 +128,7 @@ pub(crate) fn show_type_for(alloc: Global, out: &mut String, name: &str, lines: 
 pub(crate) fn show_is_compressible(out: &mut String) {
     for (name, atom) in ATOMS {
         if !is_compressible(*atom) {
-            show_text(out, Some(name));
+            show(out, name);
         }
     }
 }
@@ -171,17 +138,15 @@ pub(crate) fn show_file_name(alloc: Global, out: &mut String, field: &str, name:
     let Some(mime) = read_or_not(alloc, out, field) else {
         return;
     };
-    match with_file_name(alloc, &mime, name) {
-        Ok(Some(named)) => {
-            show(out, &named);
-            if let Ok(Some(back)) = file_name(alloc, &named) {
-                show_text(out, Some(shown(&back)));
-            }
-            if let Ok(Some(back)) = written_and_read(alloc, &mime, name) {
-                show_text(out, Some(shown(&back)));
-            }
-        }
-        _ => show_text(out, None),
+    let Ok(Some(named)) = with_file_name(alloc, &mime, name) else {
+        return show(out, &"none");
+    };
+    show(out, &named);
+    if let Ok(Some(back)) = file_name(alloc, &named) {
+        show(out, &shown(&back));
+    }
+    if let Ok(Some(back)) = written_and_read(alloc, &mime, name) {
+        show(out, &shown(&back));
     }
 }
 
@@ -189,10 +154,10 @@ pub(crate) fn show_file_name(alloc: Global, out: &mut String, field: &str, name:
 pub(crate) fn show_names_of(out: &mut String, answer: Result<Option<Disposition>, AllocError>) {
     match answer {
         Ok(Some(found)) => {
-            show_text(out, Some(shown(&found.name)));
-            show_text(out, found.file_name.as_ref().map(|name| shown(name)));
+            show(out, &shown(&found.name));
+            show_option(out, found.file_name.as_ref().map(|name| shown(name)));
         }
-        Ok(None) => show_text(out, None),
+        Ok(None) => show(out, &"none"),
         Err(error) => show(out, &error),
     }
 }
@@ -205,11 +170,11 @@ pub(crate) fn show_body_parts(alloc: Global, out: &mut String, field: &str, body
     match parts(alloc, &mime, body.as_bytes()) {
         Ok(Some(found)) => {
             for part in &found.parts {
-                show_text(out, Some(shown(part)));
+                show(out, &shown(part));
             }
-            show_text(out, Some(if found.is_whole { "whole" } else { "cut off" }));
+            show(out, if found.is_whole { &"whole" } else { &"cut off" });
         }
-        Ok(None) => show_text(out, None),
+        Ok(None) => show(out, &"none"),
         Err(error) => show(out, &error),
     }
 }

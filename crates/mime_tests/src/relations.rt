@@ -68,10 +68,9 @@ fn values_or_fault(
 
 /// Shows how two values compare, and whether the first is equal to the second field as a string.
 pub(crate) fn show_compared(alloc: Global, out: &mut String, field: &str, text: &str) {
-    let Some((one, other)) = values_or_fault(alloc, out, field, text) else {
-        return;
-    };
-    show_debug(out, &(relation(&one, &other), mime_eq_str(&one, text)));
+    if let Some((one, other)) = values_or_fault(alloc, out, field, text) {
+        show_debug(out, &(relation(&one, &other), mime_eq_str(&one, text)));
+    }
 }
 
 /// Returns the name that a field stands for: a constant, or the text after a `~` or `=`. The name ignores case if the field begins with
@@ -95,53 +94,22 @@ pub(crate) fn show_names(out: &mut String, one: &str, other: &str) {
     let _ = writeln!(out, "{one}\n{:?}", (one, sign, other, is_text));
 }
 
-/// Shows whether two values are equal, both by `==` and by `cmp`, whether they feed a hasher the same bytes, and whether the first is equal
-/// to the second field as a string.
-pub(crate) fn show_pair(alloc: Global, out: &mut String, field: &str, text: &str) {
-    let Some((one, other)) = values_or_fault(alloc, out, field, text) else {
-        return;
-    };
-    let is_equal = one == other && one.cmp(&other).is_eq();
-    let by_hash = hash_input(&one) == hash_input(&other);
-    let by_text = mime_eq_str(&one, text);
-    let _ = writeln!(
-        out,
-        "equal {is_equal}, by hash {by_hash}, by text {by_text}"
-    );
-}
-
-/// Returns `true` if a value is found in a `HashSet` that contains only a second value.
-fn is_hashed(alloc: Global, one: &Mime, other: Mime) -> bool {
-    let mut set = HashSet::new(alloc);
-    let _ = set.insert(other);
-    set.contains(one)
-}
-
-/// Returns `true` if a value is found in a `BTreeSet` that contains only a second value.
-fn is_ordered(alloc: Global, one: &Mime, other: Mime) -> bool {
-    let mut set = BTreeSet::new(alloc);
-    let _ = set.insert(other);
-    set.contains(one)
-}
-
 /// Shows whether a value is found in sets that contain only a second value.
 pub(crate) fn show_sets(alloc: Global, out: &mut String, field: &str, text: &str) {
     let Some((one, other)) = values_or_fault(alloc, out, field, text) else {
         return;
     };
-    if let Ok(clone) = other.clone() {
-        let found = (
-            is_hashed(alloc, &one, clone),
-            is_ordered(alloc, &one, other),
-        );
-        show_debug(out, &found);
+    let (mut hashed, mut ordered) = (HashSet::new(alloc), BTreeSet::new(alloc));
+    if let Ok(copy) = other.clone() {
+        let _ = hashed.insert(copy);
     }
+    let _ = ordered.insert(other);
+    show_debug(out, &(hashed.contains(&one), ordered.contains(&one)));
 }
 
 /// Shows whether a value equals a string.
 pub(crate) fn show_against(alloc: Global, out: &mut String, field: &str, text: &str) {
-    let Some(mime) = value_or_fault(alloc, out, field) else {
-        return;
-    };
-    show_debug(out, &mime_eq_str(&mime, text));
+    if let Some(mime) = value_or_fault(alloc, out, field) {
+        show_debug(out, &mime_eq_str(&mime, text));
+    }
 }

@@ -10,7 +10,6 @@
 //! - `print VALUE`: a value with a width of 12, and with Debug;
 //! - `key VALUE KEY OTHER`: the value that a string or a constant finds as a key, and whether the value found equals the other string;
 //! - `compare VALUE VALUE`: how two values compare, and whether the first equals the second field as a string;
-//! - `pair VALUE VALUE`: whether two values are equal according to each trait, and whether the first equals the second field as a string;
 //! - `sets VALUE VALUE`: whether the first value is found in sets that contain the second;
 //! - `against VALUE STRING`: whether a value equals a string;
 //! - `names NAME NAME`: two names and how they compare. Each is a constant, a string after `=`, or a string that ignores case after `~`;
@@ -25,9 +24,10 @@
 
 use crate::fields::string_at;
 use crate::http::{
-    latin_1, lines_of, read_both, show, show_found, show_made, show_read, show_text, shown,
+    header_of, latin_1, lines_of, read_both, show, show_header, show_made, show_made_from,
+    show_option, show_read, show_result, shown,
 };
-use crate::recipes::{show_names_of, show_status, show_whether};
+use crate::recipes::show_names_of;
 use crate::values::read;
 use crate::{constants, http, items, recipes, relations, short, values};
 use mime::MimeIter;
@@ -38,6 +38,7 @@ use mime_examples::callers::{has_param, has_suffix, printed, reads_alike};
 use mime_examples::disposition::read_disposition;
 use mime_examples::html::accepts_html;
 use mime_examples::json::is_json;
+use mime_examples::key::quality_of;
 use mime_examples::multipart::{disposition_of, may_delimit};
 use mime_examples::plain::is_plain;
 use mime_examples::reader::reader_of;
@@ -45,7 +46,7 @@ use mime_examples::reply::{form_with, page_in};
 use mime_examples::route::takes;
 use mime_examples::utf8::says_utf8;
 use mime_http::{
-    FieldError, content_type, covers, has_quoted_weight, is_boundary, trimmed, weight_of,
+    Accept, FieldError, content_type, covers, has_quoted_weight, is_boundary, trimmed, weight_of,
     with_boundary, with_charset, with_parameter,
 };
 use std::alloc::Global;
@@ -56,7 +57,7 @@ pub(crate) fn show_row(rt: &HostRuntime, out: &mut String, word: &str, strings: 
         || show_of_headers(rt.alloc(), out, word, strings)
         || show_of_recipes(rt, out, word, strings);
     if !is_known {
-        show_text(out, None);
+        show(out, &"none");
     }
     if !out.ends_with('\n') {
         let _ = out.push('\n');
@@ -80,7 +81,6 @@ fn show_of_library(alloc: Global, out: &mut String, word: &str, strings: &[Strin
         "list" => items::show_list(alloc, out, strings),
         "long" => values::show_long(alloc, out, one, two),
         "names" => relations::show_names(out, one, two),
-        "pair" => relations::show_pair(alloc, out, one, two),
         "parts" => values::show_parts(alloc, out, one),
         "print" => values::show_printed(alloc, out, one),
         "read" => values::show_parse(alloc, out, one),
@@ -97,43 +97,46 @@ fn show_of_headers(alloc: Global, out: &mut String, word: &str, strings: &[Strin
     let two = string_at(strings, 1);
     let three = string_at(strings, 2);
     match word {
-        "accept" => http::show_accept(alloc, out, one),
-        "accept in Latin-1" => http::show_accept_in_latin_1(alloc, out, one),
+        "accept" => show_header(out, header_of(alloc, one)),
+        "accept in Latin-1" => {
+            show_header(out, Accept::from_lines(alloc, &[&latin_1(alloc, one)]))
+        }
         "best" => http::show_best(alloc, out, strings),
         "boundary" => http::show_boundary(alloc, out, one),
-        "content_type" => http::show_value(out, content_type(alloc, one.as_bytes())),
-        "content_type in Latin-1" => http::show_value(
-            out,
-            content_type(alloc, &latin_1(alloc, one)),
-        ),
+        "content_type" => show_result(out, content_type(alloc, one.as_bytes())),
+        "content_type in Latin-1" => show_result(out, content_type(alloc, &latin_1(alloc, one))),
         "covers" => show_read(
             out,
             read_both(alloc, one, two).map(|(range, offer)| covers(&range, &offer)),
         ),
         "from_line_counting_bad" => http::show_counting_bad(alloc, out, one),
-        "from_lines_without_bad" => http::show_without_bad(alloc, out, one),
+        "from_lines_without_bad" => show_header(
+            out,
+            lines_of(alloc, one).and_then(|lines| Accept::from_lines_without_bad(alloc, &lines)),
+        ),
         "has_quoted_weight" => show(out, &has_quoted_weight(one.as_bytes())),
         "is_boundary" => show(out, &is_boundary(one.as_bytes())),
         "lacked" => http::show_lacked(alloc, out, one, two, three),
+        "lacking" => http::show_lacking(alloc, out, strings),
         "order" => http::show_order(alloc, out, strings),
         "rank_offers" => http::show_ranking(alloc, out, strings),
-        "trimmed" => show_text(out, Some(shown(trimmed(one.as_bytes())))),
-        "unescape" => http::show_unescaped(alloc, out, one, two),
+        "trimmed" => show(out, &shown(trimmed(one.as_bytes()))),
+        "unescape" => http::show_meant(out, Vec::new(alloc), one, two),
         "unescape in room" => http::show_unescaped_in_room(alloc, out, one, two),
         "weight" => http::show_weights(alloc, out, strings),
         "weight_of" => show_read(out, read(alloc, one).map(|range| weight_of(&range))),
-        "with_boundary" => show_made(
-            out,
-            read(alloc, one).map(|mime| with_boundary(alloc, &mime, two)),
-        ),
-        "with_charset" => show_made(
-            out,
-            read(alloc, one).map(|mime| with_charset(alloc, &mime, two)),
-        ),
-        "with_parameter" => show_made(
-            out,
-            read(alloc, one).map(|mime| with_parameter(alloc, &mime, two, three)),
-        ),
+        "with_boundary" => {
+            show_made_from(alloc, out, one, |mime| with_boundary(alloc, mime, two))
+        }
+        "with_charset" => show_made_from(alloc, out, one, |mime| with_charset(alloc, mime, two)),
+        "with_parameter" => {
+            show_made_from(
+                alloc,
+                out,
+                one,
+                |mime| with_parameter(alloc, mime, two, three),
+            )
+        }
         _ => return false,
     }
     true
@@ -145,7 +148,7 @@ fn show_of_recipes(rt: &HostRuntime, out: &mut String, word: &str, strings: &[St
     let one = string_at(strings, 0);
     let two = string_at(strings, 1);
     match word {
-        "accepts_html" => show_found(
+        "accepts_html" => show_result(
             out,
             lines_of(alloc, one).and_then(|lines| accepts_html(alloc, &lines)),
         ),
@@ -156,31 +159,31 @@ fn show_of_recipes(rt: &HostRuntime, out: &mut String, word: &str, strings: &[St
         "count" => recipes::show_counts(rt, out, strings),
         "described" => recipes::show_described(alloc, out, one),
         "disposition_of" => show_names_of(out, disposition_of(alloc, one.as_bytes())),
-        "explained" => show_found(
+        "explained" => show_result(
             out,
             lines_of(alloc, one).and_then(|lines| explained(alloc, &lines)),
         ),
         "file_name" => recipes::show_file_name(alloc, out, one, two),
-        "form_with" => show_made(out, Some(form_with(alloc, one))),
+        "form_with" => show_made(out, form_with(alloc, one)),
         "handler_of" => recipes::show_handler_of(alloc, out, one),
-        "has_param" => show_whether(out, printed(alloc, one).map(|mime| has_param(&mime, two))),
-        "has_suffix" => show_whether(out, has_suffix(alloc, one)),
+        "has_param" => show_result(out, printed(alloc, one).map(|mime| has_param(&mime, two))),
+        "has_suffix" => show_result(out, has_suffix(alloc, one)),
         "in_order" => recipes::show_in_order(alloc, out, strings),
         "is_compressible" => recipes::show_is_compressible(out),
         "is_json" => show_read(out, read(alloc, one).map(|mime| is_json(&mime))),
         "is_plain" => show_read(out, read(alloc, one).map(|mime| is_plain(&mime))),
         "may_delimit" => show(out, &may_delimit(one.as_bytes(), two.as_bytes())),
         "multipart::parts" => recipes::show_body_parts(alloc, out, one, two),
-        "page_in" => show_made(out, Some(page_in(alloc, one))),
-        "quality_of" => recipes::show_quality_of(alloc, out, one),
+        "page_in" => show_made(out, page_in(alloc, one)),
+        "quality_of" => show_read(out, read(alloc, one).as_ref().map(|mime| quality_of(mime))),
         "read_disposition" => show_names_of(out, read_disposition(alloc, one.as_bytes())),
-        "reader_of" => show_text(out, Some(reader_of(one))),
-        "reads_alike" => show_whether(out, reads_alike(alloc, one)),
+        "reader_of" => show(out, &reader_of(one)),
+        "reads_alike" => show_result(out, reads_alike(alloc, one)),
         "received" => recipes::show_received(alloc, out, one, two),
-        "refusal" => show_status(out, refusal(alloc, one.as_bytes())),
-        "refusal_of_body" => show_status(out, refusal_of_body(alloc, Some(one.as_bytes()))),
-        "refusal_of_body without a header" => show_status(out, refusal_of_body(alloc, None)),
-        "says_utf8" => show_whether(out, says_utf8(alloc, one.as_bytes())),
+        "refusal" => show_option(out, refusal(alloc, one.as_bytes())),
+        "refusal_of_body" => show_option(out, refusal_of_body(alloc, Some(one.as_bytes()))),
+        "refusal_of_body without a header" => show_option(out, refusal_of_body(alloc, None)),
+        "says_utf8" => show_result(out, says_utf8(alloc, one.as_bytes())),
         "status_of no memory" => show(out, &status_of(&FieldError::NoMemory)),
         "takes" => show_read(
             out,
@@ -188,7 +191,7 @@ fn show_of_recipes(rt: &HostRuntime, out: &mut String, word: &str, strings: &[St
         ),
         "type_for" => recipes::show_type_for(alloc, out, one, two),
         "type_of_file" => recipes::show_type_of_file(alloc, out, one),
-        "vendor_json" => show_made(out, Some(vendor_json(alloc, one))),
+        "vendor_json" => show_made(out, vendor_json(alloc, one)),
         _ => return false,
     }
     true

@@ -3,7 +3,7 @@
 ghost use Rattle.std.specs.Prelude.{◌≡◌, codes};
 
 use crate::constants::{Shown, constant_name, value_of};
-use mime::{FromStrError, Mime, Name, ParamKey, TextKey, name_eq_str};
+use mime::{Mime, Name, ParamKey, TextKey, name_eq_str};
 use std::alloc::Global;
 use std::fmt::{Debug, Write};
 
@@ -12,18 +12,13 @@ pub(crate) fn show_debug<T: Debug>(out: &mut String, said: &T) {
     let _ = writeln!(out, "{said:?}");
 }
 
-/// Writes why a string is rejected.
-pub(crate) fn show_fault(out: &mut String, error: &FromStrError) {
-    // The error ignores a width.
-    let _ = writeln!(out, "bad {error:99}");
-}
-
 /// Returns the value that a field stands for, or writes its fault and returns `None`.
 pub(crate) fn value_or_fault(alloc: Global, out: &mut String, field: &str) -> Option<Mime> {
     match value_of(alloc, field) {
         Ok(mime) => Some(mime),
         Err(error) => {
-            show_fault(out, &error);
+            // The error ignores a width.
+            let _ = writeln!(out, "bad {error:99}");
             None
         }
     }
@@ -50,10 +45,9 @@ pub(crate) fn show_media_type(out: &mut String, mime: &Mime) {
 
 /// Shows what a string is read as.
 pub(crate) fn show_parse(alloc: Global, out: &mut String, field: &str) {
-    let Some(mime) = value_or_fault(alloc, out, field) else {
-        return;
-    };
-    show_media_type(out, &mime);
+    if let Some(mime) = value_or_fault(alloc, out, field) {
+        show_media_type(out, &mime);
+    }
 }
 
 /// Writes the copy of a value, and whether it is equal to the original.
@@ -103,10 +97,9 @@ pub(crate) fn show_long(alloc: Global, out: &mut String, field: &str, kept: &str
 
 /// Shows a value with a width of 12, the value with Debug, and its parameters with Debug.
 pub(crate) fn show_printed(alloc: Global, out: &mut String, field: &str) {
-    let Some(mime) = value_or_fault(alloc, out, field) else {
-        return;
-    };
-    let _ = writeln!(out, "{mime:>12}|{mime:?}|{:?}", mime.params());
+    if let Some(mime) = value_or_fault(alloc, out, field) {
+        let _ = writeln!(out, "{mime:>12}|{mime:?}|{:?}", mime.params());
+    }
 }
 
 /// The key that accepts only the name `foo`.
