@@ -1,9 +1,10 @@
 -- The content of quoted strings: what is written for a value and in which form, what needs no backslash, and what it means.
-use Rattle.mime_http.proofs.Common.{AreHeaderBytes, one-add, AreTokenBytes-from_token, Bool, IsBoundary, IsContent, IsToken, List, WrittenIsMeant, [], and_parts, ap, append-nil, append_assoc, arith, drop, drop-length, escaped, false, get_or, if◌then◌else◌, is_bchar, is_quoted_byte, is_quoted_text_byte, is_token_byte, length, list_all, list_all-wider, lowered, lowered_value, nat_tests, no_byte, not, quoted_pair, refl, suc, sym, take, take-append-add, take-length, take_rest, text_byte, true, unescaped, zero, ℕ, ◌&&◌, ◌*◌, ◌++◌, ◌+◌, ◌-◌, ◌<◌, ◌==◌, ◌||◌, ◌∙◌, ◌∷◌, ◌≡◌, ◌≢◌, ◌≤◌, Form, flat_map-append, text_of_pairs, Token, form_of, is_plain, is_token_value, prefix_len, text_in, text_of_pair, is_ascii_uppercase}
+use Rattle.mime_http.proofs.Common.{AreHeaderBytes, one-add, AreTokenBytes-from_token, Bool, IsBoundary, IsContent, IsToken, List, WrittenIsMeant, [], and_parts, ap, append-nil, append_assoc, arith, drop, drop-length, escaped, false, get_or, if◌then◌else◌, is_bchar, is_quoted_byte, is_quoted_text_byte, is_token_byte, length, list_all, list_all-wider, lowered, lowered_value, nat_tests, no_byte, not, quoted_pair, refl, suc, sym, take, take-length, text_byte, true, unescaped, zero, ℕ, ◌&&◌, ◌*◌, ◌++◌, ◌+◌, ◌-◌, ◌<◌, ◌==◌, ◌||◌, ◌∙◌, ◌∷◌, ◌≡◌, ◌≢◌, ◌≤◌, Form, flat_map-append, text_of_pairs, Token, form_of, is_plain, is_token_value, prefix_len, text_in, text_of_pair, is_ascii_uppercase}
 use Rattle.mime.specs.Bytes.{backslash_byte}
 use Rattle.std.specs.Int.Bits.{or_zero_r}
+use Rattle.std.proofs.Common.{take-take, take_at, length-append}
 use Rattle.mime_http.proofs.{Common.get_or-drop, Common.nat_lt, Common.drop-drop, Common.drop_more, Common.is_stop, Common.slice_range, ReadAt.run_is, ReadAt.run_goes_on}
-use Rattle.mime_search.{specs.Classes.end_of_run, specs.declared.class.Class.Class}
+use Rattle.mime_search.{specs.Classes.end_of_run, specs.Quoted.meant_from, specs.declared.class.Class.Class}
 use Rattle.mime_http.{specs.declared.quoted.Form.TheVariants.Quoted, specs.declared.quoted.Form.TheVariants.Escaped, proofs.Common.Some, proofs.Common.None, proofs.Written.token_from_test, specs.declared.parameter.TheConstants.CONTROLS}
 
 -- Bytes of quoted text need no backslash.
@@ -31,13 +32,8 @@ boundary_text bytes is = list_all-wider is_bchar is_quoted_text_byte (λ b is. g
 
 -- ---- bytes before the first backslash
 
--- What the rest of a value means byte by byte, after a backslash that begins a pair, or not.
-abbrev pub unescaped_from : Bool → List ℕ → List ℕ
-unescaped_from paired [] = []
-unescaped_from paired (b ∷ bytes) = if not paired && b == 92 then unescaped_from true bytes else b ∷ unescaped_from false bytes
-
 -- A value means what its bytes mean one by one.
-pub unescaped_is : (bytes : List ℕ) → unescaped bytes ≡ unescaped_from false bytes
+pub unescaped_is : (bytes : List ℕ) → unescaped bytes ≡ meant_from false bytes
 unescaped_is [] = refl
 unescaped_is (b ∷ []) = refl
 unescaped_is (b ∷ c ∷ bytes) = grind (arith, unescaped_is bytes, unescaped_is (c ∷ bytes))
@@ -54,11 +50,12 @@ unescaped_before (b ∷ bytes) (suc at) within none =
 pub unescaped_same : (bytes : List ℕ) → ((i : ℕ) → i < length bytes → get_or bytes i 0 ≢ 92) → unescaped bytes ≡ bytes
 unescaped_same bytes none = grind (arith, unescaped_before bytes (length bytes), drop-length, take-length, append-nil)
 
--- What a value means from a position on is added after the bytes before it, which mean themselves.
-pub unescaped_end : (front value : List ℕ) (start at : ℕ) → start ≡ length front → at ≤ length value
-    → ((i : ℕ) → i < at → get_or value i 0 ≢ 92) → {bytes : List ℕ} → bytes ≡ value
-    → take (start + at) (front ++ value) ++ unescaped (take (length bytes - at) (drop at bytes)) ≡ front ++ unescaped value
-unescaped_end front value start at long within none is = grind (arith, take-append-add, append_assoc, unescaped_before, take_rest, is)
+-- The bytes before a position, and those that are written from there on, are kept if what is behind them is cut off.
+pub cut_behind : (front value meant behind more rest : List ℕ) {at len room : ℕ} {bytes new : List ℕ} → bytes ≡ front ++ value
+    → at ≡ length front → new ≡ meant ++ behind → len ≡ length meant → at + len ≤ room
+    → take (at + len) (take room ((take at bytes ++ (new ++ more)) ++ rest)) ≡ front ++ meant
+cut_behind front value meant behind more rest {at} {len} {room} is start writes size within =
+    grind (arith, is, start, writes, size, take-take, take_at, append_assoc, within, length-append {A = ℕ})
 
 -- Two bytes mean one byte at least, but a backslash at the end means none.
 pub length-unescaped : (bytes : List ℕ) → length bytes ≤ 2 * length (unescaped bytes) + 1
