@@ -6,10 +6,10 @@ ghost use Rattle.mime_c.specs.ParameterAnswers.{BoundaryIs, UnescapesTo, room_wi
 
 use crate::{
     MIME_BAD_PARAMETER, MIME_NO_BOUNDARY, MIME_NO_MEMORY, MIME_NO_ROOM, MIME_OK, copy,
-    number_of_error, text_of,
+    number_of_error,
 };
 use mime_http::{boundary, content_type, with_parameter};
-use mime_search::copy_meant;
+use mime_search::{copy_meant, text_of};
 use std::alloc::Global;
 
 /// The maximum length of a boundary (RFC 2046, 5.1.1) with the 0 after it, in bytes.

@@ -136,12 +136,13 @@ pub fn copy_meant(out: &mut [u8], content: &[u8]) -> usize
     while at < content.len() {
         if content[at] == b'\\' {
             at += 1;
+            if at == content.len() {
+                return end;
+            }
         }
-        if at < content.len() {
-            out[end] = content[at];
-            end += 1;
-            at += 1;
-        }
+        out[end] = content[at];
+        end += 1;
+        at += 1;
     }
     end
 }
