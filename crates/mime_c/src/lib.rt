@@ -135,6 +135,7 @@ fn found_of_error(error: &FieldError) -> MimeFound
 }
 
 /// Reads the whole of a text as one media type.
+#[inline(always)]
 fn read(alloc: Global, text: &[u8]) -> Result<Mime, FieldError>
     ensures read { IfOk result (λ mime. IsUtf8 text.now × Reads text.now mime.media) }
     ensures explained { IfErr result (λ error. TextExplains text.now error) }
