@@ -1,8 +1,8 @@
 //! The calls for parameters. Two calls write what a parameter means, and one call writes a media type with a parameter.
 
-ghost use Rattle.std.specs.Prelude.{◌≡◌, ◌↔◌, ◌<◌, ◌≤◌, IsTrue, length};
+ghost use Rattle.std.specs.Prelude.{◌≡◌, ◌<◌, length};
 ghost use Rattle.mime_c.specs.Strings.{string_of, written};
-ghost use Rattle.mime_c.specs.ParameterAnswers.{BoundaryIs, UnescapesTo, room_with, SetsTo};
+ghost use Rattle.mime_c.specs.ParameterAnswers.{BoundaryIs, UnescapesTo, SetsTo};
 
 use crate::{
     MIME_BAD_PARAMETER, MIME_NO_BOUNDARY, MIME_NO_MEMORY, MIME_NO_ROOM, MIME_OK, copy,
@@ -70,14 +70,6 @@ pub extern "C" fn mime_unescape(value: &[u8], out: &mut [u8], size: &mut usize) 
     MIME_OK
 }
 
-/// Returns `true` if `out` is long enough for `mime_set_parameter` with these arguments.
-fn has_room(out: &[u8], text: &[u8], name: &[u8], value: &[u8]) -> bool
-    ensures { IsTrue result ↔ (room_with text.now name.now value.now ≤ length out.now) }
-{
-    let most = 2 * text.len() as u128 + name.len() as u128 + 2 * value.len() as u128 + 6;
-    most <= out.len() as u128
-}
-
 /// Reads `text` as `mime_content_type` does, and writes the media type to `out` with a parameter of this `name` and `value`, which replaces
 /// all parameters of the same name (RFC 9110, 5.6.6). `out` must have at least `2 * text.len() + name.len() + 2 * value.len() + 6` bytes.
 /// Sets `size` to the number of bytes of the media type. Returns `MIME_OK`, or another answer of include/mime.h if it wrote nothing.
@@ -93,7 +85,8 @@ pub extern "C" fn mime_set_parameter(
     ensures { SetsTo text.now name.now value.now out.old result (out.new, size.new) }
 {
     *size = 0;
-    if !has_room(out, text, name, value) {
+    let most = 2 * text.len() as u128 + name.len() as u128 + 2 * value.len() as u128 + 6;
+    if most > out.len() as u128 {
         return MIME_NO_ROOM;
     }
     let mime = match content_type(alloc, text) {
