@@ -61,7 +61,6 @@ fn form_of_content(content: &str) -> Form
 
 /// Returns the form in which a value is written, or `None` if the value has a byte that no quoted string can contain: an ASCII
 /// control character other than the tab.
-#[tactic(auto, using(crate::proofs::Contents::token_written))]
 fn form_of(value: &str) -> Option<Form>
     ensures { result ≡ (if list_all is_quoted_byte value.now then Some (form_of value.now) else None) }
 {

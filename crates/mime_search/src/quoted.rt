@@ -124,12 +124,14 @@ pub fn content_end(text: &[u8], from: usize) -> usize
 
 /// Writes the bytes that content means to the start of `out`, and returns their number. A backslash and the byte after it
 /// mean that byte. A backslash at the end means nothing.
+#[inline(always)]
 pub fn copy_meant(out: &mut [u8], content: &[u8]) -> usize
     requires { length content.now ≤ length out.old }
     ensures bytes { out.new ≡ meant_from false content.now ++ drop result out.old }
     ensures size { result ≡ length (meant_from false content.now) }
     ensures within { result ≤ length content.now }
 {
+    // The bytes before the first backslash mean themselves.
     let mut at = first_stop(content, 0, &Class::of(b'\\', b'\\'));
     copy_bytes(&mut out[..at], &content[..at]);
     let mut end = at;
