@@ -1,7 +1,6 @@
 -- How many bytes the strings of a header's value are, and that they come back.
-use Rattle.std.proofs.Common.{◌≡◌, ℕ, ◌+◌, ◌*◌, ◌<◌, ◌≤◌, Bool, true, false, List, [], ◌∷◌, ◌++◌, length, filter, refl, subst, ap, ◌∙◌, arith, length-append, rules}
+use Rattle.std.proofs.Common.{◌≡◌, ℕ, ◌+◌, ◌*◌, ◌<◌, ◌≤◌, Bool, true, List, [], ◌∷◌, ◌++◌, length, filter, refl, subst, ap, ◌∙◌, arith, length-append, rules}
 use Rattle.std.specs.List.{AllByRecursion}
-use Rattle.std.specs.Prelude.{if◌then◌else◌}
 use Rattle.std.proofs.lemmas.Bool.Decides.{nat_tests}
 use Rattle.mime.specs.{Bytes.comma_byte, HeaderLaws.IsSafePair, Laws.without_parameters, Values.MediaType, Values.Reads}
 use Rattle.mime.proofs.HandedOut.{length-lowered, essence_is_read, kept_is_safe, token-size}
@@ -33,15 +32,7 @@ kept_pairs test ((name, value) ∷ pairs) (is, are) =
     let more = kept_pairs test pairs are in
     let size = length-strings_of_pair name value pairs in
     let all = length-append (text_of_pair (name, value)) (text_of_pairs (filter test pairs)) in
-    by_kept (test (name, value)) (name, value) (filter test pairs) (omega (arith, more, size))
-    (omega (arith, more, size, token-size name is.0, length-pair name value, all))
-  where
-    -- This holds whether the parameter passes the test or not.
-    by_kept : (kept : Bool) (pair : List ℕ × List ℕ) (others : List (List ℕ × List ℕ)) {most : ℕ}
-        → length (text_of_pairs others) ≤ most
-        → length (text_of_pairs (pair ∷ others)) ≤ most → length (text_of_pairs (if kept then pair ∷ others else others)) ≤ most
-    by_kept true pair others less more = more
-    by_kept false pair others less more = less
+    grind (arith, more, size, token-size name is.0, length-pair name value, all)
 
 -- All parameters pass a test that is always true.
 filter_all : (pairs : List (List ℕ × List ℕ)) → filter (λ pair. true) pairs ≡ pairs

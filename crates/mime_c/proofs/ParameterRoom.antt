@@ -1,10 +1,10 @@
 -- How many bytes a media type with a parameter is, and that what is written comes back.
-use Rattle.std.proofs.Common.{◌≡◌, ℕ, ◌+◌, ◌*◌, ◌≤◌, Bool, true, false, List, [], ◌∷◌, length, ap, arith, length-append}
-use Rattle.std.specs.Prelude.{◌==◌, ◌||◌, not, bytes_eq, if◌then◌else◌}
+use Rattle.std.proofs.Common.{◌≡◌, ℕ, ◌+◌, ◌*◌, ◌≤◌, true, List, [], ◌∷◌, length, ap, arith, length-append}
+use Rattle.std.specs.Prelude.{not, bytes_eq}
 use Rattle.std.proofs.{lemmas.Bool.Decides.nat_tests, lemmas.List.Concat.flat_map-append}
-use Rattle.mime.specs.{Bytes.quote_byte, Bytes.backslash_byte, Values.MediaType, Values.Reads, Values.lowered, Values.lowered_value}
+use Rattle.mime.specs.{Values.MediaType, Values.Reads, Values.lowered, Values.lowered_value}
 use Rattle.mime.proofs.HandedOut.{length-lowered, lowered_value-either, is_other, list_all-wider}
-use Rattle.mime_http.specs.{Boundary.is_bchar, Boundary.IsBoundary, HttpMediaType.HttpReads, Written.escaped_byte, Written.escaped, Written.text_of_pair, Written.others}
+use Rattle.mime_http.specs.{Boundary.is_bchar, Boundary.IsBoundary, HttpMediaType.HttpReads, Written.escaped, Written.text_of_pair, Written.others}
 use Rattle.mime_c.specs.{Strings.ComeBack, ParameterAnswers.room_with, ParameterAnswers.with_parameter}
 use Rattle.mime_c.proofs.{HeaderRoom.anew_fits, HeaderRoom.length-pair, HeaderRoom.sizes_of, NoZero.come_back, NoZero.no_zero-read}
 
@@ -13,16 +13,7 @@ use Rattle.mime_c.proofs.{HeaderRoom.anew_fits, HeaderRoom.length-pair, HeaderRo
 -- A value is written with at most twice as many bytes as it means.
 length-escaped : (bytes : List ℕ) → length (escaped bytes) ≤ 2 * length bytes
 length-escaped [] = omega arith
-length-escaped (b ∷ bytes) = omega (arith, one b, length-escaped bytes, length-append (escaped_byte b) (escaped bytes))
-  where
-    -- A byte is written with at most two bytes.
-    one : (b : ℕ) → length (escaped_byte b) ≤ 2
-    one b = by_test (b == quote_byte || b == backslash_byte)
-      where
-        -- This holds whether the byte needs a backslash or not.
-        by_test : (special : Bool) → length (if special then backslash_byte ∷ b ∷ [] else b ∷ []) ≤ 2
-        by_test true = omega arith
-        by_test false = omega arith
+length-escaped (b ∷ bytes) = grind (arith, length-escaped bytes)
 
 -- A media type with a parameter fits into the room that is asked for.
 pub set_fits : (text name value : List ℕ) (media : MediaType) → HttpReads text media

@@ -5,8 +5,8 @@
 //! answers. include/mime.h describes them in plain words.
 #![tactic(auto)]
 
-ghost use Rattle.std.specs.Prelude.{◌≡◌, ◌+◌, ◌<◌, ◌≤◌, ◌∷◌, length, IfOk, IfErr, IsOk, MatchResult};
-ghost use Rattle.std.specs.Str.{IsUtf8, IsValidUpTo, valid_up_to};
+ghost use Rattle.std.specs.Prelude.{◌≡◌, ◌+◌, ◌<◌, ◌≤◌, ◌∷◌, length, IfOk, IfErr, IsOk};
+ghost use Rattle.std.specs.Str.{IsUtf8};
 ghost use Rattle.mime.specs.Values.{Reads};
 ghost use Rattle.mime.specs.CutLaws.{IsRead};
 ghost use Rattle.mime_c.specs.Strings.{string_of, strings, parts_of, texts_of, written};
@@ -21,8 +21,8 @@ mod parameter;
 
 use mime::{Bad, Mime, MimeIter, ParseError};
 use mime_http::{Accept, FieldError, content_type, weight_of};
+use mime_search::text_of;
 use std::alloc::{AllocError, Global};
-use std::str::Utf8Error;
 
 // The answers of all calls. include/mime.h has the same names and numbers, and describes them.
 const MIME_OK: u32 = 0;
@@ -105,19 +105,6 @@ fn number_of(fault: &ParseError) -> u32
     }
 }
 
-/// Converts bytes to a string as `str::from_utf8` does, but faster for ASCII, which most texts are.
-#[inline(never)]
-fn text_of(bytes: &[u8]) -> Result<&str, Utf8Error>
-    ensures cases { MatchResult result (λ text. (text.now ≡ bytes.now) × IsUtf8 bytes.now)
-        (λ error. ¬ (IsUtf8 bytes.now) × IsValidUpTo bytes.now (valid_up_to error)) }
-{
-    if bytes.is_ascii() {
-        // SAFETY: ASCII is UTF-8.
-        return Ok(unsafe { str::from_utf8_unchecked(bytes) });
-    }
-    str::from_utf8(bytes)
-}
-
 /// Returns the answer for an error in reading a text or a header's value.
 fn number_of_error(error: &FieldError) -> u32
     ensures { result ≡ number_of_error error.now }
@@ -148,6 +135,7 @@ fn found_of_error(error: &FieldError) -> MimeFound
 }
 
 /// Reads the whole of a text as one media type.
+#[inline(always)]
 fn read(alloc: Global, text: &[u8]) -> Result<Mime, FieldError>
     ensures read { IfOk result (λ mime. IsUtf8 text.now × Reads text.now mime.media) }
     ensures explained { IfErr result (λ error. TextExplains text.now error) }

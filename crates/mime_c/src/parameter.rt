@@ -1,18 +1,15 @@
 //! The calls for parameters. Two calls write what a parameter means, and one call writes a media type with a parameter.
 
-ghost use Rattle.std.specs.Prelude.{◌≡◌, false, ◌↔◌, ◌<◌, ◌≤◌, ◌==◌, ◌&&◌, not, IsTrue, length};
-ghost use Rattle.mime.specs.Bytes.{backslash_byte};
-ghost use Rattle.mime_http.specs.Unescaped.{unescaped};
+ghost use Rattle.std.specs.Prelude.{◌≡◌, ◌<◌, length};
 ghost use Rattle.mime_c.specs.Strings.{string_of, written};
-ghost use Rattle.mime_c.specs.Writing.{HasWritten};
-ghost use Rattle.mime_c.specs.ParameterAnswers.{BoundaryIs, UnescapesTo, room_with, SetsTo};
+ghost use Rattle.mime_c.specs.ParameterAnswers.{BoundaryIs, UnescapesTo, SetsTo};
 
 use crate::{
     MIME_BAD_PARAMETER, MIME_NO_BOUNDARY, MIME_NO_MEMORY, MIME_NO_ROOM, MIME_OK, copy,
-    number_of_error, text_of,
+    number_of_error,
 };
 use mime_http::{boundary, content_type, with_parameter};
-use mime_search::{Class, first_stop};
+use mime_search::{copy_meant, text_of};
 use std::alloc::Global;
 
 /// The maximum length of a boundary (RFC 2046, 5.1.1) with the 0 after it, in bytes.
@@ -57,43 +54,6 @@ pub extern "C" fn mime_boundary(
     }
 }
 
-/// Returns `true` if a byte is a backslash that begins a quoted pair. `is_paired` is `true` for the second byte of a quoted pair.
-fn begins_quoted_pair(is_paired: bool, byte: u8) -> bool
-    ensures { result ≡ (not is_paired && byte == backslash_byte) }
-{
-    !is_paired && byte == b'\\'
-}
-
-/// Returns `true` if a value has a backslash. A value without a backslash means itself.
-fn has_backslash(value: &[u8]) -> bool
-    ensures { result ≡ false → unescaped value.now ≡ value.now }
-{
-    first_stop(value, 0, &Class::of(b'\\', b'\\')) < value.len()
-}
-
-/// Writes the bytes that a value means to the start of `out`, and returns their number. A backslash and the byte after it mean that byte.
-fn put_unescaped(out: &mut [u8], value: &[u8]) -> usize
-    requires { length value.now < length out.old }
-    ensures written { HasWritten out.old out.new result (unescaped value.now) }
-    ensures within { result ≤ length value.now }
-{
-    // Most values have no backslash.
-    if !has_backslash(value) {
-        return copy(out, 0, value);
-    }
-    let mut end = 0;
-    let mut is_paired = false;
-    for (at, &byte) in value.iter().enumerate() {
-        if begins_quoted_pair(is_paired, byte) {
-            is_paired = true;
-            continue;
-        }
-        end = copy(out, end, &[byte]);
-        is_paired = false;
-    }
-    end
-}
-
 /// Writes the bytes that a parameter's value means (RFC 9110, 5.6.4) to `out`, which must have at least `value.len() + 1` bytes, and sets
 /// `size` to their number. `a\"b` means `a"b`. Returns `MIME_OK`, or `MIME_NO_ROOM` if it wrote nothing.
 #[unsafe(no_mangle)]
@@ -104,18 +64,10 @@ pub extern "C" fn mime_unescape(value: &[u8], out: &mut [u8], size: &mut usize) 
     if out.len() <= value.len() {
         return MIME_NO_ROOM;
     }
-    let end = put_unescaped(out, value);
-    *size = end;
+    let end = copy_meant(out, value);
     copy(out, end, b"\0");
+    *size = end;
     MIME_OK
-}
-
-/// Returns `true` if `out` is long enough for `mime_set_parameter` with these arguments.
-fn has_room(out: &[u8], text: &[u8], name: &[u8], value: &[u8]) -> bool
-    ensures { IsTrue result ↔ (room_with text.now name.now value.now ≤ length out.now) }
-{
-    let most = 2 * text.len() as u128 + name.len() as u128 + 2 * value.len() as u128 + 6;
-    most <= out.len() as u128
 }
 
 /// Reads `text` as `mime_content_type` does, and writes the media type to `out` with a parameter of this `name` and `value`, which replaces
@@ -133,7 +85,8 @@ pub extern "C" fn mime_set_parameter(
     ensures { SetsTo text.now name.now value.now out.old result (out.new, size.new) }
 {
     *size = 0;
-    if !has_room(out, text, name, value) {
+    let most = 2 * text.len() as u128 + name.len() as u128 + 2 * value.len() as u128 + 6;
+    if most > out.len() as u128 {
         return MIME_NO_ROOM;
     }
     let mime = match content_type(alloc, text) {

@@ -22,10 +22,6 @@ pub spaces_ascii : (bytes : List ℕ) → AreSpaces bytes → AreAscii bytes
 spaces_ascii [] all = tt
 spaces_ascii (b ∷ bytes) all = grind (arith, spaces_ascii bytes, and_parts, nat_tests)
 
--- An ASCII text is in UTF-8.
-pub ascii_is_utf8 : (bytes : List ℕ) → IsAscii bytes → IsUtf8 bytes
-ascii_is_utf8 = IsUtf8-from_ascii
-
 -- A text in UTF-8 stays so with an ASCII byte before it.
 pub put_one : (b : ℕ) (bytes : List ℕ) → b < 128 → IsUtf8 bytes → IsUtf8 (b ∷ bytes)
 put_one b bytes ascii is = IsUtf8-append (b ∷ []) bytes (IsUtf8-from_ascii (b ∷ []) (IsAscii-cons b [] ascii IsAscii-nil)) is

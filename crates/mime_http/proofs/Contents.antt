@@ -1,10 +1,11 @@
 -- The content of quoted strings: what is written for a value and in which form, what needs no backslash, and what it means.
-use Rattle.mime_http.proofs.Common.{AreHeaderBytes, one-add, AreTokenBytes-from_token, Bool, IsBoundary, IsContent, IsToken, List, WrittenIsMeant, [], and_parts, ap, append-nil, append_assoc, arith, drop, drop-length, escaped, false, get_or, if◌then◌else◌, is_bchar, is_quoted_byte, is_quoted_text_byte, is_token_byte, length, list_all, list_all-wider, lowered, lowered_value, nat_tests, no_byte, not, quoted_pair, refl, suc, sym, take, take-append-add, take-length, take_rest, text_byte, true, unescaped, zero, ℕ, ◌&&◌, ◌*◌, ◌++◌, ◌+◌, ◌-◌, ◌<◌, ◌==◌, ◌||◌, ◌∙◌, ◌∷◌, ◌≡◌, ◌≢◌, ◌≤◌, Form, flat_map-append, text_of_pairs, Token, form_of, is_plain, is_token_value, prefix_len, text_in, text_of_pair, is_ascii_uppercase}
+use Rattle.mime_http.proofs.Common.{AreHeaderBytes, one-add, AreTokenBytes-from_token, Bool, IsBoundary, IsContent, IsToken, List, WrittenIsMeant, [], and_parts, ap, append-nil, append_assoc, arith, drop, drop-length, escaped, false, get_or, if◌then◌else◌, is_bchar, is_quoted_byte, is_quoted_text_byte, is_token_byte, length, list_all, list_all-wider, lowered, lowered_value, nat_tests, no_byte, not, quoted_pair, refl, suc, sym, take, take-length, text_byte, true, unescaped, zero, ℕ, ◌&&◌, ◌*◌, ◌++◌, ◌+◌, ◌-◌, ◌<◌, ◌==◌, ◌||◌, ◌∙◌, ◌∷◌, ◌≡◌, ◌≢◌, ◌≤◌, Form, flat_map-append, text_of_pairs, Token, form_of, is_plain, is_token_value, prefix_len, text_in, text_of_pair, is_ascii_uppercase}
 use Rattle.mime.specs.Bytes.{backslash_byte}
 use Rattle.std.specs.Int.Bits.{or_zero_r}
-use Rattle.mime_http.proofs.{Common.get_or-drop, Common.nat_lt, Common.drop-drop, Common.drop_more, Common.is_stop, Common.slice_range, ReadAt.run_is, ReadAt.run_goes_on}
-use Rattle.mime_search.{specs.Classes.end_of_run, specs.declared.class.Class.Class}
-use Rattle.mime_http.{specs.declared.quoted.Form.TheVariants.Quoted, specs.declared.quoted.Form.TheVariants.Escaped, proofs.Common.Some, proofs.Common.None, proofs.Written.token_from_test, specs.declared.parameter.TheConstants.CONTROLS}
+use Rattle.std.proofs.Common.{take-take, take_at, length-append}
+use Rattle.mime_http.proofs.{Common.prefix_len-le-length, Common.get_or-drop, Common.nat_lt, Common.drop-drop, Common.drop_more, Common.is_stop, Common.slice_range, ReadAt.run_is, ReadAt.run_goes_on}
+use Rattle.mime_search.{specs.Classes.end_of_run, specs.Quoted.meant_from, specs.declared.class.Class.Class, specs.declared.class.TheConstants.TEXT_STOPS}
+use Rattle.mime_http.{specs.declared.quoted.Form.TheVariants.Quoted, specs.declared.quoted.Form.TheVariants.Escaped, proofs.Common.Some, proofs.Common.None, proofs.Written.token_from_test, specs.declared.parameter.TheConstants.CONTROLS, proofs.ReadAt.are_text_bytes}
 
 -- Bytes of quoted text need no backslash.
 pub plain_text : (bytes : List ℕ) → list_all is_quoted_text_byte bytes ≡ true → escaped bytes ≡ bytes
@@ -31,13 +32,8 @@ boundary_text bytes is = list_all-wider is_bchar is_quoted_text_byte (λ b is. g
 
 -- ---- bytes before the first backslash
 
--- What the rest of a value means byte by byte, after a backslash that begins a pair, or not.
-abbrev pub unescaped_from : Bool → List ℕ → List ℕ
-unescaped_from paired [] = []
-unescaped_from paired (b ∷ bytes) = if not paired && b == 92 then unescaped_from true bytes else b ∷ unescaped_from false bytes
-
 -- A value means what its bytes mean one by one.
-pub unescaped_is : (bytes : List ℕ) → unescaped bytes ≡ unescaped_from false bytes
+pub unescaped_is : (bytes : List ℕ) → unescaped bytes ≡ meant_from false bytes
 unescaped_is [] = refl
 unescaped_is (b ∷ []) = refl
 unescaped_is (b ∷ c ∷ bytes) = grind (arith, unescaped_is bytes, unescaped_is (c ∷ bytes))
@@ -54,11 +50,12 @@ unescaped_before (b ∷ bytes) (suc at) within none =
 pub unescaped_same : (bytes : List ℕ) → ((i : ℕ) → i < length bytes → get_or bytes i 0 ≢ 92) → unescaped bytes ≡ bytes
 unescaped_same bytes none = grind (arith, unescaped_before bytes (length bytes), drop-length, take-length, append-nil)
 
--- What a value means from a position on is added after the bytes before it, which mean themselves.
-pub unescaped_end : (front value : List ℕ) (start at : ℕ) → start ≡ length front → at ≤ length value
-    → ((i : ℕ) → i < at → get_or value i 0 ≢ 92) → {bytes : List ℕ} → bytes ≡ value
-    → take (start + at) (front ++ value) ++ unescaped (take (length bytes - at) (drop at bytes)) ≡ front ++ unescaped value
-unescaped_end front value start at long within none is = grind (arith, take-append-add, append_assoc, unescaped_before, take_rest, is)
+-- The bytes before a position, and those that are written from there on, are kept if what is behind them is cut off.
+pub cut_behind : (front value meant behind more rest : List ℕ) {at len room : ℕ} {bytes new : List ℕ} → bytes ≡ front ++ value
+    → at ≡ length front → new ≡ meant ++ behind → len ≡ length meant → at + len ≤ room
+    → take (at + len) (take room ((take at bytes ++ (new ++ more)) ++ rest)) ≡ front ++ meant
+cut_behind front value meant behind more rest {at} {len} {room} is start writes size within =
+    grind (arith, is, start, writes, size, take-take, take_at, append_assoc, within, length-append {A = ℕ})
 
 -- Two bytes mean one byte at least, but a backslash at the end means none.
 pub length-unescaped : (bytes : List ℕ) → length bytes ≤ 2 * length (unescaped bytes) + 1
@@ -133,11 +130,20 @@ unfolding is_quoted_byte
 quoted_len [] few = refl
 quoted_len (b ∷ bytes) few = grind (arith, nat_tests, or_zero_r b, few 0, quoted_len bytes (λ i. few (suc i)))
 
--- Of a class of all token bytes, a run from within a token at the start ends at the end exactly if all bytes are of the class.
-pub run_after : (class : ℕ → Bool) → ((b : ℕ) → is_token_byte b ≡ true → class b ≡ true)
-    → (value : List ℕ) (plain : ℕ) → plain ≤ prefix_len is_token_byte value
-    → (plain + prefix_len class (drop plain value) == length value) ≡ list_all class value
-run_after class wider value plain passed = grind (arith, run_goes_on is_token_byte class wider value 0 plain, whole_run class value, passed)
+-- Of a class of all quoted text, a run from within quoted text at the start ends at the end exactly if all bytes are of the class.
+pub run_after : (class : ℕ → Bool) → ((b : ℕ) → is_quoted_text_byte b ≡ true → class b ≡ true)
+    → (value : List ℕ) (at : ℕ) → at ≤ prefix_len is_quoted_text_byte value
+    → (at + prefix_len class (drop at value) == length value) ≡ list_all class value
+run_after class wider value at passed =
+    grind (arith, run_goes_on is_quoted_text_byte class wider value 0 at, whole_run class value, passed)
+
+-- The bytes from the end of a token up to the next that isn't printable, or is a quote or a backslash, are quoted text from the start.
+text_after : (value : List ℕ) {plain text : ℕ} → plain ≡ 0 + prefix_len is_token_byte value
+    → text ≡ plain + prefix_len (λ b. not (is_stop TEXT_STOPS b)) (drop plain value) → text ≤ prefix_len is_quoted_text_byte value
+text_after value {plain} {text} token is =
+    let first = run_goes_on is_token_byte is_quoted_text_byte token_byte_text value 0 plain (omega arith) (omega (arith, token)) in
+    let next = run_goes_on (λ b. not (is_stop TEXT_STOPS b)) is_quoted_text_byte are_text_bytes value plain text in
+    omega (arith, first, next (omega (arith, is)) (omega (arith, is)))
 
 -- Bytes of quoted text are those of a quoted string that need no backslash.
 pub quoted_text : (bytes : List ℕ) → list_all is_quoted_text_byte bytes ≡ (list_all is_quoted_byte bytes && list_all is_plain bytes)
@@ -148,19 +154,22 @@ quoted_text (b ∷ bytes) = grind (arith, nat_tests, quoted_text bytes)
 token_safe : (value : List ℕ) → is_token_value value ≡ true → list_all is_quoted_byte value ≡ true
 token_safe value is = safe_text value (token_text value (token_from_test value is))
 
--- The run of token bytes, and what two searches find after it, decide the form of a value.
-pub form_found : {value bytes : List ℕ} → bytes ≡ value → ((i : ℕ) → get_or value i 0 < 256) → {plain control special : ℕ}
-    → plain ≡ 0 + prefix_len is_token_byte bytes → control ≡ plain + prefix_len (λ b. not (is_stop CONTROLS b)) (drop plain bytes)
-    → special ≡ plain + prefix_len is_plain (drop plain bytes) → (if plain == length value && nat_lt 0 plain then Some Token else
-    if control == length value then Some (if special == length value then Quoted else Escaped) else None)
+-- The run of token bytes, and what three searches find after it, decide the form of a value.
+pub form_found : {value bytes : List ℕ} → bytes ≡ value → ((i : ℕ) → get_or value i 0 < 256) → {plain text control special : ℕ}
+    → plain ≡ 0 + prefix_len is_token_byte bytes → text ≡ plain + prefix_len (λ b. not (is_stop TEXT_STOPS b)) (drop plain bytes)
+    → control ≡ text + prefix_len (λ b. not (is_stop CONTROLS b)) (drop text bytes)
+    → special ≡ text + prefix_len is_plain (drop text bytes) → (if plain == length value && nat_lt 0 plain then Some Token else
+    if text == length value then Some Quoted else if control == length value then
+    Some (if special == length value then Quoted else Escaped) else None)
     ≡ (if list_all is_quoted_byte value then Some (form_of value) else None)
-form_found {value} same few {plain} token control special =
-    let passed : plain ≤ prefix_len is_token_byte value = omega (arith, rw same at token) in
-    let wider : (b : ℕ) → is_token_byte b ≡ true → (is_quoted_byte b ≡ true) × (is_plain b ≡ true) =
-    λ b is. and_parts (is_quoted_byte b) _ (token_byte_text b is) in
-    let rest = quoted_len (drop plain value) (λ i. rw (get_or-drop plain value i) (few (plain + i))) in
-    let quoted = run_after is_quoted_byte (λ b is. (wider b is).0) value plain passed in
-    let unmarked = run_after is_plain (λ b is. (wider b is).1) value plain passed in
+form_found {value} same few {plain} {text} token goes control special =
+    let passed : text ≤ prefix_len is_quoted_text_byte value = text_after value (rw same at token) (rw same at goes) in
+    let wider : (b : ℕ) → is_quoted_text_byte b ≡ true → (is_quoted_byte b ≡ true) × (is_plain b ≡ true) =
+    λ b is. and_parts (is_quoted_byte b) _ is in
+    let rest = quoted_len (drop text value) (λ i. rw (get_or-drop text value i) (few (text + i))) in
+    let quoted = run_after is_quoted_byte (λ b is. (wider b is).0) value text passed in
+    let unmarked = run_after is_plain (λ b is. (wider b is).1) value text passed in
+    let most = prefix_len-le-length is_quoted_text_byte value in
     grind (
       arith,
       nat_tests,
@@ -171,6 +180,9 @@ form_found {value} same few {plain} token control special =
       rest,
       quoted,
       unmarked,
+      passed,
+      most,
+      whole_run is_quoted_text_byte value,
       token_decides value,
       token_safe value,
       quoted_text value,

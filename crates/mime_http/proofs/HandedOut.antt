@@ -2,10 +2,9 @@
 -- A value is a media type as HTTP writes it if it is so without the white space around it.
 pub use Rattle.mime_http.proofs.Around.{reads_around, white_around}
 -- The content of quoted strings: what is written for a value, and what needs no backslash.
-pub use Rattle.mime_http.proofs.Contents.{content_of_escaped, unescaped_same, unescaped_from, unescaped_is}
--- Lines are cut in one way, and each line is; a search finds the first of two marks.
-pub use Rattle.mime_http.proofs.Cuts.{one_cut, only_cut, mark_found}
-pub use Rattle.mime_http.specs.LineCut.{is_mark}
+pub use Rattle.mime_http.proofs.Contents.{content_of_escaped, unescaped_is}
+-- Lines are cut in one way, and each line is.
+pub use Rattle.mime_http.proofs.Cuts.{one_cut, only_cut}
 -- A header's value that is a media type has no error, and any other has one.
 pub use Rattle.mime_http.proofs.FieldErrors.{no_field_error, one_field_error}
 -- The laws of a header's value: it is one media type, of which one text is printed, which is read as it, also what is written anew.

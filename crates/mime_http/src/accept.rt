@@ -7,8 +7,9 @@ ghost use Rattle.mime_http.specs.{HttpList.trimmed, HttpList.lines_or_any, HttpL
 
 use crate::list::{piece_end, trimmed};
 use crate::offers::{best_of, merit, order_of};
-use crate::value::{FieldError, read_rejected, text_of_piece};
+use crate::value::{FieldError, read_rejected};
 use mime::{Mime, ParseError};
+use mime_search::text_of;
 use std::alloc::{AllocError, Global};
 use std::marker::Model;
 
@@ -139,7 +140,7 @@ impl Reading {
         if entry.is_empty() {
             return Ok(());
         }
-        let Ok(text) = text_of_piece(entry) else {
+        let Ok(text) = text_of(entry) else {
             return self.take_bad(alloc, keeps_bad, entry);
         };
         match Mime::from_str(alloc, text) {

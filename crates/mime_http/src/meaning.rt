@@ -7,7 +7,7 @@ use mime_search::{BLOCK, Class, first_stop};
 
 /// Returns the first byte that a value means and the rest of the value, or `None` if the value means no byte.
 #[inline(always)]
-pub(crate) fn split_first(value: &[u8]) -> Option<(u8, &[u8])>
+fn split_first(value: &[u8]) -> Option<(u8, &[u8])>
     ensures meant { MatchOption result (unescaped value.now ≡ []) (λ first. unescaped value.now ≡ first.0 ∷ unescaped first.1.now) }
     ensures shorter { IfSome result (λ first. length first.1.now < length value.now) }
 {

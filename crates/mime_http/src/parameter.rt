@@ -11,7 +11,7 @@ use crate::range::{after_essence, param_count};
 use crate::reader::token_end_far;
 use mime::laws::{kept_is_safe, one_reading};
 use mime::{KnownText, Mime, name_eq_str};
-use mime_search::{Class, Range, first_stop};
+use mime_search::{Class, Range, TEXT_STOPS, first_stop};
 use std::alloc::{AllocError, Global};
 
 /// The bytes that no quoted string can contain: the ASCII control characters other than the tab.
@@ -61,17 +61,21 @@ fn form_of_content(content: &str) -> Form
 
 /// Returns the form in which a value is written, or `None` if the value has a byte that no quoted string can contain: an ASCII
 /// control character other than the tab.
-#[tactic(auto, using(crate::proofs::Contents::token_written))]
 fn form_of(value: &str) -> Option<Form>
     ensures { result ≡ (if list_all is_quoted_byte value.now then Some (form_of value.now) else None) }
 {
     let bytes = value.as_bytes();
     let plain = token_end_far(bytes, 0);
     if plain == bytes.len() && plain > 0 {
-        Some(Form::Token)
-    } else if first_stop(bytes, plain, &CONTROLS) < bytes.len() {
+        return Some(Form::Token);
+    }
+    // Most other values have only printable ASCII, and no quote or backslash.
+    let text = first_stop(bytes, plain, &TEXT_STOPS);
+    if text == bytes.len() {
+        Some(Form::Quoted)
+    } else if first_stop(bytes, text, &CONTROLS) < bytes.len() {
         None
-    } else if special_from(bytes, plain) < bytes.len() {
+    } else if special_from(bytes, text) < bytes.len() {
         Some(Form::Escaped)
     } else {
         Some(Form::Quoted)

@@ -1,11 +1,10 @@
 //! The content of a quoted string: what it means, and how a value is written.
 
-ghost use Rattle.std.specs.Prelude.{◌≡◌, ◌++◌, ◌≤◌, ◌+◌, ◌&&◌, OnOk, IsOk, is_ok, if◌then◌else◌, length, nat_lt, not, slice_index, take, drop, string_bytes};
+ghost use Rattle.std.specs.Prelude.{◌≡◌, ◌++◌, ◌≤◌, ◌+◌, ◌&&◌, OnOk, IsOk, is_ok, if◌then◌else◌, length, nat_lt, not, slice_index, drop, string_bytes};
 ghost use Rattle.std.specs.{List.prefix_len, Vec.vec_items, Vec.vec_len, Vec.vec_capacity};
 ghost use Rattle.mime_http.specs.{Forms.is_plain, Unescaped.unescaped, Written.escaped};
 
-use crate::meaning::split_first;
-use mime_search::{Class, first_stop};
+use mime_search::{Class, copy_meant, first_stop};
 use std::alloc::AllocError;
 
 /// Appends to a buffer what a parameter's value means: a backslash and the byte after it mean that byte (RFC 9110, 5.6.4). The value `a\"b`
@@ -20,28 +19,9 @@ pub fn unescape(value: &str, buffer: &mut Vec<u8>) -> Result<(), AllocError>
 {
     let start = buffer.len();
     buffer.extend_from_slice(value.as_bytes())?;
-    if let Some(first) = value.find('\\') {
-        let end = unescape_end(buffer, start + first, &value.as_bytes()[first..]);
-        buffer.truncate(end);
-    }
+    let len = copy_meant(&mut buffer[start..], value.as_bytes());
+    buffer.truncate(start + len);
     Ok(())
-}
-
-/// Replaces bytes from `from` on with the bytes that a value means. Returns the position after them.
-fn unescape_end(bytes: &mut [u8], from: usize, value: &[u8]) -> usize
-    requires { from + length value.now ≤ length bytes.old }
-    ensures meant { take result bytes.new ≡ take from bytes.old ++ unescaped value.now }
-    ensures within { result ≤ length bytes.new }
-    ensures long { length bytes.new ≡ length bytes.old }
-{
-    let mut left = value;
-    let mut end = from;
-    while let Some((byte, rest)) = split_first(left) {
-        bytes[end] = byte;
-        end += 1;
-        left = rest;
-    }
-    end
 }
 
 /// The form in which a value is written (RFC 9110, 5.6.4 and 5.6.6).

@@ -1,8 +1,8 @@
 //! Reads the media type of a header's value from bytes.
 
-ghost use Rattle.std.specs.Prelude.{◌≡◌, ◌≢◌, ◌≤◌, codes, length, Some, IfOk, IfErr, IfSome, IsOk, MatchResult};
+ghost use Rattle.std.specs.Prelude.{◌≡◌, ◌≢◌, ◌≤◌, codes, length, Some, IfOk, IfErr, IfSome, IsOk};
 ghost use Rattle.std.specs.Fmt.InlineText.{inline_text};
-ghost use Rattle.std.specs.Str.{IsUtf8, IsValidUpTo, valid_up_to};
+ghost use Rattle.std.specs.Str.{IsUtf8};
 ghost use Rattle.mime.specs.Values.{IsAccepted, MediaType};
 ghost use Rattle.mime.specs.Faults.{Explains};
 ghost use Rattle.mime_http.specs.HttpMediaType.{HttpReads, IsHttpMediaType};
@@ -13,11 +13,11 @@ ghost use Rattle.mime_http.specs.HttpPrinted.{not_utf8_text};
 use crate::list::{is_space, trim_end, trim_start};
 use crate::reader::write_anew;
 use mime::{Mime, ParseError};
+use mime_search::text_of;
 use std::alloc::{AllocError, Global};
 use std::error::Error;
 use std::fmt;
 use std::fmt::{InlineText, Write};
-use std::str::Utf8Error;
 
 /// The reason why a header's value isn't read as a media type. Positions are in bytes, from 0, in the value that was passed.
 #[derive(Clone, Copy, PartialEq, Eq, Debug)]
@@ -88,20 +88,6 @@ impl FieldError {
             _ => value.len(),
         }
     }
-}
-
-/// Converts bytes to a string as `str::from_utf8` does, but faster for ASCII, which most values are.
-#[inline(always)]
-#[tactic(auto, using(crate::proofs::Around::ascii_is_utf8))]
-pub(crate) fn text_of_piece(piece: &[u8]) -> Result<&str, Utf8Error>
-    ensures cases { MatchResult result (λ text. (text.now ≡ piece.now) × IsUtf8 piece.now)
-        (λ error. ¬ (IsUtf8 piece.now) × IsValidUpTo piece.now (valid_up_to error)) }
-{
-    if piece.is_ascii() {
-        // SAFETY: ASCII is UTF-8.
-        return Ok(unsafe { str::from_utf8_unchecked(piece) });
-    }
-    str::from_utf8(piece)
 }
 
 /// Returns a text without the white space around it.
@@ -229,7 +215,7 @@ pub fn content_type(alloc: Global, value: &[u8]) -> Result<Mime, FieldError>
     // Rejecting a value needs no memory.
     ensures rejected { ¬ (IsHttpMediaType value.now) → IfErr result (λ error. error ≢ FieldError.NoMemory) }
 {
-    let text = match text_of_piece(value) {
+    let text = match text_of(value) {
         Ok(text) => text,
         Err(error) => {
             let pos = error.valid_up_to();

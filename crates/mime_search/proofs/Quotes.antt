@@ -1,11 +1,11 @@
 -- The search for the end of quoted content, position by position.
-use Rattle.std.proofs.Common.{⊎_elim, ◌≡◌, ◌≢◌, ℕ, suc, ◌+◌, ◌-◌, ◌/◌, ◌^◌, ◌<◌, ◌≤◌, Bool, true, false, cond, List, [], ◌∷◌, length, length-drop, get_or, map, take, drop, refl, sym, ap, ◌∙◌, arith, ne_eqb}
+use Rattle.std.proofs.Common.{⊎_elim, one-add, ◌≡◌, ◌≢◌, ℕ, suc, ◌+◌, ◌-◌, ◌/◌, ◌^◌, ◌++◌, ◌<◌, ◌≤◌, Bool, true, false, cond, List, [], ◌∷◌, length, length-drop, get_or, map, take, drop, refl, sym, ap, ◌∙◌, arith, ne_eqb}
 use Rattle.std.specs.Prelude.{◌==◌, ◌||◌, not}
 use Rattle.std.specs.{List.prefix_len, Simd.Lanes.mask_l}
-use Rattle.std.proofs.{lemmas.Bool.or_parts, lemmas.Bool.cases_Bool, lemmas.List.drop_more, lemmas.List.drop-drop, lemmas.List.drop-map, lemmas.List.drop-take, lemmas.List.get_or-drop, lemmas.List.Sums.prefix_len_stops}
+use Rattle.std.proofs.{lemmas.Bool.or_parts, lemmas.Bool.cases_Bool, lemmas.Bool.Decides.nat_tests, lemmas.List.drop_more, lemmas.List.drop-drop, lemmas.List.drop-map, lemmas.List.drop-take, lemmas.List.get_or-drop, lemmas.List.Sums.prefix_len_stops}
 use Rattle.mime_search.proofs.Searches.{a_stop, no_stop, stop_within, mask-drop}
 use lib.Count.{count_trailing_zeros}
-use Rattle.mime_search.specs.{Classes.is_stop, Classes.end_of_run, declared.class.Class.Class, Quoted.quote, Quoted.backslash, Quoted.len_from}
+use Rattle.mime_search.specs.{Classes.is_stop, Classes.end_of_run, declared.class.Class.Class, Quoted.quote, Quoted.backslash, Quoted.len_from, Quoted.meant_from}
 
 -- what a position leaves to search for the end of quoted content
 len_from-at : (text : List ℕ) (position : ℕ) → position < length text → len_from false (drop position text)
@@ -119,3 +119,17 @@ module _ (text : List ℕ) (at n found : ℕ) (room : at + n ≤ length text) (f
       ∙ ap mask_l (drop-map is_mark k (take n (drop at text)))
       ∙ ap (λ bytes. mask_l (map is_mark bytes)) (ap (λ m. drop k (take m (drop at text))) (sym all)
       ∙ drop-take k (n - k) (drop at text) ∙ ap (take (n - k)) (drop-drop k at text))
+
+-- ---- what content means
+
+-- The number of bytes before the first stop.
+abbrev pub len_before : (ℕ → Bool) → List ℕ → ℕ
+len_before stops bytes = prefix_len (λ b. not (stops b)) bytes
+
+-- Bytes before the first backslash mean themselves.
+pub meant_before : (stops : ℕ → Bool) → ((b : ℕ) → stops b ≡ (b == backslash || b == backslash)) → (content : List ℕ)
+    → meant_from false content
+    ≡ take (len_before stops content) content ++ meant_from false (drop (len_before stops content) content)
+meant_before stops are [] = refl
+meant_before stops are (b ∷ content) =
+    grind (arith, nat_tests, one-add (len_before stops content), are b, meant_before stops are content)

@@ -1,5 +1,5 @@
--- Private: where quoted content ends.
-use Rattle.std.specs.Prelude.{ℕ, zero, suc, Bool, List, [], ◌∷◌, if◌then◌else◌, ◌==◌, ◌&&◌, not}
+-- Private: where quoted content ends, and what it means.
+use Rattle.std.specs.Prelude.{ℕ, zero, suc, Bool, true, false, List, [], ◌∷◌, if◌then◌else◌, ◌==◌, ◌&&◌, not}
 
 abbrev pub quote : ℕ
 quote = 34
@@ -17,3 +17,8 @@ abbrev pub len_from : Bool → List ℕ → ℕ
 len_from awaiting [] = zero
 len_from awaiting (b ∷ bytes) =
     if not awaiting && b == quote then zero else suc (len_from (awaits_next awaiting b) bytes)
+
+-- the bytes that content means: a backslash and the byte after it mean that byte, and a backslash at the end means nothing
+abbrev pub meant_from : Bool → List ℕ → List ℕ
+meant_from awaiting [] = []
+meant_from awaiting (b ∷ bytes) = if awaits_next awaiting b then meant_from true bytes else b ∷ meant_from false bytes

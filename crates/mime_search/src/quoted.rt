@@ -1,10 +1,11 @@
-//! The end of a quoted string's content.
+//! The end of a quoted string's content, and what content means.
 
-ghost use Rattle.std.specs.Prelude.{◌≡◌, ◌+◌, ◌<◌, ◌≤◌, ◌==◌, ◌||◌, false, length, map, take, drop, slice_index};
+ghost use Rattle.std.specs.Prelude.{◌≡◌, ◌+◌, ◌<◌, ◌≤◌, ◌==◌, ◌||◌, ◌++◌, false, length, map, take, drop, slice_index};
 ghost use Rattle.std.specs.Simd.Lanes.{mask_l};
-ghost use Rattle.mime_search.specs.Quoted.{quote, backslash, len_from};
+ghost use Rattle.mime_search.specs.Quoted.{quote, backslash, len_from, meant_from};
 
 use crate::class::{BLOCK, Class};
+use crate::copy::copy_bytes;
 use crate::search::{first_stop, stops_from};
 
 /// Returns the position after the quoted pair (a backslash and a byte) that begins at `from`. A backslash that ends the
@@ -119,4 +120,31 @@ pub fn content_end(text: &[u8], from: usize) -> usize
         }
     }
     at
+}
+
+/// Writes the bytes that content means to the start of `out`, and returns their number. A backslash and the byte after it
+/// mean that byte. A backslash at the end means nothing.
+#[inline(always)]
+pub fn copy_meant(out: &mut [u8], content: &[u8]) -> usize
+    requires { length content.now ≤ length out.old }
+    ensures bytes { out.new ≡ meant_from false content.now ++ drop result out.old }
+    ensures size { result ≡ length (meant_from false content.now) }
+    ensures within { result ≤ length content.now }
+{
+    // The bytes before the first backslash mean themselves.
+    let mut at = first_stop(content, 0, &Class::of(b'\\', b'\\'));
+    copy_bytes(&mut out[..at], &content[..at]);
+    let mut end = at;
+    while at < content.len() {
+        if content[at] == b'\\' {
+            at += 1;
+            if at == content.len() {
+                return end;
+            }
+        }
+        out[end] = content[at];
+        end += 1;
+        at += 1;
+    }
+    end
 }

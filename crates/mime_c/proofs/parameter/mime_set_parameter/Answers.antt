@@ -1,8 +1,8 @@
 -- Each answer is what it says.
-use Rattle.std.proofs.Common.{rules, is_some, ◌≡◌, ◌∙◌, ℕ, List, [], ◌∷◌, length, refl, ap, sym, subst, arith, ⊎_elim}
-use Rattle.std.proofs.lemmas.Bool.{cases_lt, true≢false}
+use Rattle.std.proofs.Common.{rules, is_some, ◌≡◌, ◌∙◌, ℕ, List, [], ◌∷◌, length, ap, sym, subst, arith}
+use Rattle.std.proofs.lemmas.Bool.{true≢false}
 use Rattle.mime.specs.{Grammar.IsToken, HeaderLaws.AreHeaderBytes, Values.MediaType, Values.Reads}
-use Rattle.mime_c.specs.{Strings.ComeBack, Answers.has_room, Answers.has_no_room, Answers.is_read, Answers.fails, ParameterAnswers.room_with, ParameterAnswers.IsParameter, ParameterAnswers.with_parameter, ParameterAnswers.is_set, ParameterAnswers.isnt_parameter, ParameterAnswers.set_has_no_memory}
+use Rattle.mime_c.specs.{Strings.ComeBack, Answers.has_room, Answers.has_no_room, Answers.is_read, Answers.fails, ParameterAnswers.IsParameter, ParameterAnswers.with_parameter, ParameterAnswers.is_set, ParameterAnswers.isnt_parameter, ParameterAnswers.set_has_no_memory}
 use Rattle.mime_c.proofs.ParameterRoom.{set_fits, set_comes_back}
 use Rattle.mime_c.proofs.parameter.mime_set_parameter.Goals as goal
 
@@ -12,24 +12,22 @@ made_is : (media : MediaType) {made : MediaType} {name value its_name its_value 
 made_is media {made} {name} {value} {its_name} named valued is =
     is ∙ (ap (λ it. with_parameter media it value) named ∙ ap (with_parameter media its_name) valued)
 
-pub returns-then-not-has_room : goal.returns-then-not-has_room
-returns-then-not-has_room c =
-    has_no_room (⊎_elim (λ short. short) (λ room. absurd (true≢false (sym (c.if-not-has_room.ensures.1 room))))
-    (cases_lt (length c.args.out.now) (room_with c.args.text.now c.args.name.now c.args.value.now)))
+pub returns-then-most-out : goal.returns-then-most-out
+returns-then-most-out c = has_no_room (omega (arith, c.if-most-out.true))
 
 pub returns-in-Err : goal.returns-in-Err
-returns-in-Err c = rw c.number_of_error.ensures (has_room _ _ (c.if-not-has_room.ensures.0 refl) (fails _ c.in-Err.ensures.explained))
+returns-in-Err c = rw c.number_of_error.ensures (has_room _ _ (omega (arith, c.if-most-out.false)) (fails _ c.in-Err.ensures.explained))
 
 pub returns-in_default : goal.returns-in_default
 returns-in_default c =
     let http = c.in-Ok.ensures.http in
-    has_room _ _ (c.if-not-has_room.ensures.0 refl) (is_read _ _ _ (http.0, http.1, c.in-Ok.ensures.kept)
+    has_room _ _ (omega (arith, c.if-most-out.false)) (is_read _ _ _ (http.0, http.1, c.in-Ok.ensures.kept)
     (isnt_parameter (λ is. c.in_default.ensures.cases.0 is.name_utf8)))
 
 pub returns-in_default-text_of : goal.returns-in_default-text_of
 returns-in_default-text_of c =
     let http = c.in-Ok.ensures.http in
-    has_room _ _ (c.if-not-has_room.ensures.0 refl) (is_read _ _ _ (http.0, http.1, c.in-Ok.ensures.kept)
+    has_room _ _ (omega (arith, c.if-most-out.false)) (is_read _ _ _ (http.0, http.1, c.in-Ok.ensures.kept)
     (isnt_parameter (λ is. c.in_default-text_of.ensures.cases.0 is.value_utf8)))
 
 pub put_string-requires : goal.put_string-requires
@@ -39,7 +37,7 @@ put_string-requires c =
     let is = made_is c.in-Ok.mime.media c.in-Ok-text_of.ensures.cases.0 c.in-Ok-text_of-2.ensures.cases.0 made in
     let kept = ap (λ (it : MediaType). length it.kept) is in
     let fits = set_fits c.args.text.now c.args.name.now c.args.value.now c.in-Ok.mime.media c.in-Ok.ensures.http.1 in
-    omega (arith, c.if-not-has_room.ensures.0 refl, fits, kept, ap length c.as_str.ensures.text, ap length c.as_bytes.ensures.value)
+    omega (arith, c.if-most-out.false, fits, kept, ap length c.as_str.ensures.text, ap length c.as_bytes.ensures.value)
 
 pub returns-in-Ok-Some : goal.returns-in-Ok-Some
 returns-in-Ok-Some c =
@@ -61,7 +59,7 @@ returns-in-Ok-Some c =
     (λ it. Reads it c.in-Ok-Some.made.media) c.as_str.ensures.text c.as_str.ensures.reads in
     let back = set_comes_back c.in-Ok-Some.made.media reads in
     rw (c.put_string.ensures.bytes, c.put_string.ensures.size, text, is)
-    (has_room _ _ (c.if-not-has_room.ensures.0 refl) (is_read media _ _ (http.0, http.1, c.in-Ok.ensures.kept)
+    (has_room _ _ (omega (arith, c.if-most-out.false)) (is_read media _ _ (http.0, http.1, c.in-Ok.ensures.kept)
     (is_set parameter (subst (λ (it : MediaType). ComeBack (it.kept ∷ [])) is back))))
 
 pub returns-in-Ok-None : goal.returns-in-Ok-None
@@ -69,11 +67,11 @@ returns-in-Ok-None c =
     let http = c.in-Ok.ensures.http in
     let name = c.in-Ok-text_of.ensures.cases in
     let value = c.in-Ok-text_of-2.ensures.cases in
-    has_room _ _ (c.if-not-has_room.ensures.0 refl) (is_read _ _ _ (http.0, http.1, c.in-Ok.ensures.kept) (isnt_parameter (λ is.
+    has_room _ _ (omega (arith, c.if-most-out.false)) (is_read _ _ _ (http.0, http.1, c.in-Ok.ensures.kept) (isnt_parameter (λ is.
     let some = c.in-Ok-None.ensures.exact.1 (subst IsToken (sym name.0) is.named, subst AreHeaderBytes (sym value.0) is.safe) in
     absurd (true≢false (sym some ∙ ap is_some c.in-Ok-None.field-0-is)))))
 
 pub returns : goal.returns
 returns c =
     let http = c.in-Ok.ensures.http in
-    has_room _ _ (c.if-not-has_room.ensures.0 refl) (is_read _ _ _ (http.0, http.1, c.in-Ok.ensures.kept) set_has_no_memory)
+    has_room _ _ (omega (arith, c.if-most-out.false)) (is_read _ _ _ (http.0, http.1, c.in-Ok.ensures.kept) set_has_no_memory)

@@ -13,10 +13,6 @@ returns-in_default-clause-taken c =
     takes_bad _ _ _ _ _ left (λ none. absurd (grind (arith, common_steps, ap length (left ∙ none))))
     (λ both. c.in_default.ensures.cases.0 (rw left (utf8_trimmed c.args.piece.now both.0))) c.take_bad.ensures
 
-pub take_rejected-requires-clause-fault : goal.take_rejected-requires-clause-fault
-take_rejected-requires-clause-fault c =
-    rw c.fault.ensures (rw (c.in-Ok.ensures.cases.0, c.trimmed-entry.ensures) at c.in-Err.ensures.explained)
-
 pub returns-in-Ok-from_str-clause-taken : goal.returns-in-Ok-from_str-clause-taken
 returns-in-Ok-from_str-clause-taken c =
     let piece = c.args.piece.now in
