@@ -1,9 +1,9 @@
 -- The search for the end of quoted content, position by position.
-use Rattle.std.proofs.Common.{⊎_elim, ◌≡◌, ◌≢◌, ℕ, suc, ◌+◌, ◌-◌, ◌/◌, ◌^◌, ◌<◌, ◌≤◌, Bool, true, false, cond, List, [], ◌∷◌, length, length-drop, get_or, map, take, drop, refl, sym, ap, ◌∙◌, arith, ne_eqb}
+use Rattle.std.proofs.Common.{⊎_elim, ◌≡◌, ◌≢◌, ℕ, suc, ◌+◌, ◌<◌, ◌≤◌, Bool, true, false, cond, List, [], ◌∷◌, length, length-drop, get_or, map, take, drop, refl, sym, ap, ◌∙◌, arith}
 use Rattle.std.specs.Prelude.{◌==◌, ◌||◌, not}
 use Rattle.std.specs.{List.prefix_len, Simd.Lanes.mask_l}
-use Rattle.std.proofs.{lemmas.Bool.or_parts, lemmas.Bool.cases_Bool, lemmas.List.drop_more, lemmas.List.drop-drop, lemmas.List.drop-map, lemmas.List.drop-take, lemmas.List.get_or-drop, lemmas.List.Sums.prefix_len_stops}
-use Rattle.mime_search.proofs.Searches.{a_stop, no_stop, stop_within, mask-drop}
+use Rattle.std.proofs.{lemmas.Bool.or_parts, lemmas.Bool.cases_Bool, lemmas.List.drop_more, lemmas.List.drop-drop, lemmas.List.get_or-drop, lemmas.List.Sums.prefix_len_stops}
+use Rattle.mime_search.proofs.Searches.{a_stop, no_stop, stop_within}
 use lib.Count.{count_trailing_zeros}
 use Rattle.mime_search.specs.{Classes.is_stop, Classes.end_of_run, declared.class.Class.Class, Quoted.quote, Quoted.backslash, Quoted.len_from}
 
@@ -11,12 +11,6 @@ use Rattle.mime_search.specs.{Classes.is_stop, Classes.end_of_run, declared.clas
 len_from-at : (text : List ℕ) (position : ℕ) → position < length text → len_from false (drop position text)
     ≡ cond (get_or text position 0 == quote) 0 (suc (len_from (get_or text position 0 == backslash) (drop (position + 1) text)))
 len_from-at text position within = ap (len_from false) (drop_more text position 0 within)
-
--- any byte other than a quote and a backslash is passed
-pub search_past_plain : (text : List ℕ) (position : ℕ) → position < length text → ¬ (get_or text position 0 ≡ quote)
-    → ¬ (get_or text position 0 ≡ backslash) → len_from false (drop position text) ≡ 1 + len_from false (drop (position + 1) text)
-search_past_plain text position within no_quote no_backslash =
-    let at = rw (ne_eqb _ _ no_quote, ne_eqb _ _ no_backslash) at (len_from-at text position within) in omega (arith, at)
 
 -- the bytes up to the first quote or backslash are passed, too
 abbrev pub is_mark : ℕ → Bool
@@ -110,12 +104,3 @@ module _ (text : List ℕ) (at n found : ℕ) (room : at + n ≤ length text) (f
       let stop = at + plain_len (drop at text) in
       sym (search_past_plain_run text (at + n) stop (sym (no_stop is_mark text at n found room (omega (arith, few)) is none)))
       ∙ search_past_plain_run text at stop refl
-
-  -- the bits without the lowest ones are those of the bytes after these
-  pub later_marks : (k : ℕ) → k ≤ n → found / 2 ^ k ≡ mask_l (map is_mark (take (n - k) (drop (at + k) text)))
-  later_marks k within =
-      let all : k + (n - k) ≡ n = omega (arith, within) in
-      ap (λ m. m / 2 ^ k) is ∙ mask-drop k (map is_mark (take n (drop at text)))
-      ∙ ap mask_l (drop-map is_mark k (take n (drop at text)))
-      ∙ ap (λ bytes. mask_l (map is_mark bytes)) (ap (λ m. drop k (take m (drop at text))) (sym all)
-      ∙ drop-take k (n - k) (drop at text) ∙ ap (take (n - k)) (drop-drop k at text))
