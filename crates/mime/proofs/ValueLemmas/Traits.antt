@@ -1,6 +1,6 @@
 -- The order of values, with the laws of `Before` and `Same`, and two iterators that std's `eq` compares.
 use Rattle.std.proofs.{lemmas.Grind.common_steps, lemmas.Map.Lookups.exact_bytes, lemmas.Map.Lookups.exact_pairs, lemmas.Bool.true≢false, lemmas.Bool.Decides.same_from_decides}
-use Rattle.std.proofs.Common.{arith, length, slice_index, take, zero, suc, ℕ, ◌≡◌, ◌<◌, ◌⊎◌, inl, inr, ⊎_elim, Bool, true, false, IsTrue, ◌↔◌, List, [], ◌∷◌, refl, sym, ap, ◌∙◌, subst, true≢false, Option, rules}
+use Rattle.std.proofs.Common.{arith, length, slice_index, take, zero, suc, ℕ, ◌≡◌, ◌<◌, ◌⊎◌, inl, inr, Bool, true, false, IsTrue, ◌↔◌, List, [], ◌∷◌, refl, sym, ap, ◌∙◌, subst, true≢false, Option, rules}
 use Rattle.std.specs.{declared.cmp.Ordering.Ordering, declared.cmp.Ordering.TheVariants.Less, declared.cmp.Ordering.TheVariants.Equal, declared.cmp.Ordering.TheVariants.Greater, Cmp.IsTotalOrder, Cmp.tied_itself, Cmp.nat_cmp_is, Cmp.nat_cmp_total, Cmp.ranked, FinMap.IsAntisymmetric, FinMap.nat_cmp-IsAntisymmetric, Cmp.Lexicographic.slice_cmp, Cmp.Lexicographic.nat_list_cmp_total, Ordering.MatchOrdering, Ordering.nat_cmp, Ordering.ordering_then, Ordering.is_eq, Ordering.is_lt, Ordering.eq_by_cmp, Ordering.ordering_reverse, Iterator.YieldsFirstBy, Iterator.YieldsThen, Iterator.ComparesItemsByEq, List.AllZip}
 use Rattle.mime.specs.{Values.MediaType, Comparison.Same, Comparison.IsListBefore, Comparison.IsTextBefore, Comparison.IsPairBefore, Comparison.Before, Comparison.pair_cmp, Comparison.media_cmp, Laws.OneOf, Inner.OrderLaws.same_from_cmp, Inner.OrderLaws.pair_cmp_total, Inner.OrderLaws.media_cmp_total}
 use Rattle.std.specs.Prelude.{MatchOption, IfSome}
@@ -171,11 +171,3 @@ module _ {A B : Type 0} (seen : A → B) (eq : A → A → Bool) (agrees : (x y 
   -- A comparison of items decides whether the lists are the same.
   pub same_items : (s t : List B) → ComparesItemsByEq Steps (λ x y. y ≡ x) Steps s t eq r → IsTrue r ↔ (s ≡ t)
   same_items s t d = along d.1 d.2 d.3 d.4 s t d.5 d.6 d.8 (subst (λ j. YieldsThen Steps j d.2 d.4 d.6) d.7 d.9) d.10 d.11
-
--- a list without pairs is before one with some
-pub none-first : (xs ys : List (List ℕ × List ℕ)) → (length xs ≡ 0) ⊎ (length ys ≡ 0)
-    → nat_cmp (length xs) (length ys) ≡ slice_cmp pair_cmp xs ys
-none-first [] [] one = refl
-none-first [] (y ∷ ys) one = sym (nat_cmp_is 0 (suc (length ys)) Less (omega arith))
-none-first (x ∷ xs) [] one = sym (nat_cmp_is (suc (length xs)) 0 Greater (omega arith))
-none-first (x ∷ xs) (y ∷ ys) one = ⊎_elim (λ none. absurd (omega (arith, none))) (λ none. absurd (omega (arith, none))) one

@@ -3,7 +3,7 @@ use Rattle.std.proofs.Common.{◌≡◌, ◌-◌, drop, length, length-drop, ref
 use Rattle.std.proofs.lemmas.List.{take_all, drop_all, take_rest}
 use borrow.Rule.Slice.PartMut.{put_mid}
 use Rattle.mime.specs.{Inner.KeptText.with_pairs_lowered, Values.lowered, Inner.ComparedText.IsLoneCharset}
-use Rattle.mime.proofs.{BytesLemmas.boundary_after, ValueLemmas.ListText.lone_charset-text, ValueLemmas.Pairs.cut_before-lies, ValueLemmas.LoweredTo.IsLoweredTo, ValueLemmas.LoweredTo.lowered_to-none, ValueLemmas.LoweredTo.lowered_to-more, ValueLemmas.LoweredTo.lowered_to-all, ValueLemmas.LoweredTo.lowered_to-sizes, ValueLemmas.LoweredTo.low_within}
+use Rattle.mime.proofs.{BytesLemmas.boundary_after, ValueLemmas.ListText.lone_charset-text, ValueLemmas.Pairs.cut_before-lies, ValueLemmas.LoweredTo.IsLoweredTo, ValueLemmas.LoweredTo.lowered_to-none, ValueLemmas.LoweredTo.lowered_to-more, ValueLemmas.LoweredTo.lowered_to-sizes, ValueLemmas.LoweredTo.low_within}
 use Rattle.mime.proofs.value.kept.lowercase_text.Goals as goal
 
 pub of-left-requires : goal.of-left-requires
@@ -57,6 +57,3 @@ overflow_sub-from c = omega (arith, c.len-in-loop-others.ensures, lowered_to-siz
 
 pub loop-others-preserved : goal.loop-others-preserved
 loop-others-preserved c = rw c.len-in-loop-others.ensures (next_turn c)
-
-pub returns : goal.returns
-returns c = lowered_to-all _ _ _ _ _ c.loop-others.invariant c.loop-others-test.false
