@@ -1,4 +1,5 @@
 -- What lowercasing leaves as it is: lengths, cuts, classes of bytes, positions; and lowercasing twice is lowercasing once.
+use Rattle.std.proofs.lemmas.Grind.{common_steps}
 use Rattle.std.proofs.Common.{◌≡◌, ℕ, ◌+◌, Bool, true, false, map, cond, List, [], ◌∷◌, ◌++◌, length, drop, refl, sym, ap, ◌∙◌, arith, rules}
 use Rattle.std.specs.Prelude.{◌==◌, IsTrue}
 use Rattle.std.specs.{Char.to_ascii_lowercase, List.list_all}
@@ -42,8 +43,7 @@ IsToken-lowered bytes = IsToken-case bytes (lowered bytes) (lowered-lowered byte
 -- what holds of a value and of it in lowercase holds of it under any parameter's name
 pub lowered_value-either : (P : List ℕ → Type 0) (name value : List ℕ) → P value → P (lowered value)
     → P (lowered_value name value)
-lowered_value-either P name value same lowercase =
-    elim (is_charset name) as (λ b. P (cond b (lowered value) value)) [ true ↦ lowercase | false ↦ same ]
+lowered_value-either P name value same lowercase = grind (arith, common_steps)
 
 -- a lowercased parameter is well formed
 IsParameter-lowered : (p : Parameter) → IsParameter p → IsParameter (lowered_parameter p)

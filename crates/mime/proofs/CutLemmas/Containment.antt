@@ -1,4 +1,5 @@
 -- A comma ends whatever precedes it, and leaves what follows it as it is.
+use Rattle.std.proofs.lemmas.Grind.{common_steps}
 use Rattle.std.proofs.Common.{◌≡◌, ℕ, suc, ◌≤◌, List, [], ◌∷◌, ◌++◌, length, take, drop, Some, None, refl, sym, ap, ◌∙◌, subst, arith, inl, inr, append_assoc, length-append, rules}
 use Rattle.std.proofs.{Math.Seq.take-append_seam, lemmas.List.take-append-le, lemmas.List.take-append-drop, lemmas.List.take-take, lemmas.Bool.and_parts, lemmas.Bool.cond-false, lemmas.Bool.Decides.nat_tests}
 use Rattle.mime.proofs.{GrammarLemmas.Begun.Begun, GrammarLemmas.Begun.in_type, GrammarLemmas.Begun.grow, GrammarLemmas.Begun.walk, GrammarLemmas.Characters.following-low, GrammarLemmas.Characters.foreign-from_high, GrammarLemmas.Characters.IsForeign, GrammarLemmas.Characters.IsOpen, GrammarLemmas.Characters.grow-foreign, CutLemmas.Cuts.Following, CutLemmas.Cuts.following_of, CutLemmas.Cuts.split-size, CutLemmas.Cuts.split-from_dead, CutLemmas.Cuts.items-from_rejected, CutLemmas.Cuts.split_inv, CutLemmas.Cuts.empty-rejected, CutLemmas.Cuts.empty-cut, CutLemmas.Cuts.has_cut, CutLemmas.Cuts.cut_unique, CutLemmas.Cuts.takes_unique, ValueLemmas.KeptText.kept_is_read, GrammarLemmas.Viability.empty_is_viable, GrammarLemmas.Viability.walk-from_viable, GrammarLemmas.Viability.lacks-from_walk, GrammarLemmas.Viability.accepted_is_viable, GrammarLemmas.Viability.prefix_of_viable_is_viable, GrammarLemmas.Faults.completed_is_rejected}
@@ -15,8 +16,7 @@ one_cut text = let found = has_cut text in (found.items, found.rest, found.cut, 
 -- items that are followed by others
 are_items-append : (items others : List CutItem) → AllByRecursion IsItem items → AllByRecursion IsItem others
     → AllByRecursion IsItem (items ++ others)
-are_items-append [] others are more = more
-are_items-append (item ∷ items) others are more = (are.0, are_items-append items others are.1 more)
+are_items-append items others are more = grind (arith, common_steps)
 
 -- the items of a viable piece
 are_items-of : (piece : List ℕ) (items : List CutItem) → IsViable piece → ItemsOf piece items → AllByRecursion IsItem items

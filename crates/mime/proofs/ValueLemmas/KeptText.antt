@@ -1,4 +1,5 @@
 -- The kept text of an accepted text, and the value of a kept text.
+use Rattle.std.proofs.lemmas.Grind.{common_steps}
 use Rattle.std.proofs.Common.{◌≡◌, ◌≢◌, ℕ, zero, suc, ◌+◌, List, [], ◌∷◌, ◌++◌, length, take, drop, Option, None, Some, refl, sym, ap, ◌∙◌, subst, arith, append-nil, append_assoc, length-append}
 use Rattle.std.specs.Prelude.{slice_get}
 use Rattle.std.proofs.lemmas.List.{take_at, drop_at, take_all, take-append-drop}
@@ -31,8 +32,7 @@ semicolon_split top sub after = simp append_assoc
 
 -- the length of the head
 pub length-before_list : (top sub : List ℕ) → length (text_of (before_list top sub)) ≡ length top + 1 + length sub + 1
-length-before_list top sub =
-    omega (arith, length-append top (slash_byte ∷ (sub ++ (semicolon_byte ∷ []))), length-append sub (semicolon_byte ∷ []))
+length-before_list top sub = grind (arith, common_steps)
 
 -- the head of a text
 take-to_semicolon : (top sub after : List ℕ)

@@ -1,6 +1,6 @@
 -- The pairs cut from the text of a well-formed parameter list are its pairs, and lowercasing them lowercases the list.
 use Rattle.std.proofs.{lemmas.Grind.common_steps, lemmas.Bool.and_parts, lemmas.Bool.cond-true, lemmas.Bool.cond-false, lemmas.Bool.Decides.nat_tests, lemmas.List.take_at, lemmas.List.drop_at, lemmas.List.drop-drop, lemmas.List.take-append-drop}
-use Rattle.std.proofs.Common.{◌≡◌, ℕ, zero, suc, ◌+◌, ◌-◌, Bool, true, false, cond, List, [], ◌∷◌, ◌++◌, length, take, drop, refl, sym, ap, ◌∙◌, subst, arith, append-nil, append_assoc}
+use Rattle.std.proofs.Common.{◌≡◌, ℕ, zero, suc, ◌+◌, ◌-◌, Bool, true, false, List, [], ◌∷◌, ◌++◌, length, take, drop, refl, sym, ap, ◌∙◌, subst, arith, append-nil, append_assoc}
 use Rattle.std.specs.Prelude.{◌==◌}
 use Rattle.std.specs.{List.list_all, List.prefix_len, Char.to_ascii_lowercase}
 use Rattle.mime.specs.{Bytes.is_token_byte, Bytes.semicolon_byte, Bytes.equals_byte, Bytes.quote_byte, Grammar.Parameter, Grammar.plain, Grammar.quoted, Grammar.Parameters, Grammar.blank, Grammar.final, Grammar.more, Grammar.text_of_list, Grammar.text_of_parameter, Grammar.is_space, Grammar.AreSpaces, Grammar.AreTokenBytes, Grammar.IsToken, Grammar.IsContent, Grammar.AreParameters, Grammar.IsParameter, Values.lowered, Values.lowered_value, Values.is_charset, Values.lowered_parameter, Values.lowered_list, Values.pair_of, Values.pairs_of_list, Inner.Quoted.content_len, Inner.Quoted.content_of, Inner.Quoted.after_content, Inner.Pairs.PairCut, Inner.Pairs.cut_after_equals, Inner.Pairs.leading_spaces, Inner.Pairs.without_spaces, Inner.Pairs.cut_of, Inner.Pairs.last_cut, Inner.Pairs.pairs_within, Inner.Pairs.lowered_within, Inner.ComparedText.IsLoneCharset, Inner.KeptText.with_pairs_lowered}
@@ -120,8 +120,7 @@ end_of (quoted name content n) = quote_byte ∷ n
 -- the text of a parameter in its parts
 text_of_parameter-parts : (p : Parameter) (after : List ℕ)
     → text_of_parameter p ++ after ≡ head_of p ++ ((pair_of p).1 ++ (end_of p ++ after))
-text_of_parameter-parts (plain name value) after = simp append_assoc
-text_of_parameter-parts (quoted name content n) after = simp append_assoc
+text_of_parameter-parts p after = grind (arith, common_steps)
 
 -- A value begins at this position, counted from the list's end.
 head_counted : (n name opening after : List ℕ)
@@ -170,8 +169,7 @@ lowered-spaces (b ∷ bytes) white =
 lowered_parameter-parts : (p : Parameter) (after : List ℕ)
     → lowered (head_of p) ++ (lowered_value (pair_of p).0 (pair_of p).1 ++ (end_of p ++ after))
     ≡ text_of_parameter (lowered_parameter p) ++ after
-lowered_parameter-parts (plain name value) after = rw (lowered-append name (equals_byte ∷ [])) (simp append_assoc)
-lowered_parameter-parts (quoted name content n) after = rw (lowered-append name (equals_byte ∷ quote_byte ∷ [])) (simp append_assoc)
+lowered_parameter-parts p after = grind (arith, common_steps)
 
 -- a list lowercased pair by pair: its first parameter, and then the rest
 lowered_within-parameter : (count : ℕ) (n : List ℕ) (p : Parameter) (rest : List ℕ) → AreSpaces n → IsParameter p
@@ -196,12 +194,7 @@ lowered_within-parameter count n p rest white well =
 -- Under any name, lowercasing changes nothing around a value.
 lowered_value-around : (name prefix value back : List ℕ) → lowered prefix ≡ prefix → lowered back ≡ back
     → lowered_value name (prefix ++ (value ++ back)) ≡ prefix ++ (lowered_value name value ++ back)
-lowered_value-around name prefix value back before after =
-    elim (is_charset name) as (λ charset. cond charset (lowered (prefix ++ (value ++ back))) (prefix ++ (value ++ back))
-    ≡ prefix ++ (cond charset (lowered value) value ++ back)) [
-      | true ↦ rw (lowered-append prefix (value ++ back), lowered-append value back, before, after) refl
-      | false ↦ refl
-    ]
+lowered_value-around name prefix value back before after = grind (arith, common_steps)
 
 -- The last pair is lowercased up to the equals sign after its name, and what follows it is under `charset`.
 lowered_last-named : (n name after : List ℕ) → AreSpaces n → IsToken name

@@ -130,10 +130,7 @@ cut_before-lies (suc others) list = cut_value-lies list (before_byte equals_byte
 
 -- the first value and the rest don't overlap within the list
 pub cut-within : (list : List ℕ) (cut : PairCut) → LiesIn list cut → cut.value_start + length cut.value + length cut.rest ≤ length list
-cut-within list cut lies =
-    let size : length list ≡ length lies.prefix + (length cut.value + (length lies.middle + length cut.rest)) =
-    ap length lies.parts ∙ simp length-append in
-    omega (arith, size, lies.value_start)
+cut-within list cut lies = grind (arith, common_steps)
 
 -- all before the rest, and the same with the first pair lowercased
 abbrev before_rest : (list : List ℕ) (cut : PairCut) → LiesIn list cut → List ℕ
@@ -195,22 +192,16 @@ pub cut_of-part : {X : Type 0} (part : PairCut → X) (list name back : List ℕ
     → name ≡ before_byte equals_byte (without_spaces list) → back ≡ after_byte equals_byte (without_spaces list)
     → x ≡ part (cut_after_equals size name back) → x ≡ part (cut_of list)
 unfolding cut_of
-cut_of-part part list name back size x size_is name_is back_is is =
-    is ∙ (λ i. part (cut_after_equals (size_is i) (name_is i) (back_is i)))
+cut_of-part part list name back size x size_is name_is back_is is = grind (arith, common_steps)
 
 -- the cut of a list has the name before its first equals sign
 pub cut_of-name : (list name : List ℕ) → name ≡ before_byte equals_byte (without_spaces list) → name ≡ (cut_of list).name
 unfolding cut_of
-cut_of-name list name is =
-    let after = after_byte equals_byte (without_spaces list) in
-    let named : (cut_after_equals (length list) (before_byte equals_byte (without_spaces list)) after).name
-    ≡ before_byte equals_byte (without_spaces list) = search rules in
-    is ∙ sym named
+cut_of-name list name is = grind (arith, common_steps)
 
 -- if the first name isn't accepted, what is found in a list is what is found in the rest
 pub found-next : (Accepts : List ℕ → Bool → Type 0) (count : ℕ) (list : List ℕ) (found : Option (List ℕ × Bool))
     → count ≢ 0
     → ¬ (Accepts (cut_of list).name true) → IsFirstAccepted Accepts (items_of (pairs_within (count - 1) (cut_of list).rest)) found
     → IsFirstAccepted Accepts (items_of (pairs_within count list)) found
-found-next Accepts count list found some other rest =
-    rw (pairs_within-first count list some) (λ accepted. absurd (other accepted), λ _. rest)
+found-next Accepts count list found some other rest = grind (arith, common_steps)
