@@ -1,9 +1,8 @@
 -- What lowercasing leaves as it is: lengths, cuts, classes of bytes, positions; and lowercasing twice is lowercasing once.
-use Rattle.std.proofs.lemmas.Grind.{common_steps}
 use Rattle.std.proofs.Common.{◌≡◌, ℕ, ◌+◌, Bool, true, false, map, cond, List, [], ◌∷◌, ◌++◌, length, drop, refl, sym, ap, ◌∙◌, arith, rules}
 use Rattle.std.specs.Prelude.{◌==◌, IsTrue}
 use Rattle.std.specs.{Char.to_ascii_lowercase, List.list_all}
-use Rattle.std.proofs.{lemmas.Bool.Decides.nat_tests, lemmas.List.map-append, lemmas.List.length-map, lemmas.List.Folds.list_all-map, lemmas.Str.Ascii.lowercase-lowercase}
+use Rattle.std.proofs.{lemmas.Bool.Decides.nat_tests, lemmas.List.map-append, lemmas.List.length-map, lemmas.List.Folds.list_all-map, lemmas.Str.Ascii.lowercase-lowercase, lemmas.Grind.common_steps}
 use Rattle.mime.specs.{Bytes.is_token_byte, Grammar.Parameter, Grammar.plain, Grammar.quoted, Grammar.Parameters, Grammar.blank, Grammar.final, Grammar.more, Grammar.Tail, Grammar.no_list, Grammar.listed, Grammar.SyntaxTree, Grammar.IsToken, Grammar.IsContent, Grammar.IsParameter, Grammar.AreParameters, Grammar.IsTail, Grammar.IsWellFormed, Values.lowered, Values.is_charset, Values.lowered_value, Values.lowered_parameter, Values.lowered_list, Values.lowered_tail, Values.lowered_tree, Values.last_plus, Values.pair_of, Values.pairs_of_list, Values.pairs_of_tail, Inner.Scanning.positions_of, Inner.Scanning.semicolon_of, Inner.KeptText.IsLowPair, Inner.KeptText.lowered_pair}
 use Rattle.mime.proofs.GrammarLemmas.Content.{IsContent-case}
 pub use Rattle.mime_search.proofs.IgnoringCase.{length-lowered, lowered-drop}

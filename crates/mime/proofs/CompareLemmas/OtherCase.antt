@@ -1,8 +1,7 @@
 -- Texts that are equal ignoring ASCII case are read as trees that are equal ignoring it: one is cut where the other is.
-use Rattle.std.proofs.lemmas.Grind.{common_steps}
 use Rattle.std.proofs.Common.{◌≡◌, ℕ, true, List, [], ◌∷◌, ◌++◌, length, take, drop, map, refl, sym, ap, ◌∙◌, subst, arith}
 use Rattle.std.specs.{Char.to_ascii_lowercase, List.list_all}
-use Rattle.std.proofs.{lemmas.Bool.Decides.nat_tests, lemmas.List.take-append-drop}
+use Rattle.std.proofs.{lemmas.Bool.Decides.nat_tests, lemmas.List.take-append-drop, lemmas.Grind.common_steps}
 use Rattle.mime.specs.{Bytes.slash_byte, Bytes.semicolon_byte, Bytes.equals_byte, Bytes.quote_byte, Grammar.is_space, Grammar.Parameter, Grammar.plain, Grammar.quoted, Grammar.Parameters, Grammar.blank, Grammar.final, Grammar.more, Grammar.Tail, Grammar.no_list, Grammar.listed, Grammar.SyntaxTree, Grammar.text_of, Grammar.text_of_parameter, Grammar.text_of_list, Grammar.text_of_tail, Grammar.AreSpaces, Grammar.IsParameter, Grammar.AreParameters, Grammar.IsTail, Grammar.IsWellFormed, Values.MediaType, Values.Reads, Values.value_of, Values.lowered, Values.lowered_value, Values.lowered_tail, Values.is_charset, Values.pair_of, Values.pairs_of_list, Values.pairs_of_tail, Comparison.Same, Inner.KeptText.AreLowPairs, Inner.KeptText.lowered_pair, Inner.ComparedText.IsLoneCharset}
 use Rattle.mime.proofs.{BytesLemmas.cons_parts, GrammarLemmas.Content.IsContent-case, LowercaseLemmas.lowered-lowered, LowercaseLemmas.lowered_value-either, LowercaseLemmas.low_pair-parts, LowercaseLemmas.list_all-case, LowercaseLemmas.IsToken-case, LowercaseLemmas.pairs_of_tail-lowered, ValueLemmas.Utf8.lowered-parts, ValueLemmas.Utf8.is_no_letter, ValueLemmas.Utf8.stays, ValueLemmas.Parts.read-low_pairs}
 

@@ -1,7 +1,6 @@
 -- A comma ends whatever precedes it, and leaves what follows it as it is.
-use Rattle.std.proofs.lemmas.Grind.{common_steps}
 use Rattle.std.proofs.Common.{◌≡◌, ℕ, suc, ◌≤◌, List, [], ◌∷◌, ◌++◌, length, take, drop, Some, None, refl, sym, ap, ◌∙◌, subst, arith, inl, inr, append_assoc, length-append, rules}
-use Rattle.std.proofs.{Math.Seq.take-append_seam, lemmas.List.take-append-le, lemmas.List.take-append-drop, lemmas.List.take-take, lemmas.Bool.and_parts, lemmas.Bool.cond-false, lemmas.Bool.Decides.nat_tests}
+use Rattle.std.proofs.{Math.Seq.take-append_seam, lemmas.List.take-append-le, lemmas.List.take-append-drop, lemmas.List.take-take, lemmas.Bool.and_parts, lemmas.Bool.cond-false, lemmas.Bool.Decides.nat_tests, lemmas.Grind.common_steps}
 use Rattle.mime.proofs.{GrammarLemmas.Begun.Begun, GrammarLemmas.Begun.in_type, GrammarLemmas.Begun.grow, GrammarLemmas.Begun.walk, GrammarLemmas.Characters.following-low, GrammarLemmas.Characters.foreign-from_high, GrammarLemmas.Characters.IsForeign, GrammarLemmas.Characters.IsOpen, GrammarLemmas.Characters.grow-foreign, CutLemmas.Cuts.Following, CutLemmas.Cuts.following_of, CutLemmas.Cuts.split-size, CutLemmas.Cuts.split-from_dead, CutLemmas.Cuts.items-from_rejected, CutLemmas.Cuts.split_inv, CutLemmas.Cuts.empty-rejected, CutLemmas.Cuts.empty-cut, CutLemmas.Cuts.has_cut, CutLemmas.Cuts.cut_unique, CutLemmas.Cuts.takes_unique, ValueLemmas.KeptText.kept_is_read, GrammarLemmas.Viability.empty_is_viable, GrammarLemmas.Viability.walk-from_viable, GrammarLemmas.Viability.lacks-from_walk, GrammarLemmas.Viability.accepted_is_viable, GrammarLemmas.Viability.prefix_of_viable_is_viable, GrammarLemmas.Faults.completed_is_rejected}
 use Rattle.std.specs.Prelude.{IsTrue, map, MatchOption}
 use Rattle.std.specs.List.{list_all, AllByRecursion}

@@ -1,7 +1,6 @@
 -- Characters: the longest viable prefix ends between two, and what is passed after it is one.
-use Rattle.std.proofs.lemmas.Grind.{common_steps}
 use Rattle.std.proofs.Common.{◌≡◌, ℕ, Bool, false, List, [], ◌∷◌, ◌++◌, Some, None, refl, sym, ◌∙◌, subst, ◌+◌, ◌<◌, ◌≤◌, true, length, get_or, drop, ap, arith, ◌⊎◌, inl, inr, ⊎_elim, length-drop, take, append-nil, length-append, rules}
-use Rattle.std.proofs.{lemmas.Bool.cases_lt, lemmas.Bool.and_parts, lemmas.Bool.Decides.nat_tests, lemmas.List.drop_more, lemmas.Option.none-some, lemmas.Option.same_Some, lemmas.Option.option_and_then_some, lemmas.Option.MatchOption-at_some, lemmas.Str.IsCharBoundary-start, lemmas.Str.IsCharBoundary-end, lemmas.Str.IsCharBoundary-after_ascii, lemmas.Str.IsUtf8-take, lemmas.Str.IsUtf8-drop, lemmas.Str.IsCharBoundary-past_char, lemmas.Str.length-encode, lemmas.Str.len_utf8_bounds, Math.Seq.take-append_seam, Math.Seq.drop-append_seam}
+use Rattle.std.proofs.{lemmas.Bool.cases_lt, lemmas.Bool.and_parts, lemmas.Bool.Decides.nat_tests, lemmas.List.drop_more, lemmas.Option.none-some, lemmas.Option.same_Some, lemmas.Option.option_and_then_some, lemmas.Option.MatchOption-at_some, lemmas.Str.IsCharBoundary-start, lemmas.Str.IsCharBoundary-end, lemmas.Str.IsCharBoundary-after_ascii, lemmas.Str.IsUtf8-take, lemmas.Str.IsUtf8-drop, lemmas.Str.IsCharBoundary-past_char, lemmas.Str.length-encode, lemmas.Str.len_utf8_bounds, Math.Seq.take-append_seam, Math.Seq.drop-append_seam, lemmas.Grind.common_steps}
 use Rattle.std.specs.Prelude.{IsFalse, MatchOption, if◌then◌else◌, ◌==◌, IsTrue, ◌&&◌, ◌||◌, nat_le}
 use Rattle.std.specs.{Option.option_map, Str.IsUtf8, Str.IsCharBoundary, Str.encode_utf8_all, List.list_all, Char.IsScalar, Char.encode_utf8, Char.len_utf8}
 use Rattle.mime.specs.{Bytes.is_token_byte, Bytes.slash_byte, Bytes.semicolon_byte, Bytes.equals_byte, Bytes.quote_byte, Bytes.space_byte, Bytes.tab_byte, Grammar.is_space, Inner.Quoted.continues, Inner.Quoted.awaits_after, Laws.PrefixEndsBetweenCharacters, Cut.is_following_byte, Cut.IsCharacter, CutLaws.PassesOneCharacter}

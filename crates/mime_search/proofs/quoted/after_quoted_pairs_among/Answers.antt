@@ -1,8 +1,7 @@
 -- The lowest bit is the first quote or backslash: the bytes before it are plain, and a backslash is passed with the byte after it.
-use Rattle.std.proofs.Common.{◌≡◌, ◌+◌, ◌-◌, ◌/◌, ◌^◌, map, take, drop, ap, ◌∙◌, arith}
+use Rattle.std.proofs.Common.{◌≡◌, ◌+◌, ◌-◌, ◌/◌, ◌^◌, map, take, drop, ap, ◌∙◌, arith, false}
 use Rattle.std.specs.Simd.Lanes.{mask_l}
 use Rattle.std.proofs.lemmas.Bool.Decides.{nat_tests}
-use Rattle.std.proofs.Common.{false}
 use Rattle.mime_search.specs.Quoted.{len_from}
 use Rattle.std.proofs.lemmas.List.{drop-drop}
 use Rattle.mime_search.proofs.Masks.{later-mask}
