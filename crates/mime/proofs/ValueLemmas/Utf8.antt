@@ -2,7 +2,7 @@
 use Rattle.std.proofs.Common.{◌≡◌, ℕ, ◌<◌, ◌≤◌, Bool, true, List, [], ◌∷◌, ◌++◌, length, take, drop, refl, sym, ap, ◌∙◌, subst, arith, ⊎_elim, rules}
 use Rattle.std.specs.Prelude.{IsUtf8, ◌&&◌, ◌||◌, nat_le, nat_lt}
 use Rattle.std.specs.{Char.to_ascii_lowercase, List.list_all}
-use Rattle.std.proofs.{lemmas.Bool.and_parts, lemmas.Bool.cases_lt, lemmas.Bool.Decides.nat_tests, lemmas.List.take_at, lemmas.List.drop_at, lemmas.List.take-append-drop, lemmas.Str.IsUtf8-nil, lemmas.Str.IsUtf8-append, lemmas.Str.IsUtf8-encode, lemmas.Str.IsUtf8-from_ascii, lemmas.Str.encode_ascii, lemmas.Str.Ascii.IsAscii-cons, lemmas.Str.Ascii.IsAscii-nil}
+use Rattle.std.proofs.{lemmas.Bool.and_parts, lemmas.Bool.cases_lt, lemmas.Bool.Decides.nat_tests, lemmas.Grind.common_steps, lemmas.List.take-append-drop, lemmas.Str.IsUtf8-nil, lemmas.Str.IsUtf8-append, lemmas.Str.IsUtf8-encode, lemmas.Str.IsUtf8-from_ascii, lemmas.Str.encode_ascii, lemmas.Str.Ascii.IsAscii-cons, lemmas.Str.Ascii.IsAscii-nil}
 use Rattle.mime.specs.Values.{lowered}
 use Rattle.mime.proofs.{LowercaseLemmas.lowered-lowered, LowercaseLemmas.lowered-append, BytesLemmas.list_all-wider}
 use Rattle.mime_search.proofs.IgnoringCase.{length-lowered, lowered-take, lowered-drop}
@@ -48,11 +48,7 @@ pub lowered-parts : (prefix back partly : List ℕ) → lowered partly ≡ lower
     → (lowered (take (length prefix) partly) ≡ lowered prefix) × (lowered (drop (length prefix) partly) ≡ lowered back)
 lowered-parts prefix back partly is =
     let n = length prefix in
-    let whole = is ∙ lowered-append prefix back in
-    let size = length-lowered prefix in (
-      lowered-take n partly ∙ ap (take n) whole ∙ take_at (lowered prefix) (lowered back) n size,
-      lowered-drop n partly ∙ ap (drop n) whole ∙ drop_at (lowered prefix) (lowered back) n size,
-    )
+    grind (arith, common_steps, is, lowered-append prefix back, length-lowered prefix, lowered-take n partly, lowered-drop n partly)
 
 -- bytes below the letters and past ASCII are themselves in any case
 abbrev pub is_no_letter : ℕ → Bool
