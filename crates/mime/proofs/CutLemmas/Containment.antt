@@ -165,7 +165,8 @@ pub http_list_is_cut : HttpListIsCut
 unfolding is_token_byte
 http_list_is_cut text elements no_element = empty-cut
 http_list_is_cut text elements (separated b list _ is others) =
-    cut-after_dead b list elements [] (cond-false (is_token_byte b) _ _ (grind (arith, nat_tests, is))) (http_list_is_cut list elements others)
+    cut-after_dead b list elements [] (cond-false (is_token_byte b) _ _ (grind (arith, nat_tests, is)))
+    (http_list_is_cut list elements others)
 http_list_is_cut text elements (one_element _ value reads) = whole text value reads
 http_list_is_cut text elements (more_elements first value list others reads more) =
     comma-cut first list (good first value ∷ []) others [] (accepted_is_viable first (value, reads))

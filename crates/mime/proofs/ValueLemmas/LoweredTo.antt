@@ -37,8 +37,8 @@ lowered_part : (list prefix back : List ℕ) (k : ℕ) → list ≡ prefix ++ ba
 lowered_part list prefix back k parts size = grind (arith, common_steps)
 
 -- a first value ends within a list
-pub low_within : (list value : List ℕ) (cut : PairCut) (start low : ℕ) (charset : Bool) → LiesIn list cut → start ≡ cut.value_start
-    → value ≡ cut.value → low ≡ cond charset (length value) 0 → start + low ≤ length list
+pub low_within : (list value : List ℕ) (cut : PairCut) (start low : ℕ) (charset : Bool) → LiesIn list cut
+    → start ≡ cut.value_start → value ≡ cut.value → low ≡ cond charset (length value) 0 → start + low ≤ length list
 low_within list value cut start low charset lies starts values is = grind (arith, common_steps)
 
 -- a list is lowercased up to its first value, and with it under `charset`
@@ -132,6 +132,6 @@ lowered_to-more bytes left part rest from low count next whole so_far counts low
     }
 
 -- All pairs are lowercased.
-pub lowered_to-all : (bytes left : List ℕ) (from count : ℕ) (whole : List ℕ) → IsLoweredTo bytes left from count whole → count ≡ 0
-    → bytes ≡ whole
+pub lowered_to-all : (bytes left : List ℕ) (from count : ℕ) (whole : List ℕ) → IsLoweredTo bytes left from count whole
+    → count ≡ 0 → bytes ≡ whole
 lowered_to-all bytes left from count whole so_far is = grind (arith, common_steps)

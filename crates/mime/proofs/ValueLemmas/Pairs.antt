@@ -129,7 +129,8 @@ cut_before-lies zero list = last_cut-lies list
 cut_before-lies (suc others) list = cut_value-lies list (before_byte equals_byte (without_spaces list)) _ (ends_after_equals list)
 
 -- the first value and the rest don't overlap within the list
-pub cut-within : (list : List ℕ) (cut : PairCut) → LiesIn list cut → cut.value_start + length cut.value + length cut.rest ≤ length list
+pub cut-within : (list : List ℕ) (cut : PairCut) → LiesIn list cut
+    → cut.value_start + length cut.value + length cut.rest ≤ length list
 cut-within list cut lies = grind (arith, common_steps)
 
 -- all before the rest, and the same with the first pair lowercased
@@ -160,8 +161,8 @@ first_lowered-in_part list cut lies =
     (same lies.middle))
 
 -- the list with its first pairs lowercased: the first, and then the others
-pub lowered_within-first : (count : ℕ) (list : List ℕ) (lies : LiesIn list (cut_before count list)) → let cut = cut_before count list in
-    lowered_within (suc count) list ≡ first_lowered list cut lies ++ lowered_within count cut.rest
+pub lowered_within-first : (count : ℕ) (list : List ℕ) (lies : LiesIn list (cut_before count list))
+    → let cut = cut_before count list in lowered_within (suc count) list ≡ first_lowered list cut lies ++ lowered_within count cut.rest
 lowered_within-first count list lies =
     let cut = cut_before count list in
     let size = length list - length cut.rest in

@@ -160,7 +160,8 @@ same_from_text text other x y reads also is =
 
 -- Kept texts that are the same are kept texts of equal values.
 pub same_from_kept : (text other : List ℕ) (positions places : Positions) (first second : MediaType) → IsKept text positions
-    → IsKept other places → media_of text positions ≡ first → media_of other places ≡ second → text ≡ other → Same first second
+    → IsKept other places → media_of text positions ≡ first → media_of other places ≡ second → text ≡ other
+    → Same first second
 same_from_kept text other positions places first second kept also is there same =
     subst (Same first) there (subst (λ x. Same x (media_of other places)) is
     (same_from_text text other _ _ (reads-from_kept text positions kept) (reads-from_kept other places also) same))

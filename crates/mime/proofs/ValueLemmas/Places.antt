@@ -35,8 +35,8 @@ read-kept text value reads kept some =
       kept = ap (λ at. record (positions_in_kept value) { semicolon = at }) (stays (length value.pairs) some);
     }
   where
-    placed : (top sub : List ℕ) (tail : Tail) (value : MediaType) → value_of_low (record { top = top; sub = sub; tail = tail }) ≡ value
-        → length value.pairs ≢ 0 → positions_of (record { top = top; sub = sub; tail = tail }) ≡ positions_in_kept value
+    placed : (top sub : List ℕ) (tail : Tail) (value : MediaType)
+        → value_of_low (record { top = top; sub = sub; tail = tail }) ≡ value → length value.pairs ≢ 0 → positions_of (record { top = top; sub = sub; tail = tail }) ≡ positions_in_kept value
     placed top sub no_list value is some = absurd (some (sym (ap (λ (v : MediaType). length v.pairs) is)))
     placed top sub (listed list) value is some =
         subst (λ (v : MediaType). positions_of (record { top = top; sub = sub; tail = listed list }) ≡ positions_in_kept v) is
