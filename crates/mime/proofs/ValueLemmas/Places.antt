@@ -12,12 +12,12 @@ plus-not_zero text positions is_kept is =
     absurd (omega (arith, at.above))
 
 -- the positions of a value's parts in its kept text, if it has a parameter
-abbrev positions_in_kept : MediaType → Positions
-positions_in_kept value = record (positions_before_list value) { pair_count = length value.pairs }
+abbrev value_positions : MediaType → Positions
+value_positions value = record (positions_before_list value) { pair_count = length value.pairs }
 
 -- a text that is read as a value with a parameter, and is its kept text, is kept so
 pub read-kept : (text : List ℕ) (value : MediaType) → Reads text value → value.kept ≡ text → length value.pairs ≢ 0
-    → IsKept text (positions_in_kept value)
+    → IsKept text (value_positions value)
 read-kept text value reads kept some =
     let tree = reads.tree in
     let low = lowered_tree tree in
@@ -32,14 +32,15 @@ read-kept text value reads kept some =
       low = one_tree low tree (IsWellFormed-lowered_tree tree reads.well_formed) reads.well_formed
           (whole (pairs_of_tail low.tail) (ap (λ (v : MediaType). length v.pairs) reads.valued)
           (ap (λ (v : MediaType). v.kept) reads.valued) ∙ sym reads.spelled);
-      kept = ap (λ at. record (positions_in_kept value) { semicolon = at }) (stays (length value.pairs) some);
+      kept = ap (λ at. record (value_positions value) { semicolon = at }) (stays_there (length value.pairs) some);
     }
   where
     placed : (top sub : List ℕ) (tail : Tail) (value : MediaType)
-        → value_of_low (record { top = top; sub = sub; tail = tail }) ≡ value → length value.pairs ≢ 0 → positions_of (record { top = top; sub = sub; tail = tail }) ≡ positions_in_kept value
+        → value_of_low (record { top = top; sub = sub; tail = tail }) ≡ value → length value.pairs ≢ 0
+        → positions_of (record { top = top; sub = sub; tail = tail }) ≡ value_positions value
     placed top sub no_list value is some = absurd (some (sym (ap (λ (v : MediaType). length v.pairs) is)))
     placed top sub (listed list) value is some =
-        subst (λ (v : MediaType). positions_of (record { top = top; sub = sub; tail = listed list }) ≡ positions_in_kept v) is
+        subst (λ (v : MediaType). positions_of (record { top = top; sub = sub; tail = listed list }) ≡ value_positions v) is
         (rw (length-essence_of (record { top = top; sub = sub; tail = listed list })) refl)
 
     whole : (pairs : List (List ℕ × List ℕ)) → length pairs ≡ length value.pairs
@@ -47,5 +48,5 @@ read-kept text value reads kept some =
     whole [] none is = absurd (some (sym none))
     whole (pair ∷ pairs) none is = is ∙ kept
 
-    stays : (count : ℕ) → count ≢ 0 → kept_semicolon count (Some (length value.essence)) ≡ Some (length value.essence)
-    stays count above = search rules
+    stays_there : (count : ℕ) → count ≢ 0 → kept_semicolon count (Some (length value.essence)) ≡ Some (length value.essence)
+    stays_there count above = search rules
