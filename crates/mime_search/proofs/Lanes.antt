@@ -1,7 +1,7 @@
 -- The bit mask of a class, lane by lane.
 use Rattle.std.proofs.Common.{rules, ◌≡◌, ℕ, ◌+◌, ◌*◌, ◌-◌, ◌%◌, ◌^◌, suc, Bool, true, false, not, cond, List, [], ◌∷◌, map, length, replicate, refl, ap, ◌∙◌, arith, bit_and}
 use Rattle.std.specs.Prelude.{◌||◌, ◌&&◌, ◌==◌, nat_lt}
-use Rattle.std.proofs.{lemmas.Bool.Decides.nat_tests, lemmas.List.length-map, lemmas.Simd.map-map, lemmas.Simd.zip2_splat, lemmas.Simd.zip2_splat_left, lemmas.Simd.zip2_of_maps, lemmas.Simd.mask_l-mod, Math.Nat.pow-suc, Math.Nat.mul_comm}
+use Rattle.std.proofs.{lemmas.Bool.Decides.nat_tests, lemmas.List.length-map, lemmas.Simd.map-map, lemmas.Simd.zip2_splat, lemmas.Simd.zip2_splat_left, lemmas.Simd.zip2_of_maps, lemmas.Simd.mask_l-mod, Math.Nat.pow-suc, Math.Nat.mul_comm, lemmas.Grind.common_steps}
 use Rattle.std.specs.{Simd.Lanes.mask_l, Simd.Lanes.zip2, Simd.Lanes.top, Int.Bits.bit_or, Int.Bits.or_zero_r}
 use Rattle.mime_search.specs.{Classes.is_outside_range, Classes.is_outside, Classes.outside, Classes.stops, declared.class.Class.Class, declared.class.Range.Range}
 
@@ -40,8 +40,7 @@ range_of_map f range v vs long is =
 
 -- a vector as a map of itself
 same_lanes : (vs : List ℕ) → vs ≡ map (λ b. b) vs
-same_lanes [] = refl
-same_lanes (b ∷ vs) = ap (λ bs. b ∷ bs) (same_lanes vs)
+same_lanes vs = grind (arith, common_steps)
 
 -- the mask of a vector, as it is computed
 pub outside_lanes : (class : Class) (v : List ℕ) → length v ≡ 16 → mask_l (map (top 7) (zip2 bit_and
