@@ -1,5 +1,5 @@
 -- What lowercasing leaves as it is: lengths, cuts, classes of bytes, positions; and lowercasing twice is lowercasing once.
-use Rattle.std.proofs.Common.{◌≡◌, ℕ, ◌+◌, Bool, true, false, map, cond, List, [], ◌∷◌, ◌++◌, length, drop, refl, sym, ap, ◌∙◌, arith, rules}
+use Rattle.std.proofs.Common.{◌≡◌, ℕ, ◌+◌, Bool, true, map, List, [], ◌∷◌, ◌++◌, length, drop, refl, sym, ap, ◌∙◌, arith, rules}
 use Rattle.std.specs.Prelude.{◌==◌, IsTrue}
 use Rattle.std.specs.{Char.to_ascii_lowercase, List.list_all}
 use Rattle.std.proofs.{lemmas.Bool.Decides.nat_tests, lemmas.List.map-append, lemmas.List.length-map, lemmas.List.Folds.list_all-map, lemmas.Str.Ascii.lowercase-lowercase, lemmas.Grind.common_steps}
@@ -69,10 +69,7 @@ IsWellFormed-lowered_tree tree well = (
 
 -- a kept value is its own lowercased form
 pub lowered_value-lowered : (name value : List ℕ) → lowered_value (lowered name) (lowered_value name value) ≡ lowered_value name value
-lowered_value-lowered name value =
-    rw (lowered-lowered name) (elim (is_charset name) as
-    (λ b. cond b (lowered (cond b (lowered value) value)) (cond b (lowered value) value) ≡ cond b (lowered value) value)
-    [ true ↦ lowered-lowered value | false ↦ refl ])
+lowered_value-lowered name value = search (lowered-lowered, rules)
 
 -- the parts of a pair that is its own lowercased form
 pub low_pair-parts : (name value : List ℕ) → IsLowPair (name, value)
@@ -92,10 +89,7 @@ lowered_list-lowered (more n p rest) = cc (lowered_parameter-lowered p, lowered_
 
 -- a lowercased tree is its own lowercased form
 pub lowered_tree-lowered_tree : (tree : SyntaxTree) → lowered_tree (lowered_tree tree) ≡ lowered_tree tree
-lowered_tree-lowered_tree tree =
-    let tail = elim tree.tail as (λ tail. lowered_tail (lowered_tail tail) ≡ lowered_tail tail)
-    [ no_list ↦ refl | listed list ↦ ap listed (lowered_list-lowered list) ] in
-    cc (lowered-lowered tree.top, lowered-lowered tree.sub, tail)
+lowered_tree-lowered_tree tree = search (lowered-lowered, lowered_list-lowered, rules)
 
 -- lowercasing keeps the position of the last plus
 pub last_plus-lowered : (at : ℕ) (bytes : List ℕ) → last_plus at (lowered bytes) ≡ last_plus at bytes

@@ -1,6 +1,6 @@
 -- A text lowercased from its start on, range by range and pair by pair.
 use Rattle.std.proofs.{lemmas.Grind.common_steps, lemmas.List.take_at, lemmas.List.drop_at, lemmas.List.drop-drop, lemmas.List.drop_all, lemmas.List.take-append-drop, lemmas.List.take_rest, lemmas.List.length-take-le, lemmas.List.take-take, Math.Seq.take-add}
-use Rattle.std.proofs.Common.{◌≡◌, ℕ, suc, ◌+◌, ◌-◌, ◌<◌, ◌≤◌, Bool, true, false, cond, List, [], ◌++◌, length, drop, refl, sym, ap, ◌∙◌, arith, append-nil, append_assoc, length-append, take, slice_range, length-drop}
+use Rattle.std.proofs.Common.{◌≡◌, ℕ, suc, ◌+◌, ◌-◌, ◌<◌, ◌≤◌, Bool, true, false, cond, List, [], ◌++◌, length, drop, refl, sym, ap, ◌∙◌, arith, append-nil, append_assoc, length-append, take, slice_range, length-drop, rules}
 use Rattle.mime.specs.{Values.lowered, Values.is_charset, Inner.KeptText.with_pairs_lowered, Inner.Pairs.PairCut, Inner.Pairs.cut_before, Inner.Pairs.lowered_within}
 use Rattle.mime.proofs.{ValueLemmas.Pairs.lowered_within-first, ValueLemmas.Pairs.LiesIn, ValueLemmas.Pairs.cut_before-lies, ValueLemmas.Pairs.first_lowered, LowercaseLemmas.lowered-append, LowercaseLemmas.lowered-lowered}
 use Rattle.mime_search.proofs.IgnoringCase.{length-lowered, lowered-take, lowered-drop}
@@ -69,16 +69,7 @@ pub record IsLoweredTo (bytes left : List ℕ) (from count : ℕ) (whole : List 
 -- nothing is done
 pub lowered_to-none : (bytes text list : List ℕ) (semicolon left count : ℕ) → bytes ≡ text → list ≡ drop (semicolon + 1) text
     → left ≡ count → 0 < count → IsLoweredTo bytes list 0 left (with_pairs_lowered count semicolon text)
-lowered_to-none bytes text list semicolon left count same end counts some =
-    let from = semicolon + 1 in
-    record {
-      done = [];
-      between = take from text;
-      parts = same ∙ sym (take-append-drop from text) ∙ ap (λ x. take from text ++ x) (sym end);
-      at = refl;
-      comes = (λ i. lowered (take from text) ++ lowered_within (counts i) (end i));
-      none = λ is. absurd (omega (arith, is, counts, some));
-    }
+lowered_to-none bytes text list semicolon left count same end counts some = search (take-append-drop, rules)
 
 -- the sizes of these parts
 pub lowered_to-sizes : (bytes left : List ℕ) (from count : ℕ) (whole : List ℕ) (so_far : IsLoweredTo bytes left from count whole)

@@ -155,10 +155,7 @@ lowered_first-joined list cut lies =
 -- only capitals are made small
 first_lowered-in_part : (list : List ℕ) (cut : PairCut) (lies : LiesIn list cut)
     → IsLoweredInPart (before_rest list cut lies) (first_lowered list cut lies)
-first_lowered-in_part list cut lies =
-    in_parts _ _ _ _ (lowercase lies.prefix)
-    (in_parts _ _ _ _ (lowered_value-either (IsLoweredInPart cut.value) cut.name cut.value (same cut.value) (lowercase cut.value))
-    (same lies.middle))
+first_lowered-in_part list cut lies = search (lowered_value-either, same, lowercase, in_parts, rules)
 
 -- the list with its first pairs lowercased: the first, and then the others
 pub lowered_within-first : (count : ℕ) (list : List ℕ) (lies : LiesIn list (cut_before count list))

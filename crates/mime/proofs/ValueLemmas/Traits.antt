@@ -2,7 +2,7 @@
 use Rattle.std.proofs.{lemmas.Grind.common_steps, lemmas.Map.Lookups.exact_bytes, lemmas.Map.Lookups.exact_pairs, lemmas.Bool.true≢false, lemmas.Bool.Decides.same_from_decides}
 use Rattle.std.proofs.Common.{arith, length, slice_index, take, zero, suc, ℕ, ◌≡◌, ◌<◌, ◌⊎◌, inl, inr, Bool, true, false, IsTrue, ◌↔◌, List, [], ◌∷◌, refl, sym, ap, ◌∙◌, subst, true≢false, Option, rules}
 use Rattle.std.specs.{declared.cmp.Ordering.Ordering, declared.cmp.Ordering.TheVariants.Less, declared.cmp.Ordering.TheVariants.Equal, declared.cmp.Ordering.TheVariants.Greater, Cmp.IsTotalOrder, Cmp.tied_itself, Cmp.nat_cmp_total, FinMap.IsAntisymmetric, FinMap.nat_cmp-IsAntisymmetric, Cmp.Lexicographic.slice_cmp, Cmp.Lexicographic.nat_list_cmp_total, Ordering.MatchOrdering, Ordering.nat_cmp, Ordering.ordering_then, Ordering.is_eq, Ordering.is_lt, Ordering.eq_by_cmp, Ordering.ordering_reverse, Iterator.YieldsFirstBy, Iterator.YieldsThen, Iterator.ComparesItemsByEq, List.AllZip}
-use Rattle.mime.specs.{Values.MediaType, Comparison.Same, Comparison.IsListBefore, Comparison.IsTextBefore, Comparison.IsPairBefore, Comparison.Before, Comparison.pair_cmp, Comparison.media_cmp, Laws.OneOf, Inner.OrderLaws.same_from_cmp, Inner.OrderLaws.pair_cmp_total, Inner.OrderLaws.media_cmp_total}
+use Rattle.mime.specs.{Values.MediaType, Comparison.Same, Comparison.IsListBefore, Comparison.IsTextBefore, Comparison.IsPairBefore, Comparison.Before, Comparison.pair_cmp, Comparison.media_cmp, Laws.OneOf, Inner.OrderLaws.same_from_cmp, Inner.OrderLaws.media_cmp_total}
 use Rattle.std.specs.Prelude.{MatchOption, IfSome}
 use Rattle.mime.proofs.BytesLemmas.{cons_parts}
 use Rattle.mime_search.specs.Differences.{DifferAt}
@@ -46,16 +46,11 @@ exact_texts = exact nat_list_cmp_total exact_bytes
 
 -- The order of pairs finds which pair is before.
 finds_pairs : Finds pair_cmp IsPairBefore
-finds_pairs x y =
-    finds_then x.0 y.0 _ _ (slice_cmp nat_cmp x.0 y.0) (slice_cmp nat_cmp x.1 y.1) (finds_texts x.0 y.0) (exact_texts x.0 y.0)
-    (finds_texts x.1 y.1)
+finds_pairs x y = search (finds_then, finds_texts, exact_texts, rules)
 
 -- The order of media types finds which is before.
 finds_media : (x y : MediaType) → (media_cmp x y ≡ Less) ↔ Before x y
-finds_media x y =
-    finds_then x.essence y.essence _ _ (slice_cmp nat_cmp x.essence y.essence) (slice_cmp pair_cmp x.pairs y.pairs)
-    (finds_texts x.essence y.essence) (exact_texts x.essence y.essence)
-    (finds_lists pair_cmp IsPairBefore finds_pairs (exact pair_cmp_total (exact_pairs _ _ exact_bytes exact_bytes)) x.pairs y.pairs)
+finds_media x y = search (exact, finds_then, finds_lists, finds_texts, exact_texts, finds_pairs, exact_bytes, exact_pairs, rules)
 
 -- what the order of values says: the first is before the second, they are equal, or the second is before the first
 pub tells_media : (x y : MediaType) → MatchOrdering (media_cmp x y) (Before x y) (Same x y) (Before y x)
@@ -136,10 +131,7 @@ differ_in_beginnings text other n m at within also differ = grind (arith, common
 -- values whose essences differ are ordered by the bytes at which these first differ
 pub ordered_by_essence : (x y : MediaType) (at : ℕ) → at < length x.essence → at < length y.essence
     → DifferAt x.essence y.essence 0 at → media_cmp x y ≡ nat_cmp (slice_index x.essence at) (slice_index y.essence at)
-ordered_by_essence x y at within also differ =
-    let essences = ordered_by_difference x.essence y.essence at within also differ in
-    decided (slice_cmp nat_cmp x.essence y.essence) _
-    (λ same. differ.differ ((exact nat_cmp_total nat_cmp-IsAntisymmetric _ _).0 (sym essences ∙ same))) ∙ essences
+ordered_by_essence x y at within also differ = search (exact, decided, ordered_by_difference, rules)
 
 module _ {A B : Type 0} (seen : A → B) (eq : A → A → Bool) (agrees : (x y : A)
     → IsTrue (eq x y) ↔ (seen x ≡ seen y)) (r : Bool) where

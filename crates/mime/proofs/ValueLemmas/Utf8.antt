@@ -46,9 +46,7 @@ low-in_part text partly (in_parts prefix back low_prefix low_back first second) 
 -- the lowercased forms of a prefix and of what follows it, taken from the lowercased form of the whole
 pub lowered-parts : (prefix back partly : List ℕ) → lowered partly ≡ lowered (prefix ++ back)
     → (lowered (take (length prefix) partly) ≡ lowered prefix) × (lowered (drop (length prefix) partly) ≡ lowered back)
-lowered-parts prefix back partly is =
-    let n = length prefix in
-    grind (arith, common_steps, is, lowered-append prefix back, length-lowered prefix, lowered-take n partly, lowered-drop n partly)
+lowered-parts prefix back partly is = search (common_steps, lowered-append, length-lowered, lowered-take, lowered-drop, rules)
 
 -- bytes below the letters and past ASCII are themselves in any case
 abbrev pub is_no_letter : ℕ → Bool
