@@ -121,8 +121,3 @@ lowered_to-more bytes left part rest from low count next whole so_far counts low
           ∙ ap (λ m. lowered_within m left) (sym counts))) ∙ so_far.comes;
       none = λ _. refl;
     }
-
--- All pairs are lowercased.
-pub lowered_to-all : (bytes left : List ℕ) (from count : ℕ) (whole : List ℕ) → IsLoweredTo bytes left from count whole
-    → count ≡ 0 → bytes ≡ whole
-lowered_to-all bytes left from count whole so_far is = grind (arith, common_steps)

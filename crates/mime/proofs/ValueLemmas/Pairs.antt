@@ -128,11 +128,6 @@ unfolding cut_of
 cut_before-lies zero list = last_cut-lies list
 cut_before-lies (suc others) list = cut_value-lies list (before_byte equals_byte (without_spaces list)) _ (ends_after_equals list)
 
--- the first value and the rest don't overlap within the list
-pub cut-within : (list : List ℕ) (cut : PairCut) → LiesIn list cut
-    → cut.value_start + length cut.value + length cut.rest ≤ length list
-cut-within list cut lies = grind (arith, common_steps)
-
 -- all before the rest, and the same with the first pair lowercased
 abbrev before_rest : (list : List ℕ) (cut : PairCut) → LiesIn list cut → List ℕ
 before_rest list cut lies = lies.prefix ++ (cut.value ++ lies.middle)
