@@ -7,8 +7,8 @@ pub use Rattle.mime.proofs.StopsLemmas.{in_ranges}
 -- Lowercase: it is idempotent, and keeps the length, a class that case doesn't matter to, and what a parameter's value is read as.
 pub use Rattle.mime.proofs.LowercaseLemmas.{lowered-lowered, list_all-lowered, IsToken-lowered, lowered_value-either, lowered_value-lowered, pairs_of_tail-lowered}
 pub use Rattle.mime_search.proofs.IgnoringCase.{length-lowered}
--- The walk over a text that may still become a media type: its steps, which begun tree it leads to, how quoted content goes on there, and how
--- joined lists are grouped.
+-- The walk over a text that may still become a media type: its steps, which begun tree it leads to, how quoted content goes on
+-- there, and how joined lists are grouped.
 pub use Rattle.mime.proofs.GrammarLemmas.Begun.{Closed as ClosedParameters, Begun, in_type, in_subtype, in_list, ListState, in_spaces, in_name, in_value, in_quotes, after_quotes, grow_state, grow_list, list_at, grow, walk, walk_from, tree_of, BegunList, walk_by-append, walk_by-append_some, with_closed}
 pub use Rattle.mime.proofs.GrammarLemmas.Spelling.{by_class, spelled-from_walk, IsBegun, IsState, regroup, walk_from-lengthens}
 pub use Rattle.mime.proofs.GrammarLemmas.Content.{IsContent-closed, IsContent-taken, IsOpenContent-push, awaits_after-append, closed-letter, content-awaits, content-closed, content-taken, takes_all-any}

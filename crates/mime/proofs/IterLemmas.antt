@@ -1,8 +1,8 @@
 -- One call of a `MimeIter`: pieces are read up to the first that is an item, which is yielded.
-use Rattle.std.proofs.Common.{◌≡◌, ℕ, ◌≤◌, true, false, List, [], length, Option, Some, None, Result, Ok, Err, refl, sym, ap, ◌∙◌, subst, arith, Bor, ◌∷◌, ◌++◌, map}
+use Rattle.std.proofs.Common.{◌≡◌, ℕ, ◌≤◌, true, false, List, [], length, Option, Some, None, Result, Ok, Err, refl, sym, ap, subst, arith, Bor, ◌∷◌, rules}
 use Rattle.std.specs.Prelude.{codes}
 use Rattle.std.proofs.{lemmas.Bool.true≢false, lemmas.Option.none-some}
-use Rattle.mime.specs.{Values.OwnedMedia, Values.Reads, Cut.TakesSteps, Cut.Cut, Cut.CutItem, Cut.good, Runs.Iteration, Runs.GivesItem, Runs.IsNext, Inner.BetweenCalls.IsUnderWay, Inner.BetweenCalls.PassesOn, Inner.BetweenCalls.IsFound, declared.iter.Bad.Bad, declared.iter.Bad.TheVariants.Piece, declared.iter.Bad.TheVariants.NoMemory, declared.iter.MimeIter.TheInside.Inside, declared.scan.Positions.Positions, Faults.Explains, CutLaws.items_of_rest, CutLaws.kept_item, CutLaws.AreGiven, CutLaws.none_left, CutLaws.a_value, CutLaws.a_piece, CutLaws.no_memory, CutLaws.RunGivesCut, CutLaws.PrintedListComesBack, CutLaws.CommaContainsOnRuns}
+use Rattle.mime.specs.{Values.OwnedMedia, Values.Reads, Cut.TakesSteps, Cut.Cut, Cut.CutItem, Cut.good, Runs.Iteration, Runs.GivesItem, Runs.IsNext, Inner.BetweenCalls.IsUnderWay, Inner.BetweenCalls.PassesOn, Inner.BetweenCalls.IsFound, declared.iter.Bad.Bad, declared.iter.Bad.TheVariants.Piece, declared.iter.Bad.TheVariants.NoMemory, declared.iter.MimeIter.TheInside.Inside, declared.scan.Positions.Positions, Faults.Explains, CutLaws.AreGiven, CutLaws.none_left, CutLaws.a_value, CutLaws.a_piece, CutLaws.no_memory, CutLaws.RunGivesCut, CutLaws.PrintedListComesBack, CutLaws.CommaContainsOnRuns}
 use Rattle.mime.proofs.{CutLemmas.Cuts.empty-cut, CutLemmas.Cuts.takes-viable, CutLemmas.Cuts.has_cut, CutLemmas.Cuts.cut_unique, GrammarLemmas.Viability.empty_is_viable, CutLemmas.Containment.comma_contains, CutLemmas.Containment.joined_comes_back}
 use Rattle.mime.specs.declared.scan.fault.ParseError.TheVariants as error
 use Rattle.std.specs.Iterator.{Drains}
@@ -30,14 +30,7 @@ seen i = record { text = i.text.now; left = i.left.now; out_of_memory = i.out_of
 
 -- the search begins
 pub looking-first : (old : Iteration) → IsLooking old old
-looking-first old = record {
-  passed = record { carries = λ some items rest cut. cut; ends = λ end. ([], subst (λ t. Cut t [] []) (sym end) empty-cut) };
-  out_of_memory = refl;
-  text = refl;
-  still = λ ended. refl;
-  less = omega arith;
-  more = omega arith;
-}
+looking-first old = search (empty-cut, rules)
 
 -- ---- a whole call
 
@@ -49,27 +42,13 @@ sound-exact i sound ended fed =
 
 -- a call returns `None`
 pub next-none : (old new : Iteration) → IsFound old None new → IsNext old None new
-next-none old new found = record {
-  item = (found.gives.0, found.gives.1, found.out_of_memory);
-  text = found.text;
-  more = found.more;
-  few = omega (arith, found.sound.few);
-  exact = sound-exact new found.sound;
-  stays = λ ended. (refl, (found.still ended).1);
-}
+next-none old new found = search (sound-exact, rules)
 
 -- a call returns the item of the piece that was found
 next-some : (old now new : Iteration) (piece : Bor (List ℕ) × Option Positions) (given : Result OwnedMedia Bad)
     → IsFound old (Some piece) now
     → IsSound new → new.text ≡ now.text → new.steps ≡ now.steps → GivesItem old (Some given) new → IsNext old (Some given) new
-next-some old now new piece given found sound text steps item = record {
-  item = item;
-  text = text ∙ found.text;
-  more = omega (arith, found.more, steps);
-  few = omega (arith, sound.few);
-  exact = sound-exact new sound;
-  stays = λ ended. absurd (none-some piece (sym (found.still ended).0));
-}
+next-some old now new piece given found sound text steps item = search (sound-exact, none-some, rules)
 
 -- a call returns a bad piece
 pub next-bad : (old new : Iteration) (piece : Bor (List ℕ)) → IsFound old (Some (piece, None)) new
@@ -138,12 +117,8 @@ run_gives_cut first given drains items rest cut =
 -- a run over a text with a comma yields the items before it, the rest, and the items after it
 pub comma_contains_on_runs : CommaContainsOnRuns
 comma_contains_on_runs before after items others rest end cut closed follows first given is drains =
-    run_gives_cut first given drains (items ++ (items_of_rest rest ++ others)) end
-    (subst (λ t. Cut t (items ++ (items_of_rest rest ++ others)) end) (sym is)
-    (comma_contains before after items others rest end cut closed follows))
+    search (run_gives_cut, comma_contains, rules)
 
 -- A printed list yields its values again.
 pub printed_list_comes_back : PrintedListComesBack
-printed_list_comes_back values are first given is drains =
-    run_gives_cut first given drains (map kept_item values) []
-    (subst (λ t. Cut t (map kept_item values) []) (sym is) (joined_comes_back values are))
+printed_list_comes_back values are first given is drains = search (run_gives_cut, joined_comes_back, rules)

@@ -1,8 +1,8 @@
 -- What lowercasing leaves as it is: lengths, cuts, classes of bytes, positions; and lowercasing twice is lowercasing once.
-use Rattle.std.proofs.Common.{◌≡◌, ℕ, ◌+◌, Bool, true, false, map, cond, List, [], ◌∷◌, ◌++◌, length, drop, refl, sym, ap, ◌∙◌, arith, rules}
+use Rattle.std.proofs.Common.{◌≡◌, ℕ, ◌+◌, Bool, true, map, List, [], ◌∷◌, ◌++◌, length, drop, refl, sym, ap, ◌∙◌, arith, rules}
 use Rattle.std.specs.Prelude.{◌==◌, IsTrue}
 use Rattle.std.specs.{Char.to_ascii_lowercase, List.list_all}
-use Rattle.std.proofs.{lemmas.Bool.Decides.nat_tests, lemmas.List.map-append, lemmas.List.length-map, lemmas.List.Folds.list_all-map, lemmas.Str.Ascii.lowercase-lowercase}
+use Rattle.std.proofs.{lemmas.Bool.Decides.nat_tests, lemmas.List.map-append, lemmas.List.length-map, lemmas.List.Folds.list_all-map, lemmas.Str.Ascii.lowercase-lowercase, lemmas.Grind.common_steps}
 use Rattle.mime.specs.{Bytes.is_token_byte, Grammar.Parameter, Grammar.plain, Grammar.quoted, Grammar.Parameters, Grammar.blank, Grammar.final, Grammar.more, Grammar.Tail, Grammar.no_list, Grammar.listed, Grammar.SyntaxTree, Grammar.IsToken, Grammar.IsContent, Grammar.IsParameter, Grammar.AreParameters, Grammar.IsTail, Grammar.IsWellFormed, Values.lowered, Values.is_charset, Values.lowered_value, Values.lowered_parameter, Values.lowered_list, Values.lowered_tail, Values.lowered_tree, Values.last_plus, Values.pair_of, Values.pairs_of_list, Values.pairs_of_tail, Inner.Scanning.positions_of, Inner.Scanning.semicolon_of, Inner.KeptText.IsLowPair, Inner.KeptText.lowered_pair}
 use Rattle.mime.proofs.GrammarLemmas.Content.{IsContent-case}
 pub use Rattle.mime_search.proofs.IgnoringCase.{length-lowered, lowered-drop}
@@ -42,8 +42,7 @@ IsToken-lowered bytes = IsToken-case bytes (lowered bytes) (lowered-lowered byte
 -- what holds of a value and of it in lowercase holds of it under any parameter's name
 pub lowered_value-either : (P : List ℕ → Type 0) (name value : List ℕ) → P value → P (lowered value)
     → P (lowered_value name value)
-lowered_value-either P name value same lowercase =
-    elim (is_charset name) as (λ b. P (cond b (lowered value) value)) [ true ↦ lowercase | false ↦ same ]
+lowered_value-either P name value same lowercase = grind (arith, common_steps)
 
 -- a lowercased parameter is well formed
 IsParameter-lowered : (p : Parameter) → IsParameter p → IsParameter (lowered_parameter p)
@@ -70,10 +69,7 @@ IsWellFormed-lowered_tree tree well = (
 
 -- a kept value is its own lowercased form
 pub lowered_value-lowered : (name value : List ℕ) → lowered_value (lowered name) (lowered_value name value) ≡ lowered_value name value
-lowered_value-lowered name value =
-    rw (lowered-lowered name) (elim (is_charset name) as
-    (λ b. cond b (lowered (cond b (lowered value) value)) (cond b (lowered value) value) ≡ cond b (lowered value) value)
-    [ true ↦ lowered-lowered value | false ↦ refl ])
+lowered_value-lowered name value = search (lowered-lowered, rules)
 
 -- the parts of a pair that is its own lowercased form
 pub low_pair-parts : (name value : List ℕ) → IsLowPair (name, value)
@@ -93,10 +89,7 @@ lowered_list-lowered (more n p rest) = cc (lowered_parameter-lowered p, lowered_
 
 -- a lowercased tree is its own lowercased form
 pub lowered_tree-lowered_tree : (tree : SyntaxTree) → lowered_tree (lowered_tree tree) ≡ lowered_tree tree
-lowered_tree-lowered_tree tree =
-    let tail = elim tree.tail as (λ tail. lowered_tail (lowered_tail tail) ≡ lowered_tail tail)
-    [ no_list ↦ refl | listed list ↦ ap listed (lowered_list-lowered list) ] in
-    cc (lowered-lowered tree.top, lowered-lowered tree.sub, tail)
+lowered_tree-lowered_tree tree = search (lowered-lowered, lowered_list-lowered, rules)
 
 -- lowercasing keeps the position of the last plus
 pub last_plus-lowered : (at : ℕ) (bytes : List ℕ) → last_plus at (lowered bytes) ≡ last_plus at bytes

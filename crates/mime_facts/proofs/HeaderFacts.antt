@@ -2,7 +2,6 @@
 -- it is false, and what each law says of a text.
 use Rattle.std.proofs.Common.{◌≡◌, ℕ, Bool, true, false, ◌⊎◌, inl, inr, List, [], ◌∷◌, ◌++◌, map, Option, Some, None, refl, sym, codes}
 use Rattle.std.proofs.lemmas.Bool.{false≢true}
-use Rattle.std.specs.List.{list_any}
 use Rattle.mime.specs.{Bytes.is_token_byte, Bytes.is_quoted_byte, Grammar.IsContent, Values.MediaType, Values.Reads, Values.IsAccepted, Values.IsRejected, Values.type_of, Values.subtype_of, Items.IsFirstAccepted, Laws.AcceptedOrRejected, Laws.suffix_text, Laws.EssenceIsParts, Laws.HaveSameParts, Laws.SameEssence, Laws.IsDecided, Laws.HasAnswer, HeaderLaws.AreHeaderBytes, HeaderLaws.IsSafePair, HeaderLaws.IsSafe, HeaderLaws.KeptIsSafe, HeaderLaws.text_with_parameter, HeaderLaws.with_parameter, HeaderLaws.ParameterIsRead, Cut.good, Cut.Cut, Cut.whole, CutLaws.is_separator, CutLaws.IsHttpList, CutLaws.no_element, CutLaws.separated, CutLaws.one_element, CutLaws.more_elements, CutLaws.HttpListIsCut}
 use Rattle.mime.proofs.{CutLemmas.Containment.http_list_is_cut, CutLemmas.Cuts.cut_unique, GrammarLemmas.Content.IsContent-taken, GrammarLemmas.Content.content-taken}
 use Rattle.mime_facts.proofs.{ComparisonFacts.quoted_x, ComparisonFacts.reads_quoted, CutFacts.no_item_left_out, StandardFacts.media, StandardFacts.plus_twice, ValueFacts.differ, ValueFacts.plain_value, ValueFacts.reads_capitals, ValueFacts.exact_item}
@@ -60,12 +59,10 @@ answer_found Accepts law decided = law decided (exact_item ∷ [])
 
 -- ---- a safe value
 
--- a tab, a space, punctuation and bytes past ASCII may occur in a header; line ends, other controls and 127 may not
-header_bytes :
-    AreHeaderBytes (9 ∷ 32 ∷ 34 ∷ 44 ∷ 59 ∷ 92 ∷ 126 ∷ 128 ∷ 255 ∷ [])
-    × (list_any is_quoted_byte (0 ∷ 8 ∷ 10 ∷ 13 ∷ 31 ∷ 127 ∷ 256 ∷ []) ≡ false)
+-- a tab, a space, punctuation and bytes past ASCII may occur in a header; a line feed may not
+header_bytes : AreHeaderBytes (9 ∷ 32 ∷ 34 ∷ 44 ∷ 59 ∷ 92 ∷ 126 ∷ 128 ∷ 255 ∷ []) × ¬ (AreHeaderBytes (codes "x\n"))
 unfolding is_quoted_byte
-header_bytes = (refl, refl)
+header_bytes = (refl, λ are. false≢true are)
 
 -- a pair has a token and quoted content
 which_pairs_are_safe : IsSafePair (codes "p", []) × ¬ (IsSafePair ([], codes "x")) × ¬ (IsSafePair (codes "p", codes "\""))

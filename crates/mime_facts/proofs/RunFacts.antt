@@ -81,26 +81,16 @@ no_memory_is_told : ¬ (GivesItem (begun (codes "A/B")) (Some (Err NoMemory)) (e
 no_memory_is_told given = true≢false (sym given.2)
 
 -- it is said only then: not if nothing is yielded, nor with a media type or a bad piece
-none_keeps_memory : ¬ (GivesItem (begun (codes "e")) None (memory_ran_out (ended_run (codes "e") 1)))
-none_keeps_memory given = true≢false given.2
-
--- A media type doesn't say that memory ran out.
-value_keeps_memory : (mime : OwnedMedia)
-    → ¬ (GivesItem (begun (codes "A/B")) (Some (Ok mime)) (memory_ran_out (ended_run (codes "A/B") 3)))
-value_keeps_memory mime (piece, first, star, same) = true≢false same
-
--- A bad piece doesn't say that memory ran out.
-piece_keeps_memory : (piece : Bor (List ℕ))
-    → ¬ (GivesItem (begun (codes "e,A/B")) (Some (Err (Piece piece))) (memory_ran_out (begun (codes "A/B"))))
-piece_keeps_memory piece given = true≢false given.1
+others_keep_memory : ¬ (GivesItem (begun (codes "e")) None (memory_ran_out (ended_run (codes "e") 1)))
+    × ((mime : OwnedMedia) → ¬ (GivesItem (begun (codes "A/B")) (Some (Ok mime)) (memory_ran_out (ended_run (codes "A/B") 3))))
+    × ((piece : Bor (List ℕ))
+    → ¬ (GivesItem (begun (codes "e,A/B")) (Some (Err (Piece piece))) (memory_ran_out (begun (codes "A/B")))))
+others_keep_memory = ((λ given. true≢false given.2), (λ mime given. true≢false given.3), λ piece given. true≢false given.1)
 
 -- if none is given, or memory ran out, nothing is left
-none_ends : ¬ (GivesItem (begun (codes "e")) None (begun (codes "e")))
-none_ends given = differ (codes "e") [] refl given.1
-
--- After want of memory nothing is left.
-no_memory_ends : ¬ (GivesItem (begun (codes "A/B")) (Some (Err NoMemory)) (memory_ran_out (begun (codes "A/B"))))
-no_memory_ends given = differ (codes "A/B") [] refl given.1
+nothing_is_left : ¬ (GivesItem (begun (codes "e")) None (begun (codes "e")))
+    × ¬ (GivesItem (begun (codes "A/B")) (Some (Err NoMemory)) (memory_ran_out (begun (codes "A/B"))))
+nothing_is_left = ((λ given. differ (codes "e") [] refl given.1), λ given. differ (codes "A/B") [] refl given.1)
 
 -- none is given only if there is no item
 none_at_no_item : ¬ (GivesItem (begun (codes "e,A/B")) None (ended_run (codes "e,A/B") 5))
@@ -151,24 +141,18 @@ gives_piece piece is = subst (λ text. AreGiven (Err (Piece piece) ∷ []) (bad 
 -- a run that yields nothing has no items
 gives_all : (given : List (Result OwnedMedia Bad)) (items : List CutItem) → AreGiven given items → given ≡ [] → items ≡ []
 gives_all given items none_left is = refl
-gives_all given items (a_value mime piece more others are) is = absurd cc
-gives_all given items (a_piece piece more others are) is = absurd cc
-gives_all given items (no_memory piece value others long) is = absurd cc
+gives_all given items other is = absurd cc
 
 -- A run always yields a media type of which 40 bytes are kept.
 gives_short : (given : List (Result OwnedMedia Bad)) (items : List CutItem) → AreGiven given items → given ≡ Err NoMemory ∷ []
     → (text : List ℕ) → items ≡ good text value_of_40 ∷ [] → ⊥
-gives_short given items none_left is text short = absurd cc
-gives_short given items (a_value mime piece more others are) is text short = absurd cc
-gives_short given items (a_piece piece more others are) is text short = absurd cc
 gives_short given items (no_memory piece other others long) is text short =
     let same : other ≡ value_of_40 = cc short in absurd (omega (arith, long, ap (λ (it : MediaType). length it.kept) same))
+gives_short given items other is text short = absurd cc
 
 -- a media type is given for a good piece with its value, and for nothing else
 gives_value : (given : List (Result OwnedMedia Bad)) (items : List CutItem) → AreGiven given items
     → (mime : OwnedMedia) (others : List (Result OwnedMedia Bad)) → given ≡ Ok mime ∷ others
     → (item : CutItem) (left : List CutItem) → items ≡ item ∷ left → (piece : List ℕ) × (item ≡ good piece mime.media)
-gives_value given items none_left mime others is item left of = absurd cc
 gives_value given items (a_value read piece more rest are) mime others is item left of = (piece, cc)
-gives_value given items (a_piece piece more rest are) mime others is item left of = absurd cc
-gives_value given items (no_memory piece value rest long) mime others is item left of = absurd cc
+gives_value given items other mime others is item left of = absurd cc

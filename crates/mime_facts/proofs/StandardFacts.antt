@@ -1,7 +1,7 @@
 -- Texts with what they are read as or why they are rejected, by computation: a wrong rule does not check.
 use Rattle.std.proofs.Common.{◌≡◌, ℕ, List, [], ◌∷◌, ◌++◌, Option, Some, None, refl, codes, arith, lit<}
 use Rattle.mime.specs.{Bytes.is_token_byte, Bytes.is_quoted_byte, Grammar.no_byte, Grammar.plain, Grammar.quoted, Grammar.blank, Grammar.final, Grammar.more, Grammar.Tail, Grammar.no_list, Grammar.listed, Grammar.SyntaxTree, Grammar.text_of, Grammar.IsWellFormed, Values.MediaType, Values.value_of, Values.Reads, Difference.DifferInValue, Faults.IsFault, declared.atoms.Atom.TheVariants.TEXT_JAVASCRIPT, declared.atoms.TheConstants.TEXT_JAVSCRIPT, declared.scan.fault.ParseError.TheVariants.MissingSlash, declared.scan.fault.ParseError.TheVariants.MissingSubtype, declared.scan.fault.ParseError.TheVariants.MissingEqual, declared.scan.fault.ParseError.TheVariants.MissingValue, declared.scan.fault.ParseError.TheVariants.MissingQuote, declared.scan.fault.ParseError.TheVariants.InvalidToken}
-use Rattle.mime.proofs.{GrammarLemmas.Begun.Closed, GrammarLemmas.Begun.in_type, GrammarLemmas.Begun.in_subtype, GrammarLemmas.Begun.in_list, GrammarLemmas.Begun.in_name, GrammarLemmas.Begun.in_value, GrammarLemmas.Begun.list_at, GrammarLemmas.Begun.walk, CompareLemmas.FirstDifference.different_values, GrammarLemmas.Content.IsContent-taken, GrammarLemmas.Viability.lacks-from_walk, GrammarLemmas.Viability.dead-from_walk}
+use Rattle.mime.proofs.{CompareLemmas.FirstDifference.different_values, GrammarLemmas.Content.IsContent-taken, GrammarLemmas.Viability.lacks-from_walk, GrammarLemmas.Viability.dead-from_walk}
 
 -- ---- accepted texts
 
@@ -116,127 +116,85 @@ old_spelling = refl
 
 -- ---- rejected texts
 
--- the fault of a text that ends in its type
-pub slash_fault-from_walk : (text top : List ℕ) → walk text ≡ Some (in_type top) → IsFault text MissingSlash
-slash_fault-from_walk text top walked = lacks-from_walk text (in_type top) walked refl
-
--- the fault of a text that ends in its slash
-pub subtype_fault-from_walk : (text top : List ℕ) → walk text ≡ Some (in_subtype top []) → IsFault text MissingSubtype
-subtype_fault-from_walk text top walked = lacks-from_walk text (in_subtype top []) walked refl
-
--- the fault of a text that ends in a parameter's name
-pub equal_fault-from_walk : (text top sub : List ℕ) (closed : Closed) (n name : List ℕ)
-    → walk text ≡ Some (in_list top sub (list_at closed (in_name n name))) → IsFault text MissingEqual
-equal_fault-from_walk text top sub closed n name walked = lacks-from_walk text _ walked refl
-
--- the fault of a text that ends in a parameter's equals sign
-pub value_fault-from_walk : (text top sub : List ℕ) (closed : Closed) (n name : List ℕ)
-    → walk text ≡ Some (in_list top sub (list_at closed (in_value n name []))) → IsFault text MissingValue
-value_fault-from_walk text top sub closed n name walked = lacks-from_walk text _ walked refl
-
 -- no text at all lacks a slash too
 empty_text : IsFault [] MissingSlash
-empty_text = slash_fault-from_walk [] [] refl
+empty_text = lacks-from_walk [] _ refl refl
 
 -- only a type
 pub no_slash : IsFault (codes "invalid") MissingSlash
 unfolding is_token_byte
-no_slash = slash_fault-from_walk (codes "invalid") (codes "invalid") refl
+no_slash = lacks-from_walk (codes "invalid") _ refl refl
 
 -- a type and its slash
 pub no_subtype : IsFault (codes "text/") MissingSubtype
 unfolding is_token_byte
-no_subtype = subtype_fault-from_walk (codes "text/") (codes "text") refl
+no_subtype = lacks-from_walk (codes "text/") _ refl refl
 
 -- only a parameter's name
 pub no_equals : IsFault (codes "a/b;p") MissingEqual
 unfolding is_token_byte
-no_equals = equal_fault-from_walk (codes "a/b;p") (codes "a") (codes "b") [] [] (codes "p") refl
+no_equals = lacks-from_walk (codes "a/b;p") _ refl refl
 
 -- a name and its equals sign
 pub no_value : IsFault (codes "a/b;p=") MissingValue
 unfolding is_token_byte
-no_value = value_fault-from_walk (codes "a/b;p=") (codes "a") (codes "b") [] [] (codes "p") refl
+no_value = lacks-from_walk (codes "a/b;p=") _ refl refl
 
--- in an open quoted value a slash and an equals sign are content
-slash_in_quotes : IsFault (codes "a/b;p=\"x/") MissingQuote
+-- in an open quoted value a slash and an equals sign are content, and a lone backslash leaves it open
+open_quotes : IsFault (codes "a/b;p=\"x/") MissingQuote × IsFault (codes "a/b;p=\"=") MissingQuote
+    × IsFault (codes "a/b;p=\"\\") MissingQuote
 unfolding is_token_byte is_quoted_byte
-slash_in_quotes = lacks-from_walk (codes "a/b;p=\"x/") _ refl refl
-
--- In an open quoted value an equals sign is content.
-equals_in_quotes : IsFault (codes "a/b;p=\"=") MissingQuote
-unfolding is_token_byte is_quoted_byte
-equals_in_quotes = lacks-from_walk (codes "a/b;p=\"=") _ refl refl
+open_quotes = (
+  lacks-from_walk (codes "a/b;p=\"x/") _ refl refl,
+  lacks-from_walk (codes "a/b;p=\"=") _ refl refl,
+  lacks-from_walk (codes "a/b;p=\"\\") _ refl refl,
+)
 
 -- a paired quote closes nothing
 pub no_quote : IsFault (codes "a/b;p=\"\\\"") MissingQuote
 unfolding is_token_byte is_quoted_byte
 no_quote = lacks-from_walk (codes "a/b;p=\"\\\"") _ refl refl
 
--- what ends in a lone backslash lacks the quote too
-lone_backslash : IsFault (codes "a/b;p=\"\\") MissingQuote
-unfolding is_token_byte is_quoted_byte
-lone_backslash = lacks-from_walk (codes "a/b;p=\"\\") _ refl refl
-
 -- a type has no space
 pub space_in_type : IsFault (codes "a b") (InvalidToken 1 32)
 unfolding is_token_byte
 space_in_type = dead-from_walk (codes "a") (codes "b") 32 _ refl refl
 
--- a subtype has no slash
-second_slash : IsFault (codes "a//") (InvalidToken 2 47)
-unfolding is_token_byte
-second_slash = dead-from_walk (codes "a/") [] 47 _ refl refl
-
--- a subtype has one byte or more
-list_after_empty_subtype : IsFault (codes "text/;") (InvalidToken 5 59)
-unfolding is_token_byte
-list_after_empty_subtype = dead-from_walk (codes "text/") [] 59 _ refl refl
-
--- a value has one byte or more
-semicolon_after_empty_value : IsFault (codes "a/b;p=;") (InvalidToken 6 59)
-unfolding is_token_byte
-semicolon_after_empty_value = dead-from_walk (codes "a/b;p=") [] 59 _ refl refl
-
--- no space follows a name
-space_after_name : IsFault (codes "a/b;p ") (InvalidToken 5 32)
-unfolding is_token_byte
-space_after_name = dead-from_walk (codes "a/b;p") [] 32 _ refl refl
-
--- only spaces and tabs may follow a quoted value
-text_after_quotes : IsFault (codes "a/b;p=\"x\"junk") (InvalidToken 9 106)
+-- bytes at fault, and their positions
+bytes_at_fault :
+    -- a subtype has no slash
+    IsFault (codes "a//") (InvalidToken 2 47)
+    -- a subtype has one byte or more, and so has a value
+    × IsFault (codes "text/;") (InvalidToken 5 59)
+    × IsFault (codes "a/b;p=;") (InvalidToken 6 59)
+    -- no space follows a name
+    × IsFault (codes "a/b;p ") (InvalidToken 5 32)
+    -- only spaces and tabs may follow a quoted value, even an empty one
+    × IsFault (codes "a/b;p=\"x\"junk") (InvalidToken 9 106)
+    × IsFault (codes "a/b;p=\"\"x\"") (InvalidToken 8 120)
+    -- no control but the tab may occur in a quoted value or follow a backslash there
+    × IsFault (codes "a/b;p=\"" ++ (195 ∷ 169 ∷ 1 ∷ codes "\"")) (InvalidToken 9 1)
+    × IsFault (codes "a/b;p=\"\\" ++ (13 ∷ [])) (InvalidToken 8 13)
+    -- no tab precedes the first semicolon
+    × IsFault (codes "a/b" ++ (9 ∷ codes ";p=x")) (InvalidToken 3 9)
+    -- no tab follows a plain value
+    × IsFault (codes "a/b;p=x" ++ (9 ∷ [])) (InvalidToken 7 9)
+    -- a line's end is no space
+    × IsFault (codes "text/plain;" ++ (13 ∷ 10 ∷ codes "charset=utf-8")) (InvalidToken 11 13)
 unfolding is_token_byte is_quoted_byte
-text_after_quotes = dead-from_walk (codes "a/b;p=\"x\"") (codes "unk") 106 _ refl refl
-
--- only spaces and tabs may follow an empty quoted value
-text_after_empty_quotes : IsFault (codes "a/b;p=\"\"x\"") (InvalidToken 8 120)
-unfolding is_token_byte is_quoted_byte
-text_after_empty_quotes = dead-from_walk (codes "a/b;p=\"\"") (codes "\"") 120 _ refl refl
-
--- no control but the tab may occur in a quoted value
-control_in_quotes : IsFault (codes "a/b;p=\"" ++ (195 ∷ 169 ∷ 1 ∷ codes "\"")) (InvalidToken 9 1)
-unfolding is_token_byte is_quoted_byte
-control_in_quotes = dead-from_walk (codes "a/b;p=\"" ++ (195 ∷ 169 ∷ [])) (codes "\"") 1 _ refl refl
-
--- no control but the tab may follow a backslash
-control_after_backslash : IsFault (codes "a/b;p=\"\\" ++ (13 ∷ [])) (InvalidToken 8 13)
-unfolding is_token_byte is_quoted_byte
-control_after_backslash = dead-from_walk (codes "a/b;p=\"\\") [] 13 _ refl refl
-
--- no tab precedes the first semicolon
-tab_before_semicolon : IsFault (codes "a/b" ++ (9 ∷ codes ";p=x")) (InvalidToken 3 9)
-unfolding is_token_byte
-tab_before_semicolon = dead-from_walk (codes "a/b") (codes ";p=x") 9 _ refl refl
-
--- no tab follows a plain value
-tab_after_plain_value : IsFault (codes "a/b;p=x" ++ (9 ∷ [])) (InvalidToken 7 9)
-unfolding is_token_byte
-tab_after_plain_value = dead-from_walk (codes "a/b;p=x") [] 9 _ refl refl
-
--- a line's end is no space
-line_end_after_semicolon : IsFault (codes "text/plain;" ++ (13 ∷ 10 ∷ codes "charset=utf-8")) (InvalidToken 11 13)
-unfolding is_token_byte
-line_end_after_semicolon = dead-from_walk (codes "text/plain;") (10 ∷ codes "charset=utf-8") 13 _ refl refl
+bytes_at_fault = (
+  dead-from_walk (codes "a/") [] 47 _ refl refl,
+  dead-from_walk (codes "text/") [] 59 _ refl refl,
+  dead-from_walk (codes "a/b;p=") [] 59 _ refl refl,
+  dead-from_walk (codes "a/b;p") [] 32 _ refl refl,
+  dead-from_walk (codes "a/b;p=\"x\"") (codes "unk") 106 _ refl refl,
+  dead-from_walk (codes "a/b;p=\"\"") (codes "\"") 120 _ refl refl,
+  dead-from_walk (codes "a/b;p=\"" ++ (195 ∷ 169 ∷ [])) (codes "\"") 1 _ refl refl,
+  dead-from_walk (codes "a/b;p=\"\\") [] 13 _ refl refl,
+  dead-from_walk (codes "a/b") (codes ";p=x") 9 _ refl refl,
+  dead-from_walk (codes "a/b;p=x") [] 9 _ refl refl,
+  dead-from_walk (codes "text/plain;") (10 ∷ codes "charset=utf-8") 13 _ refl refl,
+)
 
 -- ---- first differences
 

@@ -166,10 +166,9 @@ pub none_found : (a b : List ℕ) (found : Option ℕ) (none : Bool) → is_some
     → IfSome found (DifferFirstAt a b) → (found ≡ None → length a ≡ length b → lowered a ≡ lowered b)
     → IsTrue none ↔ (lowered a ≡ lowered b)
 none_found a b None true is long d all = (λ _. all refl long, λ _. refl)
-none_found a b None false is long d all = absurd cc
-none_found a b (Some at) true is long d all = absurd cc
 none_found a b (Some at) false is long d all = (
   λ bad. absurd cc,
   λ same. absurd (d.differ (sym (get_or-map to_ascii_lowercase a at 0 0 d.within) ∙ ap (λ t. get_or t at 0) same
       ∙ get_or-map to_ascii_lowercase b at 0 0 d.within_other)),
 )
+none_found a b found none is long d all = absurd cc

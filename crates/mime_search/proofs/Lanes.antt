@@ -1,7 +1,7 @@
 -- The bit mask of a class, lane by lane.
-use Rattle.std.proofs.Common.{◌≡◌, ℕ, ◌+◌, ◌*◌, ◌-◌, ◌%◌, ◌^◌, suc, Bool, true, false, not, cond, List, [], ◌∷◌, map, length, replicate, refl, ap, ◌∙◌, arith, bit_and}
+use Rattle.std.proofs.Common.{rules, ◌≡◌, ℕ, ◌+◌, ◌*◌, ◌-◌, ◌%◌, ◌^◌, suc, Bool, true, false, not, cond, List, [], ◌∷◌, map, length, replicate, refl, ap, ◌∙◌, arith, bit_and}
 use Rattle.std.specs.Prelude.{◌||◌, ◌&&◌, ◌==◌, nat_lt}
-use Rattle.std.proofs.{lemmas.Bool.Decides.nat_tests, lemmas.List.length-map, lemmas.Simd.map-map, lemmas.Simd.zip2_splat, lemmas.Simd.zip2_splat_left, lemmas.Simd.zip2_of_maps, lemmas.Simd.mask_l-mod, Math.Nat.pow-suc, Math.Nat.mul_comm}
+use Rattle.std.proofs.{lemmas.Bool.Decides.nat_tests, lemmas.List.length-map, lemmas.Simd.map-map, lemmas.Simd.zip2_splat, lemmas.Simd.zip2_splat_left, lemmas.Simd.zip2_of_maps, lemmas.Simd.mask_l-mod, Math.Nat.pow-suc, Math.Nat.mul_comm, lemmas.Grind.common_steps}
 use Rattle.std.specs.{Simd.Lanes.mask_l, Simd.Lanes.zip2, Simd.Lanes.top, Int.Bits.bit_or, Int.Bits.or_zero_r}
 use Rattle.mime_search.specs.{Classes.is_outside_range, Classes.is_outside, Classes.outside, Classes.stops, declared.class.Class.Class, declared.class.Range.Range}
 
@@ -11,22 +11,15 @@ lane t = cond t (2 ^ 8 - 1) 0
 
 -- Two lanes are joined by or.
 or_lane : (s t : Bool) → bit_or (lane s) (lane t) ≡ lane (s || t)
-or_lane false false = refl
-or_lane false true = refl
-or_lane true false = refl
-or_lane true true = refl
+or_lane s t = search rules
 
 -- Two lanes are joined by and.
 and_lane : (s t : Bool) → bit_and (lane s) (lane t) ≡ lane (s && t)
-and_lane false false = refl
-and_lane false true = refl
-and_lane true false = refl
-and_lane true true = refl
+and_lane s t = search rules
 
 -- The top bit of a lane tells whether it has all bits.
 top_lane : (t : Bool) → top 7 (lane t) ≡ t
-top_lane false = refl
-top_lane true = refl
+top_lane t = search rules
 
 -- whether a vector's lanes are outside a range, as it is computed
 abbrev range_lanes : List ℕ → ℕ → ℕ → List ℕ
@@ -47,8 +40,7 @@ range_of_map f range v vs long is =
 
 -- a vector as a map of itself
 same_lanes : (vs : List ℕ) → vs ≡ map (λ b. b) vs
-same_lanes [] = refl
-same_lanes (b ∷ vs) = ap (λ bs. b ∷ bs) (same_lanes vs)
+same_lanes vs = grind (arith, common_steps)
 
 -- the mask of a vector, as it is computed
 pub outside_lanes : (class : Class) (v : List ℕ) → length v ≡ 16 → mask_l (map (top 7) (zip2 bit_and

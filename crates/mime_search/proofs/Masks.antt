@@ -1,7 +1,7 @@
 -- Bit masks of a text's first bytes: how they are joined, and what they show.
 use Rattle.std.proofs.Common.{◌≡◌, ◌≢◌, ℕ, ◌+◌, ◌*◌, ◌-◌, ◌/◌, ◌%◌, ◌^◌, ◌<◌, ◌≤◌, suc, Bool, not, List, [], ◌∷◌, ◌++◌, map, length, take, drop, sym, ap, ◌∙◌, subst, arith, length-drop, length-append}
 use Rattle.std.specs.{List.prefix_len, Simd.Lanes.mask_l}
-use Rattle.std.proofs.{lemmas.List.length-map, lemmas.List.drop-map, lemmas.List.drop-take, lemmas.List.drop-drop, lemmas.List.take-take, lemmas.List.take_all, lemmas.List.take_at, lemmas.List.drop_at, lemmas.List.take-append-drop, lemmas.List.length-take-le, lemmas.List.map-append, lemmas.Simd.mask_l-lt, Math.Nat.pow-suc, Math.Nat.mul_comm, Math.Nat.mul_assoc, Math.Nat.mul-le-mul_left, Math.Nat.pow-le-pow_right, Math.Nat.div-le_self}
+use Rattle.std.proofs.{lemmas.List.length-map, lemmas.List.drop-map, lemmas.List.drop-take, lemmas.List.drop-drop, lemmas.List.take-take, lemmas.List.take_all, lemmas.List.take_at, lemmas.List.drop_at, lemmas.List.take-append-drop, lemmas.List.length-take-le, lemmas.List.map-append, lemmas.Simd.mask_l-lt, Math.Nat.pow-suc, Math.Nat.mul_comm, Math.Nat.mul_assoc}
 use lib.Count.{count_trailing_zeros}
 use Rattle.mime_search.proofs.Searches.{mask-drop, no_stop, a_stop, stop_within}
 
@@ -35,6 +35,12 @@ module _ (p : ℕ → Bool) where
   -- the mask of a text without its first bytes
   rest-mask : (n : ℕ) (bytes : List ℕ) → mask bytes / 2 ^ n ≡ mask (drop n bytes)
   rest-mask n bytes = mask-drop n (map p bytes) ∙ ap mask_l (drop-map p n bytes)
+
+  -- The mask of some bytes, shifted, is that of the later ones among them.
+  pub later-mask : (k n : ℕ) (bytes : List ℕ) → k ≤ n → mask (take n bytes) / 2 ^ k ≡ mask (take (n - k) (drop k bytes))
+  later-mask k n bytes within =
+      let all : k + (n - k) ≡ n = omega (arith, within) in
+      rest-mask k (take n bytes) ∙ ap (λ m. mask (drop k (take m bytes))) (sym all) ∙ ap mask (drop-take k (n - k) bytes)
 
   -- the mask of a text by those of its first and of its last bytes
   pub mask-joined : (n : ℕ) (text : List ℕ) → n ≤ length text → length text ≤ n + n
@@ -76,12 +82,6 @@ module _ (p : ℕ → Bool) where
       let few = mask-lt a 8 one in
       (omega (arith, whole, few), omega (arith, whole, few))
 
--- a mask may be moved up without loss
-pub moved-fits : (mask last by n : ℕ) → mask ≡ last / 2 ^ by → last < 2 ^ 32 → n ≤ 32 → mask * 2 ^ n + 2 ^ 32 ≤ 2 ^ 64
-moved-fits mask last by n is few room =
-    let small : mask < 2 ^ 32 = omega (arith, is, few, div-le_self last (2 ^ by)) in
-    omega (arith, small, mul-le-mul_left mask (pow-le-pow_right {n = 2} (omega arith) room))
-
 -- ---- the known bytes of a text
 
 -- what the mask of the first bytes shows of those from a position on
@@ -93,9 +93,7 @@ module _ (p : ℕ → Bool) (text : List ℕ) (at known found : ℕ) (is : found
 
   -- The shifted mask is that of the bytes from the position on.
   next : found / 2 ^ at ≡ mask_l (map p (take (known - at) (drop at text)))
-  next =
-      ap (λ m. m / 2 ^ at) is ∙ rest-mask p at (take known text)
-      ∙ ap (λ n. mask_l (map p (drop at (take n text)))) (sym whole) ∙ ap (λ t. mask_l (map p t)) (drop-take at (known - at) text)
+  next = ap (λ m. m / 2 ^ at) is ∙ later-mask p at known text (omega (arith, inside))
 
   -- Without a bit all known bytes are passed.
   pub known-none : found / 2 ^ at ≡ 0 → known ≤ at + prefix_len (λ b. not (p b)) (drop at text)

@@ -12,12 +12,6 @@ len_from-at : (text : List ℕ) (position : ℕ) → position < length text → 
     ≡ cond (get_or text position 0 == quote) 0 (suc (len_from (get_or text position 0 == backslash) (drop (position + 1) text)))
 len_from-at text position within = ap (len_from false) (drop_more text position 0 within)
 
--- any byte other than a quote and a backslash is passed
-pub search_past_plain : (text : List ℕ) (position : ℕ) → position < length text → ¬ (get_or text position 0 ≡ quote)
-    → ¬ (get_or text position 0 ≡ backslash) → len_from false (drop position text) ≡ 1 + len_from false (drop (position + 1) text)
-search_past_plain text position within no_quote no_backslash =
-    let at = rw (ne_eqb _ _ no_quote, ne_eqb _ _ no_backslash) at (len_from-at text position within) in omega (arith, at)
-
 -- the bytes up to the first quote or backslash are passed, too
 abbrev pub is_mark : ℕ → Bool
 is_mark b = b == quote || b == backslash
@@ -110,15 +104,6 @@ module _ (text : List ℕ) (at n found : ℕ) (room : at + n ≤ length text) (f
       let stop = at + plain_len (drop at text) in
       sym (search_past_plain_run text (at + n) stop (sym (no_stop is_mark text at n found room (omega (arith, few)) is none)))
       ∙ search_past_plain_run text at stop refl
-
-  -- the bits without the lowest ones are those of the bytes after these
-  pub later_marks : (k : ℕ) → k ≤ n → found / 2 ^ k ≡ mask_l (map is_mark (take (n - k) (drop (at + k) text)))
-  later_marks k within =
-      let all : k + (n - k) ≡ n = omega (arith, within) in
-      ap (λ m. m / 2 ^ k) is ∙ mask-drop k (map is_mark (take n (drop at text)))
-      ∙ ap mask_l (drop-map is_mark k (take n (drop at text)))
-      ∙ ap (λ bytes. mask_l (map is_mark bytes)) (ap (λ m. drop k (take m (drop at text))) (sym all)
-      ∙ drop-take k (n - k) (drop at text) ∙ ap (take (n - k)) (drop-drop k at text))
 
 -- ---- what content means
 

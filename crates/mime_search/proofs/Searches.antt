@@ -1,6 +1,6 @@
 -- A search by bit masks: a block without a bit is passed, and the lowest bit is the first stop.
-use Rattle.std.proofs.Common.{◌≡◌, ◌≢◌, ℕ, ◌+◌, ◌-◌, ◌*◌, ◌/◌, ◌^◌, ◌<◌, ◌≤◌, zero, suc, Bool, true, false, not, cond, eqb, List, [], ◌∷◌, map, length, take, drop, refl, sym, ap, ◌∙◌, arith, length-drop}
-use Rattle.std.proofs.{lemmas.Simd.leading_from_mask_l, lemmas.Simd.trailing_mask_l, lemmas.List.drop-drop, lemmas.List.drop-map, lemmas.List.take_all, lemmas.List.take-append-drop, lemmas.List.length-take-le, lemmas.List.Folds.prefix_len-append, lemmas.List.Sums.prefix_len-le-length, lemmas.Bool.eq-eqb, lemmas.Bool.ne_eqb, lemmas.Bool.cond-true, lemmas.Bool.cond-false, Math.Nat.div-div-eq-div-mul, Math.Nat.div-one, Math.Nat.zero-div, Math.Nat.pow-suc, Math.Nat.mul_comm, Math.Bool.or_self}
+use Rattle.std.proofs.Common.{◌≡◌, ◌≢◌, ℕ, ◌+◌, ◌-◌, ◌*◌, ◌/◌, ◌^◌, ◌<◌, ◌≤◌, zero, suc, Bool, not, cond, eqb, List, [], ◌∷◌, map, length, take, drop, refl, sym, ap, ◌∙◌, arith, length-drop}
+use Rattle.std.proofs.{lemmas.Simd.leading_from_mask_l, lemmas.Simd.trailing_mask_l, lemmas.List.drop-drop, lemmas.List.drop-map, lemmas.List.take_all, lemmas.List.take-append-drop, lemmas.List.length-take-le, lemmas.List.Folds.prefix_len-append, lemmas.List.Sums.prefix_len-le-length, lemmas.Bool.eq-eqb, lemmas.Bool.ne_eqb, lemmas.Bool.cond-true, lemmas.Bool.cond-false, Math.Nat.div-div-eq-div-mul, Math.Nat.div-one, Math.Nat.zero-div, Math.Nat.pow-suc, Math.Nat.mul_comm, Math.Bool.or_self, lemmas.Grind.common_steps}
 use Rattle.std.specs.{List.prefix_len, List.position_or_len, Simd.Lanes.mask_l}
 use Rattle.std.specs.Prelude.{◌==◌, ◌||◌}
 use Rattle.mime_search.specs.{Classes.is_stop, Classes.end_of_run, Classes.stops, declared.class.Class.Class}
@@ -10,8 +10,7 @@ use lib.Count.{count_trailing_zeros}
 
 -- a bit mask without its lowest bit
 half : (b : Bool) (m : ℕ) → (cond b 1 0 + 2 * m) / 2 ≡ m
-half true m = omega arith
-half false m = omega arith
+half b m = grind (arith, common_steps)
 
 -- a bit mask without its lowest bits
 pub mask-drop : (n : ℕ) (ms : List Bool) → mask_l ms / 2 ^ n ≡ mask_l (drop n ms)
@@ -24,8 +23,7 @@ mask-drop (suc n) (b ∷ ms) =
 -- a bit more, if it isn't set
 none_fails : (b : Bool) (n l m : ℕ) → n ≤ l → cond (not b) (1 + n) 0 ≡ 1 + l → (n ≡ l → m ≡ 0)
     → cond b 1 0 + 2 * m ≡ 0
-none_fails true n l m le e rest = absurd (omega (arith, e))
-none_fails false n l m le e rest = let z = rest (omega (arith, e)) in omega (arith, z)
+none_fails b n l m le e rest = grind (arith, common_steps)
 
 -- if no byte has its bit, the search passes them all
 pub all_pass : (p : ℕ → Bool) (xs : List ℕ) → prefix_len (λ x. not (p x)) xs ≡ length xs → mask_l (map p xs) ≡ 0

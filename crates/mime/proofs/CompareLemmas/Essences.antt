@@ -1,6 +1,5 @@
--- A text that begins with a value's essence and a semicolon, ignoring ASCII case: what the scanner says of it, by what it says of the list
--- after
--- the semicolon.
+-- A text that begins with a value's essence and a semicolon, ignoring ASCII case: what the scanner says of it, by what it says of
+-- the list after the semicolon.
 use Rattle.std.proofs.Common.{◌≡◌, ℕ, ◌+◌, List, [], ◌∷◌, ◌++◌, length, take, drop, Some, refl, sym, ap, ◌∙◌, subst, arith, append_assoc}
 use Rattle.std.proofs.{lemmas.List.take-append-drop, lemmas.List.drop_more, lemmas.Option.get_or_from_slice_get, lemmas.Option.slice_get_within}
 use Rattle.mime.specs.{Bytes.slash_byte, Bytes.semicolon_byte, Grammar.text_of, Grammar.IsToken, Values.MediaType, Values.Reads, Values.essence_of, Values.lowered, Values.last_plus, Inner.Remaining.Remaining, Inner.Scanning.positions_of, Inner.Scanning.before_list, Inner.Scanning.Judges, Inner.Scanning.ScansList, Inner.ComparedText.StartsWithEssence, Inner.ComparedText.positions_before_list, declared.scan.Positions.Positions, declared.scan.Scanned.Scanned}

@@ -1,9 +1,9 @@
 -- Where two texts first differ ignoring ASCII case: a text stripped of spaces, tabs and quotes.
-use Rattle.std.proofs.Common.{◌≡◌, ℕ, ◌+◌, ◌<◌, List, [], ◌∷◌, ◌++◌, take, drop, refl, sym, ap, ◌∙◌, subst, arith, length, append-nil, append_assoc}
+use Rattle.std.proofs.Common.{◌≡◌, ℕ, ◌+◌, ◌<◌, List, [], ◌∷◌, ◌++◌, take, drop, refl, sym, ap, ◌∙◌, arith, length, append-nil, append_assoc, rules}
 use Rattle.std.specs.Prelude.{IsTrue}
 use Rattle.std.specs.{Char.to_ascii_lowercase, List.filter, List.slice_index, List.list_all}
 use Rattle.std.proofs.{lemmas.Bool.and_parts, lemmas.Bool.cond-true, lemmas.Bool.cond-false, lemmas.Bool.Decides.nat_tests, lemmas.List.take-append-drop, lemmas.List.drop_more, lemmas.List.Elements.filter-append}
-use Rattle.mime.specs.{Bytes.semicolon_byte, Bytes.equals_byte, Bytes.quote_byte, Grammar.Parameter, Grammar.plain, Grammar.quoted, Grammar.Parameters, Grammar.blank, Grammar.final, Grammar.more, Grammar.Tail, Grammar.no_list, Grammar.listed, Grammar.text_of, Grammar.text_of_tail, Grammar.text_of_list, Grammar.text_of_parameter, Grammar.is_space, Grammar.AreSpaces, Grammar.AreParameters, Grammar.IsParameter, Grammar.IsTail, Values.MediaType, Values.Reads, Values.value_of, Values.essence_of, Values.lowered, Values.lowered_parameter, Values.lowered_list, Values.lowered_tail, Values.pair_of, Values.pairs_of_list, Values.pairs_of_tail, Comparison.Same, Difference.reaches_value, Difference.DifferInValue}
+use Rattle.mime.specs.{Bytes.semicolon_byte, Bytes.equals_byte, Bytes.quote_byte, Grammar.Parameter, Grammar.plain, Grammar.quoted, Grammar.Parameters, Grammar.blank, Grammar.final, Grammar.more, Grammar.Tail, Grammar.no_list, Grammar.listed, Grammar.text_of_tail, Grammar.text_of_list, Grammar.text_of_parameter, Grammar.is_space, Grammar.AreSpaces, Grammar.AreParameters, Grammar.IsParameter, Grammar.IsTail, Values.MediaType, Values.Reads, Values.lowered, Values.lowered_parameter, Values.lowered_list, Values.lowered_tail, Values.pair_of, Values.pairs_of_list, Values.pairs_of_tail, Comparison.Same, Difference.reaches_value, Difference.DifferInValue}
 use Rattle.mime.proofs.{ValueLemmas.KeptText.text_of-essence, LowercaseLemmas.lowered-append, LowercaseLemmas.lowered-lowered, CompareLemmas.OtherCase.lowered-lowered_value, CompareLemmas.Parts.essence-lowered}
 use Rattle.mime_search.proofs.IgnoringCase.{lowered-drop}
 
@@ -79,18 +79,7 @@ stripped-tail (listed list) well = let parts = stripped-list list well in
 -- a text is stripped to what the value is that it is read as
 stripped-reads : (text : List ℕ) (value : MediaType) → Reads text value → Begins (stripped text) (stripped_value value)
 stripped-reads text value reads =
-    let tree = reads.tree in
-    let tail = stripped-tail tree.tail reads.well_formed.2 in
-    let essence : stripped (value_of tree).essence ≡ stripped (essence_of tree) =
-    ap stripped (essence-lowered tree) ∙ ap (filter reaches_value) (lowered-lowered (essence_of tree)) in
-    let text_parts : stripped (text_of tree) ≡ stripped (essence_of tree) ++ stripped (text_of_tail tree.tail) =
-    ap stripped (text_of-essence tree) ∙ stripped-append (essence_of tree) (text_of_tail tree.tail) in
-    subst (λ t. Begins (stripped t) (stripped_value value)) reads.spelled
-    (subst (λ (v : MediaType). Begins (stripped (text_of tree)) (stripped_value v)) reads.valued (record {
-      rest = tail.rest;
-      is = (λ i. essence i ++ tail.is i) ∙ sym (ap (λ t. t ++ tail.rest) text_parts
-          ∙ append_assoc (stripped (essence_of tree)) (stripped (text_of_tail tree.tail)) tail.rest);
-    }))
+    search (stripped-append, stripped-tail, append_assoc, text_of-essence, lowered-lowered, essence-lowered, rules)
 
 -- a stripped text, cut at a byte that stays
 stripped-at : (text : List ℕ) (n : ℕ) → n < length text → IsTrue (reaches_value (slice_index text n))

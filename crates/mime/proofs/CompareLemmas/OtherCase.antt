@@ -1,7 +1,7 @@
 -- Texts that are equal ignoring ASCII case are read as trees that are equal ignoring it: one is cut where the other is.
-use Rattle.std.proofs.Common.{◌≡◌, ℕ, true, List, [], ◌∷◌, ◌++◌, length, take, drop, map, refl, sym, ap, ◌∙◌, subst, arith}
+use Rattle.std.proofs.Common.{◌≡◌, ℕ, true, List, [], ◌∷◌, ◌++◌, length, take, drop, map, refl, sym, ap, ◌∙◌, subst, arith, rules}
 use Rattle.std.specs.{Char.to_ascii_lowercase, List.list_all}
-use Rattle.std.proofs.{lemmas.Bool.Decides.nat_tests, lemmas.List.length-map, lemmas.List.take-append-drop}
+use Rattle.std.proofs.{lemmas.Bool.Decides.nat_tests, lemmas.List.take-append-drop, lemmas.Grind.common_steps}
 use Rattle.mime.specs.{Bytes.slash_byte, Bytes.semicolon_byte, Bytes.equals_byte, Bytes.quote_byte, Grammar.is_space, Grammar.Parameter, Grammar.plain, Grammar.quoted, Grammar.Parameters, Grammar.blank, Grammar.final, Grammar.more, Grammar.Tail, Grammar.no_list, Grammar.listed, Grammar.SyntaxTree, Grammar.text_of, Grammar.text_of_parameter, Grammar.text_of_list, Grammar.text_of_tail, Grammar.AreSpaces, Grammar.IsParameter, Grammar.AreParameters, Grammar.IsTail, Grammar.IsWellFormed, Values.MediaType, Values.Reads, Values.value_of, Values.lowered, Values.lowered_value, Values.lowered_tail, Values.is_charset, Values.pair_of, Values.pairs_of_list, Values.pairs_of_tail, Comparison.Same, Inner.KeptText.AreLowPairs, Inner.KeptText.lowered_pair, Inner.ComparedText.IsLoneCharset}
 use Rattle.mime.proofs.{BytesLemmas.cons_parts, GrammarLemmas.Content.IsContent-case, LowercaseLemmas.lowered-lowered, LowercaseLemmas.lowered_value-either, LowercaseLemmas.low_pair-parts, LowercaseLemmas.list_all-case, LowercaseLemmas.IsToken-case, LowercaseLemmas.pairs_of_tail-lowered, ValueLemmas.Utf8.lowered-parts, ValueLemmas.Utf8.is_no_letter, ValueLemmas.Utf8.stays, ValueLemmas.Parts.read-low_pairs}
 
@@ -159,8 +159,7 @@ case_read text kept value reads is =
 
 -- a value has as many pairs as what a text that is its own ignoring ASCII case is read as
 pub case_read-count : (text : List ℕ) (value : MediaType) (is : CaseRead text value) → length value.pairs ≡ length is.read.pairs
-case_read-count text value is = sym (length-map value.pairs lowercase_pair) ∙ ap length is.pairs
-    ∙ length-map is.read.pairs lowercase_pair
+case_read-count text value is = grind (arith, common_steps)
 
 -- two charsets as they are kept are the same if they are the same ignoring ASCII case
 lone_charset-same : (pairs others : List (List ℕ × List ℕ)) → IsLoneCharset pairs → AreLowPairs pairs → AreLowPairs others
@@ -184,7 +183,4 @@ lone_charset-same pairs others (name, content, lone, charset) low also same =
 -- a text that is read as a value with a lone charset, ignoring ASCII case, is read as one equal to it
 pub case_read-lone_charset : (text kept : List ℕ) (value : MediaType) (is : CaseRead text value) → Reads kept value
     → IsLoneCharset value.pairs → Same value is.read
-case_read-lone_charset text kept value is reads lone = (
-  is.essence,
-  lone_charset-same value.pairs is.read.pairs lone (read-low_pairs kept value reads) (read-low_pairs text is.read is.reads) is.pairs,
-)
+case_read-lone_charset text kept value is reads lone = search (lone_charset-same, read-low_pairs, rules)

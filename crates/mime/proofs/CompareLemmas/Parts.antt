@@ -1,9 +1,9 @@
 -- A text against a value: what a text has that is equal to the value, and what suffices.
 use Rattle.std.proofs.{lemmas.Grind.common_steps, lemmas.Bool.Decides.nat_tests, lemmas.List.nil_from_length, lemmas.List.take-append-drop, lemmas.Option.same_Some, lemmas.List.Folds.list_all-append}
-use Rattle.std.proofs.Common.{◌≡◌, ℕ, ◌+◌, true, arith, List, [], ◌∷◌, ◌++◌, length, take, drop, Some, map, refl, sym, ap, ◌∙◌, subst, ◌↔◌}
+use Rattle.std.proofs.Common.{◌≡◌, ℕ, ◌+◌, arith, List, [], ◌∷◌, ◌++◌, length, take, drop, Some, map, refl, sym, ap, ◌∙◌, subst, ◌↔◌, rules}
 use Rattle.std.specs.Prelude.{◌≢◌, ◌==◌, not, codes}
 use Rattle.std.specs.List.{list_all}
-use Rattle.mime.specs.{Bytes.slash_byte, Bytes.semicolon_byte, Grammar.Tail, Grammar.no_list, Grammar.listed, Grammar.SyntaxTree, Grammar.text_of, Grammar.IsToken, Grammar.IsWellFormed, Values.MediaType, Values.Reads, Values.value_of, Values.essence_of, Values.lowered, Values.lowered_tail, Values.pairs_of_list, Values.pairs_of_tail, Values.is_charset, Comparison.TextIs, Comparison.HasNoSemicolon, Inner.Pairs.cut_of, Inner.Pairs.pairs_within, Inner.Scanning.positions_of, Inner.Scanning.semicolon_of, Inner.KeptText.lowered_pair, Inner.ComparedText.StartsWithEssence, Inner.ComparedText.IsAcceptedAt, Inner.ComparedText.IsLoneCharset, declared.scan.Positions.Positions, Comparison.Same, Laws.KeptTextIs}
+use Rattle.mime.specs.{Bytes.slash_byte, Bytes.semicolon_byte, Grammar.Tail, Grammar.no_list, Grammar.listed, Grammar.SyntaxTree, Grammar.text_of, Grammar.IsToken, Grammar.IsWellFormed, Values.MediaType, Values.Reads, Values.value_of, Values.essence_of, Values.lowered, Values.lowered_tail, Values.pairs_of_list, Values.pairs_of_tail, Comparison.TextIs, Comparison.HasNoSemicolon, Inner.Pairs.pairs_within, Inner.Scanning.positions_of, Inner.Scanning.semicolon_of, Inner.KeptText.lowered_pair, Inner.ComparedText.StartsWithEssence, Inner.ComparedText.IsAcceptedAt, Inner.ComparedText.IsLoneCharset, Comparison.Same, Laws.KeptTextIs}
 use Rattle.mime.proofs.{BytesLemmas.AreTokenBytes-from_token, BytesLemmas.are_other-token, BytesLemmas.semicolon_is_no_token, ValueLemmas.Pairs.cut_of-name, ValueLemmas.Parts.kept-essence, ValueLemmas.Parts.read-low_essence, ValueLemmas.KeptText.take-essence, ValueLemmas.KeptText.length-essence_of, ValueLemmas.KeptText.slice_get-semicolon, ValueLemmas.KeptText.kept_is_read, ValueLemmas.KeptText.pairs_within-text_of, LowercaseLemmas.lowered-append, LowercaseLemmas.length-tail_lowered, LowercaseLemmas.pairs_of_tail-lowered, LowercaseLemmas.list_all-lowered, GrammarLemmas.Readings.one_reading, CompareLemmas.OtherCase.case_read, CompareLemmas.OtherCase.case_read-count, CompareLemmas.OtherCase.case_read-lone_charset}
 use Rattle.mime_search.proofs.IgnoringCase.{length-lowered}
 
@@ -40,12 +40,7 @@ read_at-tree top sub (listed list) well end at =
 
 -- Every accepted text is read at its end and its number of pairs.
 read_at : (text : List ℕ) (end count : ℕ) → IsAcceptedAt text end count → ReadAt text end count
-read_at text end count is =
-    let tree = is.has.tree in
-    let counted = ap (λ (p : Positions). p.pair_count) is.has.same_positions ∙ is.counted in
-    subst (λ t. ReadAt t end count) is.has.spelled (subst (ReadAt (text_of tree) end) counted
-    (read_at-tree tree.top tree.sub tree.tail is.has.well_formed end
-    (ap (λ (p : Positions). p.semicolon) is.has.same_positions ∙ is.at)))
+read_at text end count is = search (read_at-tree, rules)
 
 -- a text that is read as a value with pairs is accepted so
 accepted_at : (text : List ℕ) (value : MediaType) → Reads text value → value.pairs ≢ []
@@ -128,10 +123,7 @@ text_is-lone_charset kept text value reads some is lone =
 
 -- the only pair of a list that begins with ` charset=` is a charset
 pub lone_charset : (list : List ℕ) → take 9 list ≡ codes " charset=" → IsLoneCharset (pairs_within 1 list)
-lone_charset list is =
-    let whole : list ≡ codes " charset=" ++ drop 9 list = sym (take-append-drop 9 list) ∙ ap (λ prefix. prefix ++ drop 9 list) is in
-    let name = ap (λ l. (cut_of l).name) whole ∙ sym (cut_of-name (codes " charset=" ++ drop 9 list) (codes "charset") refl) in
-    ((cut_of list).name, (cut_of list).value, refl, subst (λ n. is_charset n ≡ true) (sym name) refl)
+lone_charset list is = search (take-append-drop, cut_of-name, rules)
 
 -- ---- a text against a value without pairs
 

@@ -1,10 +1,10 @@
 -- A comma ends whatever precedes it, and leaves what follows it as it is.
 use Rattle.std.proofs.Common.{◌≡◌, ℕ, suc, ◌≤◌, List, [], ◌∷◌, ◌++◌, length, take, drop, Some, None, refl, sym, ap, ◌∙◌, subst, arith, inl, inr, append_assoc, length-append, rules}
-use Rattle.std.proofs.{Math.Seq.take-append_seam, lemmas.List.take-append-le, lemmas.List.take-append-drop, lemmas.List.take-take, lemmas.Bool.and_parts, lemmas.Bool.cond-false, lemmas.Bool.Decides.nat_tests}
+use Rattle.std.proofs.{Math.Seq.take-append_seam, lemmas.List.take-append-le, lemmas.List.take-append-drop, lemmas.List.take-take, lemmas.Bool.and_parts, lemmas.Bool.cond-false, lemmas.Bool.Decides.nat_tests, lemmas.Grind.common_steps}
 use Rattle.mime.proofs.{GrammarLemmas.Begun.Begun, GrammarLemmas.Begun.in_type, GrammarLemmas.Begun.grow, GrammarLemmas.Begun.walk, GrammarLemmas.Characters.following-low, GrammarLemmas.Characters.foreign-from_high, GrammarLemmas.Characters.IsForeign, GrammarLemmas.Characters.IsOpen, GrammarLemmas.Characters.grow-foreign, CutLemmas.Cuts.Following, CutLemmas.Cuts.following_of, CutLemmas.Cuts.split-size, CutLemmas.Cuts.split-from_dead, CutLemmas.Cuts.items-from_rejected, CutLemmas.Cuts.split_inv, CutLemmas.Cuts.empty-rejected, CutLemmas.Cuts.empty-cut, CutLemmas.Cuts.has_cut, CutLemmas.Cuts.cut_unique, CutLemmas.Cuts.takes_unique, ValueLemmas.KeptText.kept_is_read, GrammarLemmas.Viability.empty_is_viable, GrammarLemmas.Viability.walk-from_viable, GrammarLemmas.Viability.lacks-from_walk, GrammarLemmas.Viability.accepted_is_viable, GrammarLemmas.Viability.prefix_of_viable_is_viable, GrammarLemmas.Faults.completed_is_rejected}
 use Rattle.std.specs.Prelude.{IsTrue, map, MatchOption}
 use Rattle.std.specs.List.{list_all, AllByRecursion}
-use Rattle.mime.specs.{Bytes.is_token_byte, Bytes.comma_byte, Bytes.space_byte, Values.MediaType, Values.IsAccepted, Faults.IsViable, Faults.IsUnclosed, declared.scan.fault.ParseError.TheVariants.MissingQuote, Cut.is_following_byte, Cut.BeginsCharacter, Cut.IsCharacter, Cut.IsSplit, Cut.CutItem, Cut.good, Cut.ItemsOf, Cut.is_read, Cut.is_empty, Cut.Cut, Cut.whole, Cut.unfinished, Cut.goes_on, Cut.last, Cut.next, Cut.steps_of, Cut.TakesSteps, CutLaws.OneCut, CutLaws.CutWritesText, CutLaws.IsItem, CutLaws.CutHasItems, CutLaws.OneCount, CutLaws.items_of_rest, CutLaws.CommaContains, CutLaws.joined, CutLaws.IsRead, CutLaws.kept_item, CutLaws.JoinedComesBack, CutLaws.is_separator, CutLaws.IsHttpList, CutLaws.no_element, CutLaws.separated, CutLaws.one_element, CutLaws.more_elements, CutLaws.HttpListIsCut}
+use Rattle.mime.specs.{Bytes.is_token_byte, Bytes.comma_byte, Bytes.space_byte, Values.MediaType, Values.IsAccepted, Faults.IsViable, Faults.IsUnclosed, declared.scan.fault.ParseError.TheVariants.MissingQuote, Cut.is_following_byte, Cut.BeginsCharacter, Cut.IsCharacter, Cut.IsSplit, Cut.CutItem, Cut.good, Cut.ItemsOf, Cut.is_read, Cut.is_empty, Cut.Cut, Cut.whole, Cut.unfinished, Cut.goes_on, Cut.last, Cut.next, Cut.steps_of, Cut.TakesSteps, CutLaws.OneCut, CutLaws.CutWritesText, CutLaws.IsItem, CutLaws.CutHasItems, CutLaws.OneCount, CutLaws.items_of_rest, CutLaws.CommaContains, CutLaws.joined, CutLaws.IsRead, CutLaws.kept_item, CutLaws.JoinedComesBack, CutLaws.IsHttpList, CutLaws.no_element, CutLaws.separated, CutLaws.one_element, CutLaws.more_elements, CutLaws.HttpListIsCut}
 
 -- a text has exactly one cut
 pub one_cut : OneCut
@@ -15,8 +15,7 @@ one_cut text = let found = has_cut text in (found.items, found.rest, found.cut, 
 -- items that are followed by others
 are_items-append : (items others : List CutItem) → AllByRecursion IsItem items → AllByRecursion IsItem others
     → AllByRecursion IsItem (items ++ others)
-are_items-append [] others are more = more
-are_items-append (item ∷ items) others are more = (are.0, are_items-append items others are.1 more)
+are_items-append items others are more = grind (arith, common_steps)
 
 -- the items of a viable piece
 are_items-of : (piece : List ℕ) (items : List CutItem) → IsViable piece → ItemsOf piece items → AllByRecursion IsItem items
@@ -161,16 +160,13 @@ comma_contains before after items others rest end (goes_on t p c l first own r s
 
 -- ---- a printed list
 
--- no type begins with a space, a tab or a comma
-separator-dead : (b : ℕ) → IsTrue (is_separator b) → grow (in_type []) b ≡ None
-unfolding is_token_byte
-separator-dead b is = cond-false (is_token_byte b) _ _ (grind (arith, nat_tests, is))
-
 -- a list as HTTP writes it is cut into its elements
 pub http_list_is_cut : HttpListIsCut
+unfolding is_token_byte
 http_list_is_cut text elements no_element = empty-cut
 http_list_is_cut text elements (separated b list _ is others) =
-    cut-after_dead b list elements [] (separator-dead b is) (http_list_is_cut list elements others)
+    cut-after_dead b list elements [] (cond-false (is_token_byte b) _ _ (grind (arith, nat_tests, is)))
+    (http_list_is_cut list elements others)
 http_list_is_cut text elements (one_element _ value reads) = whole text value reads
 http_list_is_cut text elements (more_elements first value list others reads more) =
     comma-cut first list (good first value ∷ []) others [] (accepted_is_viable first (value, reads))

@@ -1,9 +1,9 @@
 -- A text has one cut, and what a cut makes of its text.
 use Rattle.std.proofs.{lemmas.Grind.common_steps, Math.Seq.take-append_seam, Math.Seq.drop-append_seam, Math.Seq.take-length, lemmas.Bool.and_parts}
-use Rattle.std.proofs.Common.{◌≡◌, ℕ, zero, suc, ◌+◌, ◌<◌, Bool, true, false, List, [], ◌∷◌, ◌++◌, length, take, drop, Some, None, refl, sym, ap, ◌∙◌, subst, arith, ◌⊎◌, inl, inr, ⊎_elim}
+use Rattle.std.proofs.Common.{◌≡◌, ℕ, zero, suc, ◌+◌, ◌<◌, Bool, true, false, List, [], ◌∷◌, ◌++◌, length, take, drop, Some, None, refl, sym, ap, ◌∙◌, subst, arith, ◌⊎◌, inl, inr, ⊎_elim, rules}
 use Rattle.std.specs.Prelude.{IsTrue, ◌&&◌}
 use Rattle.std.specs.List.{list_all, prefix_len}
-use Rattle.mime.specs.{Values.IsAccepted, Values.IsRejected, Faults.IsViable, CutLaws.items_of_rest, Cut.is_following_byte, Cut.BeginsCharacter, Cut.IsCharacter, Cut.IsSplit, Cut.CutItem, Cut.good, Cut.ItemsOf, Cut.is_read, Cut.is_rejected, Cut.is_empty, Cut.Cut, Cut.whole, Cut.unfinished, Cut.goes_on, Cut.Pieces, Cut.last, Cut.next, Cut.steps_of, Cut.TakesSteps}
+use Rattle.mime.specs.{Values.IsAccepted, Values.IsRejected, Faults.IsViable, CutLaws.items_of_rest, Cut.is_following_byte, Cut.BeginsCharacter, Cut.IsCharacter, Cut.IsSplit, Cut.CutItem, Cut.good, Cut.ItemsOf, Cut.is_read, Cut.is_rejected, Cut.is_empty, Cut.Cut, Cut.whole, Cut.unfinished, Cut.goes_on, Cut.Pieces, Cut.last, Cut.next, Cut.TakesSteps}
 use Rattle.mime.proofs.{GrammarLemmas.Begun.Begun, GrammarLemmas.Begun.in_type, GrammarLemmas.Begun.grow, GrammarLemmas.Begun.walk, GrammarLemmas.Begun.tree_of, GrammarLemmas.Readings.one_reading, GrammarLemmas.Readings.rejected-from_walk, GrammarLemmas.Readings.stopped-from_walk, GrammarLemmas.Viability.by_option, GrammarLemmas.Viability.accepted-from_complete, GrammarLemmas.Viability.viable-from_walk, GrammarLemmas.Viability.prefix-from_walk, GrammarLemmas.Viability.prefix_unique, GrammarLemmas.Viability.accepted_is_viable, GrammarLemmas.Viability.empty_is_viable, GrammarLemmas.Viability.stop-from_walk}
 
 -- ---- a character
@@ -83,11 +83,7 @@ split-not_viable text p c l split viable =
 -- a byte that leads nowhere splits a text
 pub split-from_dead : (prefix bytes : List ℕ) (b : ℕ) (begun : Begun) (rest : Following bytes) → walk prefix ≡ Some begun
     → grow begun b ≡ None → IsSplit (prefix ++ (b ∷ bytes)) prefix (b ∷ rest.following) rest.left
-split-from_dead prefix bytes b begun rest walked dead = record {
-  spelled = ap (λ t. prefix ++ (b ∷ t)) rest.spelled;
-  prefix = prefix-from_walk prefix bytes b begun walked dead;
-  is_character = (rest.of_class, rest.begins);
-}
+split-from_dead prefix bytes b begun rest walked dead = search (prefix-from_walk, rules)
 
 -- ---- which rule applies to a text
 
@@ -236,6 +232,4 @@ pieces_unique text pieces end (next t p c l own e split found) others stop (next
 
 -- A text takes one number of steps.
 pub takes_unique : (text : List ℕ) (n m : ℕ) → TakesSteps text n → TakesSteps text m → n ≡ m
-takes_unique text n m one two =
-    let same = pieces_unique text two.pieces two.end two.cut one.pieces one.end one.cut in
-    one.counted ∙ ap (λ x. steps_of x one.end) same.0 ∙ ap (steps_of two.pieces) same.1 ∙ sym two.counted
+takes_unique text n m one two = search (pieces_unique, rules)

@@ -1,5 +1,5 @@
 -- How a text begins: its first character, and its first piece.
-use Rattle.std.proofs.{lemmas.Grind.common_steps, lemmas.Bool.cases_Bool, lemmas.Bool.cases_lt, lemmas.Bool.and_parts, lemmas.Bool.not-true, lemmas.Bool.cond-false, lemmas.Bool.Decides.nat_tests, lemmas.List.take-append-drop, lemmas.List.length-take-le, lemmas.List.drop-drop, lemmas.List.take_at, lemmas.List.drop_at, lemmas.Option.slice_get_within, lemmas.Str.IsCharBoundary-from_rest, lemmas.Str.IsCharBoundary-from_take, lemmas.Str.IsUtf8-from_ascii, lemmas.Str.Ascii.IsAscii-cons, lemmas.Str.Ascii.IsAscii-nil}
+use Rattle.std.proofs.{lemmas.Grind.common_steps, lemmas.Bool.cases_Bool, lemmas.Bool.cases_lt, lemmas.Bool.and_parts, lemmas.Bool.not-true, lemmas.Bool.cond-false, lemmas.Bool.Decides.nat_tests, lemmas.List.take-append-drop, lemmas.List.length-take-le, lemmas.List.drop-drop, lemmas.List.take_at, lemmas.List.drop_at, lemmas.Option.slice_get_within, lemmas.Str.IsCharBoundary-from_rest, lemmas.Str.IsCharBoundary-from_take, lemmas.Str.IsUtf8-from_ascii}
 use Rattle.std.proofs.Common.{◌≡◌, ◌≢◌, ℕ, zero, suc, ◌+◌, ◌-◌, ◌<◌, ◌≤◌, false, inl, inr, length-append, IsAscii, List, [], ◌∷◌, ◌++◌, length, take, drop, Option, Some, None, MatchOption, refl, sym, ap, ◌∙◌, subst, arith, ⊎_elim, length-drop, rules}
 use Rattle.std.specs.Prelude.{IsTrue, IsFalse, ◌&&◌, nat_lt}
 use Rattle.std.specs.{List.list_all, Str.IsUtf8, Str.IsCharBoundary}
@@ -244,10 +244,7 @@ passes-nothing = record {
 
 -- separators are ASCII
 separators_are_ascii : (run : List ℕ) → IsTrue (list_all is_ascii_not_token run) → IsAscii run
-separators_are_ascii [] all = IsAscii-nil
-separators_are_ascii (b ∷ run) all =
-    let parts = and_parts (is_ascii_not_token b) (list_all is_ascii_not_token run) all in
-    IsAscii-cons b run (grind (arith, nat_tests, parts.0)) (separators_are_ascii run parts.1)
+separators_are_ascii run all = grind (arith, nat_tests, common_steps)
 
 -- a text may be cut after separators
 pub separators-boundary : (text run rest : List ℕ) → IsUtf8 text → text ≡ run ++ rest → IsTrue (list_all is_ascii_not_token run)

@@ -3,7 +3,7 @@
 use Rattle.std.specs.Prelude.{ℕ, List, [], ◌∷◌, ◌++◌, Option, Some, None, if◌then◌else◌, ◌==◌, IsTrue}
 use Rattle.std.specs.{Option.option_and_then, Option.option_map, List.list_all}
 use Rattle.mime.specs.{Bytes.is_token_byte, Bytes.slash_byte, Bytes.semicolon_byte, Bytes.equals_byte, Bytes.quote_byte, Grammar.Parameter, Grammar.plain, Grammar.quoted, Grammar.Parameters, Grammar.blank, Grammar.final, Grammar.more, Grammar.no_list, Grammar.listed, Grammar.SyntaxTree, Grammar.is_space, Grammar.IsToken, Inner.Quoted.continues, Inner.Quoted.awaits_next, Inner.Quoted.takes_all, Inner.Quoted.awaits_after, declared.scan.fault.ParseError.ParseError, declared.scan.fault.ParseError.TheVariants.MissingSlash, declared.scan.fault.ParseError.TheVariants.MissingSubtype, declared.scan.fault.ParseError.TheVariants.MissingEqual, declared.scan.fault.ParseError.TheVariants.MissingValue, declared.scan.fault.ParseError.TheVariants.MissingQuote}
-use Rattle.std.proofs.Common.{◌≡◌, ℕ, false, Bool, List, [], ◌∷◌, ◌++◌, Option, Some, None, refl, sym, ap, ◌∙◌, subst, append_assoc, append-nil}
+use Rattle.std.proofs.Common.{◌≡◌, ℕ, false, Bool, List, [], ◌∷◌, ◌++◌, Option, Some, None, refl, sym, ap, ◌∙◌, subst, append_assoc, append-nil, rules}
 use Rattle.std.proofs.lemmas.Bool.{and_parts, cond-false, cond-true}
 use Rattle.mime.proofs.{GrammarLemmas.Content.awaits_after-append, BytesLemmas.token_byte-not_space}
 
@@ -218,9 +218,7 @@ walk_list-name closed n =
 -- a token after the equals sign leads to a plain value
 pub walk_list-value : (closed : Closed) (n name value : List ℕ) → IsToken value
     → walk_list (list_at closed (in_value n name [])) value ≡ at_state closed (in_value n name value)
-walk_list-value closed n name =
-    walk_by-token grow_list (list_at closed (in_value n name [])) (λ value. list_at closed (in_value n name value))
-    (λ b yes. cond-true _ _ _ yes) (λ b taken c yes. cond-true _ _ _ yes)
+walk_list-value closed n name = search (walk_by-token, cond-true, rules)
 
 -- bytes that a quoted value takes go on in it
 pub walk_list-open : (closed : Closed) (n name taken run : List ℕ) → IsTrue (takes_all (awaits_after false taken) run)

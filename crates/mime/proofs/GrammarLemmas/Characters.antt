@@ -1,10 +1,10 @@
 -- Characters: the longest viable prefix ends between two, and what is passed after it is one.
-use Rattle.std.proofs.Common.{◌≡◌, ℕ, Bool, false, List, [], ◌∷◌, ◌++◌, Some, None, refl, sym, ◌∙◌, subst, ◌+◌, ◌<◌, ◌≤◌, true, length, get_or, drop, ap, arith, ◌⊎◌, inl, inr, ⊎_elim, length-drop, zero, suc, take, append-nil, length-append, rules}
-use Rattle.std.proofs.{lemmas.Bool.cases_lt, lemmas.Bool.and_parts, lemmas.Bool.Decides.nat_tests, lemmas.List.drop_more, lemmas.Option.none-some, lemmas.Option.same_Some, lemmas.Option.option_and_then_some, lemmas.Option.MatchOption-at_some, lemmas.Str.IsCharBoundary-start, lemmas.Str.IsCharBoundary-end, lemmas.Str.IsCharBoundary-after_ascii, lemmas.Str.IsUtf8-take, lemmas.Str.IsUtf8-drop, lemmas.Str.IsCharBoundary-past_char, lemmas.Str.length-encode, lemmas.Str.len_utf8_bounds, Math.Seq.take-append_seam, Math.Seq.drop-append_seam, Math.Seq.get_or-append_seam, lemmas.List.Sums.AllPass-from_list_all}
-use Rattle.std.specs.Prelude.{IsFalse, MatchOption, if◌then◌else◌, ◌==◌, IsTrue, ◌&&◌, ◌||◌, nat_le}
-use Rattle.std.specs.{Option.option_map, Str.IsUtf8, Str.IsCharBoundary, Str.encode_utf8_all, List.list_all, Char.IsScalar, Char.encode_utf8, Char.len_utf8}
-use Rattle.mime.specs.{Bytes.is_token_byte, Bytes.slash_byte, Bytes.semicolon_byte, Bytes.equals_byte, Bytes.quote_byte, Bytes.space_byte, Bytes.tab_byte, Grammar.is_space, Inner.Quoted.continues, Inner.Quoted.awaits_after, Laws.PrefixEndsBetweenCharacters, Cut.is_following_byte, Cut.IsCharacter, CutLaws.PassesOneCharacter}
-use Rattle.mime.proofs.{GrammarLemmas.Begun.Closed, GrammarLemmas.Begun.Begun, GrammarLemmas.Begun.in_type, GrammarLemmas.Begun.in_list, GrammarLemmas.Begun.in_quotes, GrammarLemmas.Begun.list_at, GrammarLemmas.Begun.grow, GrammarLemmas.Begun.BegunList, GrammarLemmas.Begun.walk, GrammarLemmas.Begun.walk_from, GrammarLemmas.Content.takes-high, GrammarLemmas.Viability.by_option, GrammarLemmas.Viability.whole_prefix-from_walk, GrammarLemmas.Viability.prefix_unique, GrammarLemmas.Viability.stop-from_walk, GrammarLemmas.Viability.dead-from_stop}
+use Rattle.std.proofs.Common.{◌≡◌, ℕ, List, [], ◌∷◌, ◌++◌, Some, None, sym, ◌∙◌, subst, ◌+◌, ◌<◌, ◌≤◌, true, length, get_or, drop, ap, arith, ◌⊎◌, inl, inr, ⊎_elim, length-drop, take, append-nil, length-append, rules}
+use Rattle.std.proofs.{lemmas.Bool.cases_lt, lemmas.Bool.and_parts, lemmas.Bool.Decides.nat_tests, lemmas.List.drop_more, lemmas.Option.none-some, lemmas.Option.same_Some, lemmas.Option.option_and_then_some, lemmas.Option.MatchOption-at_some, lemmas.Str.IsCharBoundary-start, lemmas.Str.IsCharBoundary-end, lemmas.Str.IsCharBoundary-after_ascii, lemmas.Str.IsUtf8-take, lemmas.Str.IsUtf8-drop, lemmas.Str.IsCharBoundary-past_char, lemmas.Str.length-encode, lemmas.Str.len_utf8_bounds, Math.Seq.take-append_seam, Math.Seq.drop-append_seam, lemmas.Grind.common_steps}
+use Rattle.std.specs.Prelude.{IsFalse, MatchOption, ◌==◌, IsTrue, ◌&&◌, ◌||◌, nat_le}
+use Rattle.std.specs.{Str.IsUtf8, Str.IsCharBoundary, Str.encode_utf8_all, List.list_all, Char.IsScalar, Char.encode_utf8, Char.len_utf8}
+use Rattle.mime.specs.{Bytes.is_token_byte, Bytes.slash_byte, Bytes.semicolon_byte, Bytes.equals_byte, Bytes.quote_byte, Bytes.space_byte, Bytes.tab_byte, Grammar.is_space, Laws.PrefixEndsBetweenCharacters, Cut.is_following_byte, Cut.IsCharacter, CutLaws.PassesOneCharacter}
+use Rattle.mime.proofs.{GrammarLemmas.Begun.Closed, GrammarLemmas.Begun.Begun, GrammarLemmas.Begun.in_type, GrammarLemmas.Begun.in_list, GrammarLemmas.Begun.in_quotes, GrammarLemmas.Begun.list_at, GrammarLemmas.Begun.grow, GrammarLemmas.Begun.walk, GrammarLemmas.Begun.walk_from, GrammarLemmas.Content.takes-high, GrammarLemmas.Viability.by_option, GrammarLemmas.Viability.whole_prefix-from_walk, GrammarLemmas.Viability.prefix_unique, GrammarLemmas.Viability.stop-from_walk, GrammarLemmas.Viability.dead-from_stop}
 use lib.Utf8.{scalars, scalar}
 
 -- a foreign byte: no token byte, no space and no delimiter
@@ -44,14 +44,7 @@ foreign-from_high b high = IsForeign-outside b (grind (arith, nat_tests))
 
 -- a byte past ASCII that an open quoted value doesn't take begins a character
 high-untaken : (begun : Begun) (b : ℕ) → IsOpen begun → grow begun b ≡ None → 128 ≤ b → 192 ≤ b
-high-untaken begun b quotes dead high =
-    takes-high (awaits_after false quotes.content) b
-    (untaken (continues quotes.content b) (b == quote_byte) _ _ (sym (ap (λ t. grow t b) quotes.is) ∙ dead)) high
-  where
-    untaken : (test other : Bool) (x y : BegunList)
-        → option_map (in_list quotes.top quotes.sub) (if test then Some x else (if other then Some y else None)) ≡ None → IsFalse test
-    untaken true other x y dead = absurd (none-some _ (sym dead))
-    untaken false other x y dead = refl
+high-untaken begun b quotes dead high = search (none-some, in_list, grow, takes-high, rules)
 
 -- ---- the prefix
 
@@ -116,23 +109,12 @@ following-low b follows = (grind (arith, nat_tests, follows), grind (arith, nat_
 
 -- a text may be cut after a character
 character-border : (c l : List ℕ) → IsCharacter c l → IsCharBoundary (c ++ l) (length c)
-character-border [] l one = absurd one
-character-border (a ∷ f) [] one =
-    (omega (arith, length-append (a ∷ f) []), λ within high. absurd (omega (arith, length-append (a ∷ f) [])))
-character-border (a ∷ f) (b ∷ l) one =
-    let there : get_or ((a ∷ f) ++ (b ∷ l)) (length (a ∷ f)) 0 ≡ b = get_or-append_seam (a ∷ f) b l 0 in (
-      omega (arith, length-append (a ∷ f) (b ∷ l)),
-      λ within high. grind (arith, nat_tests, one.1, there, high),
-    )
+character-border c l one = grind (arith, common_steps)
 
 -- between the bytes of a character a text may not be cut
 no-border : (b : ℕ) (f : List ℕ) (i : ℕ) → IsTrue (list_all is_following_byte f) → 1 ≤ i → i < length (b ∷ f)
     → IsCharBoundary (b ∷ f) i → ⊥
-no-border b f zero all above within border = absurd (omega arith)
-no-border b f (suc i) all above within border =
-    let low = following-low _ (AllPass-from_list_all is_following_byte f all i 0 (omega arith)) in
-    let high = border.1 within low.0 in
-    omega (arith, low.1, high)
+no-border b f i all above within border = grind (arith, common_steps)
 
 -- the bytes of a character in valid UTF-8 are one character
 single : (c l : List ℕ) → IsCharacter c l → IsUtf8 c → (char : ℕ) × IsScalar char × (c ≡ encode_utf8 char)

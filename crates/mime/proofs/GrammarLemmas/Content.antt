@@ -151,9 +151,7 @@ takes_all-any true (b ∷ run) all =
 
 -- a quote after a letter closes the value
 pub closed-letter : (content : List ℕ) → IsFalse (continues (content ++ 120 ∷ []) quote_byte)
-closed-letter content =
-    takes-quote (awaits_after false (content ++ 120 ∷ [])) ∙ awaits_after-append false content (120 ∷ [])
-    ∙ elim (awaits_after false content) as (λ a. awaits_next a 120 ≡ false) [ true ↦ refl | false ↦ refl ]
+closed-letter content = search (takes-quote, awaits_after-append, rules)
 
 -- ---- lowercasing
 

@@ -1,9 +1,9 @@
 -- What a walk says of its text: which tree spells it, and that no other does.
 use Rattle.std.proofs.Common.{◌≡◌, ℕ, List, [], ◌∷◌, ◌++◌, Some, None, refl, sym, ap, ◌∙◌, append-nil, rules}
 use Rattle.std.proofs.{lemmas.Bool.cond-false, lemmas.Option.same_Some, lemmas.Option.none-some, lemmas.Option.MatchOption-at_some}
-use Rattle.std.specs.Option.{option_and_then, option_map}
+use Rattle.std.specs.Option.{option_map}
 use Rattle.mime.specs.{Bytes.is_token_byte, Bytes.slash_byte, Bytes.semicolon_byte, Bytes.equals_byte, Bytes.quote_byte, Grammar.Parameter, Grammar.plain, Grammar.quoted, Grammar.Parameters, Grammar.blank, Grammar.final, Grammar.more, Grammar.Tail, Grammar.no_list, Grammar.listed, Grammar.SyntaxTree, Grammar.AreSpaces, Grammar.text_of_parameter, Grammar.text_of_list, Grammar.text_of, Grammar.IsToken, Grammar.IsContent, Grammar.IsParameter, Grammar.AreParameters, Grammar.IsTail, Grammar.IsWellFormed, Values.MediaType, Values.value_of, Values.Reads, Values.IsAccepted, Values.IsRejected, Inner.Quoted.continues}
-use Rattle.mime.proofs.{GrammarLemmas.Content.content-taken, GrammarLemmas.Content.content-closed, GrammarLemmas.Begun.Closed, GrammarLemmas.Begun.Begun, GrammarLemmas.Begun.in_type, GrammarLemmas.Begun.in_subtype, GrammarLemmas.Begun.in_list, GrammarLemmas.Begun.BegunList, GrammarLemmas.Begun.ListState, GrammarLemmas.Begun.in_spaces, GrammarLemmas.Begun.in_name, GrammarLemmas.Begun.in_value, GrammarLemmas.Begun.in_quotes, GrammarLemmas.Begun.after_quotes, GrammarLemmas.Begun.begun_list, GrammarLemmas.Begun.list_at, GrammarLemmas.Begun.at_state, GrammarLemmas.Begun.close, GrammarLemmas.Begun.grow, GrammarLemmas.Begun.grow_list, GrammarLemmas.Begun.grow_state, GrammarLemmas.Begun.walk, GrammarLemmas.Begun.walk_from, GrammarLemmas.Begun.walk_list, GrammarLemmas.Begun.with_closed, GrammarLemmas.Begun.ended_list, GrammarLemmas.Begun.tree_of, GrammarLemmas.Begun.walk_by-step, GrammarLemmas.Begun.walk_by-append_some, GrammarLemmas.Begun.walk_from-in_list, GrammarLemmas.Begun.walk-type, GrammarLemmas.Begun.walk_from-subtype, GrammarLemmas.Begun.walk_list-spaces, GrammarLemmas.Begun.walk_list-name, GrammarLemmas.Begun.walk_list-value, GrammarLemmas.Begun.walk_list-open, GrammarLemmas.Begun.walk_list-after_quotes, GrammarLemmas.Spelling.text_of_begun, GrammarLemmas.Spelling.walk_from-lengthens, GrammarLemmas.Spelling.tree_of-spelled}
+use Rattle.mime.proofs.{GrammarLemmas.Content.content-taken, GrammarLemmas.Content.content-closed, GrammarLemmas.Begun.Closed, GrammarLemmas.Begun.Begun, GrammarLemmas.Begun.in_type, GrammarLemmas.Begun.in_subtype, GrammarLemmas.Begun.in_list, GrammarLemmas.Begun.BegunList, GrammarLemmas.Begun.ListState, GrammarLemmas.Begun.in_spaces, GrammarLemmas.Begun.in_name, GrammarLemmas.Begun.in_value, GrammarLemmas.Begun.in_quotes, GrammarLemmas.Begun.after_quotes, GrammarLemmas.Begun.begun_list, GrammarLemmas.Begun.list_at, GrammarLemmas.Begun.at_state, GrammarLemmas.Begun.grow, GrammarLemmas.Begun.grow_list, GrammarLemmas.Begun.walk, GrammarLemmas.Begun.walk_from, GrammarLemmas.Begun.walk_list, GrammarLemmas.Begun.with_closed, GrammarLemmas.Begun.ended_list, GrammarLemmas.Begun.tree_of, GrammarLemmas.Begun.walk_by-step, GrammarLemmas.Begun.walk_by-append_some, GrammarLemmas.Begun.walk_from-in_list, GrammarLemmas.Begun.walk-type, GrammarLemmas.Begun.walk_from-subtype, GrammarLemmas.Begun.walk_list-spaces, GrammarLemmas.Begun.walk_list-name, GrammarLemmas.Begun.walk_list-value, GrammarLemmas.Begun.walk_list-open, GrammarLemmas.Begun.walk_list-after_quotes, GrammarLemmas.Spelling.text_of_begun, GrammarLemmas.Spelling.walk_from-lengthens, GrammarLemmas.Spelling.tree_of-spelled}
 
 -- a text that is walked to a complete tree is spelled by it
 pub accepted-from_walk : (text : List ℕ) (begun : Begun) (tree : SyntaxTree)
@@ -36,11 +36,6 @@ ended_list-begun_of closed (final n (plain name (v ∷ value))) fine = refl
 ended_list-begun_of closed (final n (quoted name content m)) fine = refl
 ended_list-begun_of closed (more n parameter rest) fine = ended_list-begun_of ((n, parameter) ∷ closed) rest fine.2
 
--- a semicolon ends a subtype
-grow-semicolon : (top sub : List ℕ) → IsToken sub → grow (in_subtype top sub) semicolon_byte ≡ Some (in_list top sub begun_list)
-unfolding is_token_byte
-grow-semicolon top sub token = search rules
-
 -- the walk over a name and its equals sign, after spaces
 walk_list-named : (closed : Closed) (n name rest : List ℕ) → IsToken name
     → walk_list (list_at closed (in_spaces n)) (name ++ (equals_byte ∷ rest)) ≡ walk_list (list_at closed (in_value n name [])) rest
@@ -70,15 +65,10 @@ walk_list-parameter closed n (quoted name content m) fine =
     walk_list-named closed n name (quote_byte ∷ (content ++ (quote_byte ∷ m))) fine.0
     ∙ walk_list-quoted closed n name content m fine.1 fine.2
 
--- a semicolon after a whole parameter closes it
-grow_state-closed : (closed : Closed) (n : List ℕ) (parameter : Parameter) → IsParameter parameter
-    → grow_state closed (state_of n parameter) semicolon_byte ≡ close closed n parameter
-unfolding is_token_byte
-grow_state-closed closed n parameter fine = search rules
-
 -- the walk over the text of a list
 walk_list-text : (closed : Closed) (list : Parameters) → AreParameters list
     → walk_list (list_at closed (in_spaces [])) (text_of_list list) ≡ Some (begun_of closed list)
+unfolding is_token_byte
 walk_list-text closed (blank n) fine = walk_list-spaces closed [] n fine
 walk_list-text closed (final n parameter) fine =
     walk_by-append_some grow_list (list_at closed (in_spaces [])) (list_at closed (in_spaces n)) n (text_of_parameter parameter)
@@ -88,7 +78,8 @@ walk_list-text closed (more n parameter rest) fine =
     n (text_of_parameter parameter ++ (semicolon_byte ∷ text_of_list rest)) (walk_list-spaces closed [] n fine.0)
     ∙ walk_by-append_some grow_list (list_at closed (in_spaces n)) (list_at closed (state_of n parameter))
     (text_of_parameter parameter) (semicolon_byte ∷ text_of_list rest) (walk_list-parameter closed n parameter fine.1)
-    ∙ ap (option_and_then (λ next. walk_list next (text_of_list rest))) (grow_state-closed closed n parameter fine.1)
+    ∙ walk_by-step grow_list (list_at closed (state_of n parameter)) (list_at ((n, parameter) ∷ closed) (in_spaces []))
+    semicolon_byte (text_of_list rest) (search rules)
     ∙ walk_list-text ((n, parameter) ∷ closed) rest fine.2
 
 -- the walk over a type and its slash
@@ -101,11 +92,12 @@ walk-slash (t ∷ top) rest token =
 -- the walk over a type, a subtype and the semicolon
 pub walk-head : (top sub rest : List ℕ) → IsToken top → IsToken sub
     → walk (top ++ (slash_byte ∷ (sub ++ (semicolon_byte ∷ rest)))) ≡ walk_from (in_list top sub begun_list) rest
+unfolding is_token_byte
 walk-head top sub rest top_token sub_token =
     walk-slash top (sub ++ (semicolon_byte ∷ rest)) top_token
     ∙ walk_by-append_some grow (in_subtype top []) (in_subtype top sub) sub (semicolon_byte ∷ rest)
     (walk_from-subtype top sub sub_token)
-    ∙ walk_by-step grow (in_subtype top sub) (in_list top sub begun_list) semicolon_byte rest (grow-semicolon top sub sub_token)
+    ∙ walk_by-step grow (in_subtype top sub) (in_list top sub begun_list) semicolon_byte rest (search rules)
 
 -- the text of a well-formed tree is walked to that tree
 walk-text_of : (tree : SyntaxTree) → IsWellFormed tree

@@ -1,6 +1,6 @@
 -- A walk spells what it walked: the text of a begun tree, and of the tree of a text that ends there.
-use Rattle.std.proofs.Common.{◌≡◌, ℕ, Bool, true, List, [], ◌∷◌, ◌++◌, Some, None, refl, sym, ap, ◌∙◌, subst, append_assoc, append-nil, rules}
-use Rattle.std.proofs.{lemmas.Bool.and_from, lemmas.Bool.cond_both, lemmas.List.Folds.list_all-append, lemmas.Option.same_Some, lemmas.Option.option_and_then_some, lemmas.Option.MatchOption-at_some}
+use Rattle.std.proofs.Common.{arith, ◌≡◌, ℕ, Bool, true, List, [], ◌∷◌, ◌++◌, Some, None, refl, sym, ap, ◌∙◌, subst, append_assoc, append-nil, rules}
+use Rattle.std.proofs.{lemmas.Bool.and_from, lemmas.Bool.cond_both, lemmas.List.Folds.list_all-append, lemmas.Option.same_Some, lemmas.Option.option_and_then_some, lemmas.Option.MatchOption-at_some, lemmas.Grind.common_steps}
 use Rattle.std.specs.Prelude.{IsTrue, IsFalse, MatchOption, if◌then◌else◌, ◌==◌}
 use Rattle.std.specs.{List.list_all, Option.option_map}
 use Rattle.mime.specs.{Bytes.is_token_byte, Bytes.slash_byte, Bytes.semicolon_byte, Bytes.equals_byte, Bytes.quote_byte, Grammar.quoted, Grammar.Parameters, Grammar.more, Grammar.listed, Grammar.is_space, Grammar.AreSpaces, Grammar.text_of_parameter, Grammar.text_of_list, Grammar.text_of, Grammar.AreTokenBytes, Grammar.IsToken, Grammar.IsContent, Grammar.IsParameter, Grammar.AreParameters, Grammar.IsWellFormed, Inner.Quoted.IsOpenContent, Inner.Quoted.continues}
@@ -70,8 +70,7 @@ list_all-push class xs b all passes = list_all-append class xs (b ∷ []) ∙ an
 
 -- a token with one more token byte is a token
 IsToken-push : (name : List ℕ) (b : ℕ) → IsToken name → IsTrue (is_token_byte b) → IsToken (name ++ (b ∷ []))
-IsToken-push [] b token passes = absurd token
-IsToken-push (c ∷ name) b token passes = list_all-push is_token_byte (c ∷ name) b token passes
+IsToken-push name b token passes = grind (arith, common_steps)
 
 -- how a list with a first byte is joined, for `simp`, which doesn't compute it
 pub cons-append : (b : ℕ) (xs ys : List ℕ) → (b ∷ xs) ++ ys ≡ b ∷ (xs ++ ys)

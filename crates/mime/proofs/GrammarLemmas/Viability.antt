@@ -47,9 +47,7 @@ pub walk_from-open : (top sub : List ℕ) (closed : Closed) (n name content more
     → IsTrue (takes_all (awaits_after false content) more)
     → walk_from (in_list top sub (list_at closed (in_quotes n name content))) more
     ≡ Some (in_list top sub (list_at closed (in_quotes n name (content ++ more))))
-walk_from-open top sub closed n name content more all =
-    walk_from-in_list top sub (list_at closed (in_quotes n name content)) more
-    ∙ ap (option_map (in_list top sub)) (walk_list-open closed n name content more all)
+walk_from-open top sub closed n name content more all = search (in_list, in_quotes, list_at, walk_from-in_list, walk_list-open, rules)
 
 -- a letter and a quote complete an open quoted value
 completes-open_quotes : (top sub : List ℕ) (closed : Closed) (n name content : List ℕ)
@@ -133,11 +131,7 @@ prefix_of_viable_is_viable prefix more viable = (more ++ viable.0, subst IsAccep
 
 -- the whole text is its prefix if it can be walked
 pub whole_prefix-from_walk : (text : List ℕ) (begun : Begun) → walk text ≡ Some begun → IsLongestPrefix text (length text)
-whole_prefix-from_walk text begun walked = record {
-  within = omega arith;
-  viable = subst IsViable (sym (take-length text)) (viable-from_walk text begun walked);
-  longest = λ n above within viable. absurd (omega arith);
-}
+whole_prefix-from_walk text begun walked = search (viable-from_walk, take-length, rules)
 
 -- the prefix ends before the first byte that leads nowhere
 pub prefix-from_walk : (prefix rest : List ℕ) (b : ℕ) (begun : Begun) → walk prefix ≡ Some begun → grow begun b ≡ None
@@ -166,10 +160,7 @@ prefix_unique text m n first second =
 -- the fault of a text that goes on with a byte that leads nowhere
 pub dead-from_walk : (prefix rest : List ℕ) (b : ℕ) (begun : Begun) → walk prefix ≡ Some begun → grow begun b ≡ None
     → IsFault (prefix ++ (b ∷ rest)) (InvalidToken (length prefix) b)
-dead-from_walk prefix rest b begun walked dead = record {
-  prefix = prefix-from_walk prefix rest b begun walked dead;
-  there = slice_get-prefix prefix b rest (length prefix) refl;
-}
+dead-from_walk prefix rest b begun walked dead = search (prefix-from_walk, slice_get-prefix, rules)
 
 -- a text with a byte at fault isn't viable
 pub not_viable-at_dead : (text : List ℕ) (pos byte : ℕ) → IsDeadAt text pos byte → ¬ (IsViable text)

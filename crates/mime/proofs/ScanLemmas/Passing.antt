@@ -1,5 +1,5 @@
 -- What a pass over a reader's bytes has given so far, one byte or one run more, and at its end.
-use Rattle.std.proofs.{lemmas.Grind.common_steps, lemmas.Bool.and_from, lemmas.List.Folds.list_all-append, lemmas.List.Sums.prefix_len-le-length, Math.Seq.drop-cons, lemmas.List.take-append-drop, lemmas.List.drop-drop, lemmas.List.length-take-le}
+use Rattle.std.proofs.{lemmas.Grind.common_steps, lemmas.Bool.and_from, lemmas.List.Folds.list_all-append, lemmas.List.Sums.prefix_len-le-length, lemmas.List.take-append-drop, lemmas.List.drop-drop, lemmas.List.length-take-le}
 use Rattle.std.proofs.Common.{◌≡◌, ℕ, zero, suc, get_or, ◌+◌, ◌-◌, ◌<◌, Bool, true, false, cond, eqb, List, [], ◌∷◌, ◌++◌, length, Option, Some, None, refl, sym, ap, ◌∙◌, subst, arith, append-nil, length-append, take, drop, ◌≤◌, rules}
 use Rattle.std.specs.Prelude.{IsTrue, IsFalse, ◌&&◌, MatchOption}
 use Rattle.std.specs.{List.list_all, List.prefix_len, Option.option_eq}
@@ -64,11 +64,7 @@ passing_skip class text at to before within least most =
 -- The byte at a reader's position is given.
 pub gives_at : (text : List ℕ) (at before : ℕ) → at < length text
     → GivesFirst (reader_at text at before) (reader_at text (at + 1) before) (Some (get_or text at 0))
-gives_at text at before room =
-    let next : at + 1 ≡ suc at = omega arith in (
-      record { bytes = drop-cons text at 0 room ∙ ap (λ m. get_or text at 0 ∷ drop m text) (sym next); counted = omega arith },
-      tt,
-    )
+gives_at text at before room = grind (arith, common_steps)
 
 -- nothing was skipped
 pub passing_none : (class : ℕ → Bool) (now : Remaining) → Passing class now now

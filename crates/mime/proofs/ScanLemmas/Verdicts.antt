@@ -2,7 +2,7 @@
 use Rattle.std.proofs.Common.{◌≡◌, ℕ, ◌+◌, ◌-◌, List, [], ◌∷◌, ◌++◌, length, Option, Some, None, MatchOption, refl, ap, ◌∙◌, arith, append-nil, rules}
 use Rattle.std.specs.Option.{option_map}
 use Rattle.std.proofs.lemmas.List.{take_at}
-use Rattle.mime.specs.{Grammar.Parameter, Grammar.Parameters, Grammar.more, Grammar.listed, Grammar.SyntaxTree, Grammar.text_of, Values.pairs_of_list, Values.IsRejected, Inner.Remaining.Remaining, Inner.Scanning.Given, Inner.Scanning.positions_of, Inner.Scanning.HasPositions, Inner.Scanning.StopsAt, Inner.Scanning.Judges, Inner.Scanning.before_list, Inner.Scanning.ScansList, Inner.Scanning.Scans, declared.scan.Positions.Positions, declared.scan.fault.ParseError.ParseError, declared.scan.Scanned.Scanned, declared.scan.Scanned.TheVariants.Accepted, declared.scan.Scanned.TheVariants.Unfinished, declared.scan.Scanned.TheVariants.Stopped, declared.scan.Scanned.TheVariants.Followed}
+use Rattle.mime.specs.{Grammar.Parameter, Grammar.Parameters, Grammar.more, Grammar.SyntaxTree, Grammar.text_of, Values.pairs_of_list, Values.IsRejected, Inner.Remaining.Remaining, Inner.Scanning.Given, Inner.Scanning.positions_of, Inner.Scanning.HasPositions, Inner.Scanning.StopsAt, Inner.Scanning.Judges, Inner.Scanning.before_list, Inner.Scanning.ScansList, Inner.Scanning.Scans, declared.scan.Positions.Positions, declared.scan.fault.ParseError.ParseError, declared.scan.Scanned.Scanned, declared.scan.Scanned.TheVariants.Accepted, declared.scan.Scanned.TheVariants.Unfinished, declared.scan.Scanned.TheVariants.Stopped, declared.scan.Scanned.TheVariants.Followed}
 use Rattle.mime.proofs.{GrammarLemmas.Begun.Begun, GrammarLemmas.Begun.in_type, GrammarLemmas.Begun.in_list, GrammarLemmas.Begun.BegunList, GrammarLemmas.Begun.begun_list, GrammarLemmas.Begun.grow, GrammarLemmas.Begun.grow_list, GrammarLemmas.Begun.walk, GrammarLemmas.Begun.walk_from, GrammarLemmas.Begun.walk_list, GrammarLemmas.Begun.with_closed, GrammarLemmas.Begun.list_at_end, GrammarLemmas.Begun.tree_of, GrammarLemmas.Begun.lacking, GrammarLemmas.Begun.lacking_list, GrammarLemmas.Begun.walk_by-append_some, GrammarLemmas.Begun.walk_from-in_list, ScanLemmas.Passing.given_then, ScanLemmas.Passing.given_whole, GrammarLemmas.Readings.accepted-from_walk, GrammarLemmas.Readings.rejected-from_walk, GrammarLemmas.Readings.walk-head, GrammarLemmas.Viability.lacks-from_walk, GrammarLemmas.Viability.viable-from_walk, GrammarLemmas.Viability.dead-from_walk, GrammarLemmas.Faults.fault-from_lacks}
 
 -- ---- what was walked
@@ -117,16 +117,7 @@ positions_of_list before list =
 -- the positions of a text that ends in a list are those of its tree
 positions_of_list-tree : (top sub : List ℕ) (list : BegunList)
     → positions_of_list (positions_of (before_list top sub)) list ≡ option_map positions_of (tree_of (in_list top sub list))
-positions_of_list-tree top sub list = at_end (list_at_end list.position)
-  where
-    at_end : (end : Option Parameters) → option_map
-        (λ rest. record (positions_of (before_list top sub)) { pair_count = 0 + (length list.closed + length (pairs_of_list rest)) }) end
-        ≡ option_map positions_of
-        (option_map (λ rest. record { top = top; sub = sub; tail = listed rest }) (option_map (with_closed list.closed) end))
-    at_end None = refl
-    at_end (Some rest) =
-        ap (λ n. Some (record (positions_of (before_list top sub)) { pair_count = n }))
-        (omega (arith, length-with_closed list.closed rest))
+positions_of_list-tree top sub list = search (length-with_closed, with_closed, list_at_end, rules)
 
 -- the scanner's answer on a list where it stops
 pub list_scans_at : {before : Positions} {old new : Remaining} {stop : Option ℕ} {list : BegunList} (positions : Option Positions)

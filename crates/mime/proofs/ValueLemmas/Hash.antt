@@ -1,6 +1,6 @@
 -- What values feed a hasher is prefix-free: the byte 255 ends each part, and no part has it.
 use Rattle.std.proofs.{lemmas.Grind.common_steps, lemmas.Bool.and_parts, lemmas.Bool.and_from, lemmas.Bool.Decides.nat_tests, lemmas.List.Concat.flat_map-cons, lemmas.List.Folds.concat-append, lemmas.List.Folds.list_all-append, lemmas.Bool.cases_lt, lemmas.Str.encode_ascii}
-use Rattle.std.proofs.Common.{◌≡◌, ℕ, List, [], ◌∷◌, ◌++◌, refl, sym, ap, ◌∙◌, arith, true, subst, append-nil, append_assoc, ⊎_elim}
+use Rattle.std.proofs.Common.{◌≡◌, ℕ, List, [], ◌∷◌, ◌++◌, refl, sym, ap, ◌∙◌, arith, true, subst, append-nil, append_assoc, ⊎_elim, rules}
 use Rattle.mime.specs.{Inner.HashInput.pair_input, Inner.HashInput.media_input, Bytes.is_token_byte, Bytes.slash_byte, Grammar.Parameter, Grammar.plain, Grammar.quoted, Grammar.Parameters, Grammar.blank, Grammar.final, Grammar.more, Grammar.no_list, Grammar.listed, Grammar.AreTokenBytes, Grammar.IsParameter, Grammar.AreParameters, Grammar.IsTail, Grammar.text_of_parameter, Grammar.text_of_list, Grammar.text_of_tail, Values.MediaType, Values.lowered, Values.lowered_parameter, Values.lowered_list, Values.lowered_tail, Values.pair_of, Values.pairs_of_list, Values.pairs_of_tail, HashLaws.IsReadInUtf8, HashLaws.IsPrefixFree}
 use Rattle.std.specs.Prelude.{IsUtf8}
 use Rattle.std.specs.List.{list_all, flat_map, concat, AllByRecursion}
@@ -120,11 +120,7 @@ fed_pairs_bytes (pair ∷ pairs) =
 -- a value feeds the bytes of its pairs, its essence, and the byte 255
 media_bytes : (media : MediaType) (after : List ℕ)
     → concat (media_input media) ++ after ≡ flat_map pair_bytes media.pairs ++ (media.essence ++ (255 ∷ after))
-media_bytes media after =
-    rw (
-      concat-append (flat_map pair_input media.pairs) (media.essence ∷ (255 ∷ []) ∷ []),
-      fed_pairs_bytes media.pairs,
-    ) (simp append_assoc)
+media_bytes media after = search (fed_pairs_bytes, concat-append, append_assoc, rules)
 
 -- the bytes of pairs, and what follows them
 more_bytes : (pair : List ℕ × List ℕ) (pairs : List (List ℕ × List ℕ)) (after : List ℕ)

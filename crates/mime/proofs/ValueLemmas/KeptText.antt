@@ -1,7 +1,7 @@
 -- The kept text of an accepted text, and the value of a kept text.
-use Rattle.std.proofs.Common.{◌≡◌, ◌≢◌, ℕ, zero, suc, ◌+◌, List, [], ◌∷◌, ◌++◌, length, take, drop, Option, None, Some, refl, sym, ap, ◌∙◌, subst, arith, append-nil, append_assoc, length-append}
+use Rattle.std.proofs.Common.{◌≡◌, ◌≢◌, ℕ, zero, suc, ◌+◌, List, ◌∷◌, ◌++◌, length, take, drop, Option, None, Some, refl, sym, ap, ◌∙◌, subst, arith, append-nil, append_assoc, length-append, rules}
 use Rattle.std.specs.Prelude.{slice_get}
-use Rattle.std.proofs.lemmas.List.{take_at, drop_at, take_all, take-append-drop}
+use Rattle.std.proofs.{lemmas.List.take_at, lemmas.List.drop_at, lemmas.List.take_all, lemmas.List.take-append-drop, lemmas.Grind.common_steps}
 use Rattle.mime.specs.{Bytes.slash_byte, Bytes.semicolon_byte, Grammar.Parameters, Grammar.blank, Grammar.final, Grammar.more, Grammar.Tail, Grammar.no_list, Grammar.listed, Grammar.SyntaxTree, Grammar.text_of, Grammar.text_of_tail, Grammar.text_of_list, Grammar.AreParameters, Grammar.IsTail, Grammar.IsWellFormed, Values.MediaType, Values.Reads, Values.value_of, Values.essence_of, Values.kept_text, Values.lowered, Values.lowered_tree, Values.last_plus, Values.pairs_of_list, Values.pairs_of_tail, Inner.Pairs.pairs_within, Inner.Pairs.lowered_within, Inner.Scanning.HasPositions, Inner.Scanning.positions_of, Inner.Scanning.semicolon_of, Inner.Scanning.before_list, Inner.KeptText.media_of, Inner.KeptText.IsKept, Inner.KeptText.with_pairs_lowered, Inner.KeptText.kept_text_of, Inner.KeptText.kept_positions, declared.scan.Positions.Positions}
 use Rattle.mime.proofs.{BytesLemmas.slice_get-prefix, LowercaseLemmas.lowered-append, LowercaseLemmas.lowered_tree-lowered_tree, LowercaseLemmas.IsWellFormed-lowered_tree, LowercaseLemmas.positions_of-lowered_tree, ValueLemmas.Utf8.IsLoweredInPart, ValueLemmas.Utf8.length-in_part, ValueLemmas.Utf8.lowercase, ValueLemmas.Utf8.in_parts, ValueLemmas.Pairs.lowered_within-in_part, ValueLemmas.ListText.pairs_within-text_of_list, ValueLemmas.ListText.lowered_within-text_of_list}
 use Rattle.mime_search.proofs.IgnoringCase.{length-lowered}
@@ -20,9 +20,7 @@ length-essence_of tree = omega (arith, length-append tree.top (slash_byte ∷ tr
 
 -- the essence is the text before that position
 pub take-essence : (tree : SyntaxTree) → take (length tree.top + 1 + length tree.sub) (text_of tree) ≡ essence_of tree
-take-essence tree =
-    ap (take (length tree.top + 1 + length tree.sub)) (text_of-essence tree)
-    ∙ take_at (essence_of tree) (text_of_tail tree.tail) _ (length-essence_of tree)
+take-essence tree = search (text_of-essence, length-essence_of, take_at, rules)
 
 -- a text is its head, which ends in the semicolon, and the rest
 semicolon_split : (top sub after : List ℕ)
@@ -31,8 +29,7 @@ semicolon_split top sub after = simp append_assoc
 
 -- the length of the head
 pub length-before_list : (top sub : List ℕ) → length (text_of (before_list top sub)) ≡ length top + 1 + length sub + 1
-length-before_list top sub =
-    omega (arith, length-append top (slash_byte ∷ (sub ++ (semicolon_byte ∷ []))), length-append sub (semicolon_byte ∷ []))
+length-before_list top sub = grind (arith, common_steps)
 
 -- the head of a text
 take-to_semicolon : (top sub after : List ℕ)
@@ -87,13 +84,7 @@ whole_text : (top sub : List ℕ) (list : Parameters) → AreParameters list →
     ≡ lowered (take (length top + 1 + length sub + 1) (text_of (tree_with top sub (listed list))))
     ++ lowered_within (length (pairs_of_list list)) (drop (length top + 1 + length sub + 1) (text_of (tree_with top sub (listed list))))
 whole_text top sub list well =
-    rw (
-      take-to_semicolon top sub (text_of_list list),
-      drop-to_semicolon top sub (text_of_list list),
-      lowered_within-text_of_list list well,
-      lowered-append top (slash_byte ∷ (sub ++ (semicolon_byte ∷ []))),
-      lowered-append sub (semicolon_byte ∷ []),
-    ) (simp append_assoc)
+    search (take-to_semicolon, drop-to_semicolon, append_assoc, lowered-append, lowered_within-text_of_list, rules)
 
 -- the lowercased text of a tree without a list: the essence lowercased
 essence_text : (top sub text : List ℕ) → text ≡ top ++ (slash_byte ∷ sub)
@@ -145,11 +136,7 @@ media_parts top sub (listed (more n p rest)) well holds = media_whole top sub (m
 -- the value of a kept text's tree is that of its positions
 pub media_of-kept : (text : List ℕ) (positions : Positions) (is_kept : IsKept text positions)
     → value_of is_kept.has.tree ≡ media_of text positions
-media_of-kept text positions is_kept =
-    let tree = is_kept.has.tree in
-    let kept = subst (λ p. kept_positions p ≡ p) (sym is_kept.has.same_positions) is_kept.kept in
-    value_of-lowering tree ∙ ap value_of_low is_kept.low ∙ media_parts tree.top tree.sub tree.tail is_kept.has.well_formed.2 kept
-    ∙ cc (is_kept.has.spelled, is_kept.has.same_positions)
+media_of-kept text positions is_kept = search (value_of-lowering, media_parts, rules)
 
 -- an accepted text reads as its tree's value
 pub reads_as : {text : List ℕ} {positions : Positions} {value : MediaType} (has : HasPositions text positions)
@@ -173,9 +160,7 @@ at_tree P text positions has here = subst (λ x. P x positions) has.spelled (sub
 -- an accepted text keeps its tree
 keeps-accepted : (text : List ℕ) (positions : Positions) (has : HasPositions text positions)
     → Keeps has.tree (kept_text_of positions.pair_count positions.semicolon text) (kept_positions positions)
-keeps-accepted text positions has =
-    at_tree (λ t p. Keeps has.tree (kept_text_of p.pair_count p.semicolon t) (kept_positions p)) text positions has
-    (keeps-tree has.tree has.well_formed)
+keeps-accepted text positions has = search (keeps-tree, at_tree, rules)
 
 -- the kept text of an accepted text is kept
 pub kept-from_positions : (text : List ℕ) (positions : Positions) → HasPositions text positions
@@ -207,9 +192,7 @@ semicolon-there top sub (listed list) s is =
 -- an accepted text has a semicolon where its positions say so
 pub slice_get-semicolon : (text : List ℕ) (positions : Positions) (s : ℕ) → HasPositions text positions
     → positions.semicolon ≡ Some s → slice_get text s ≡ Some semicolon_byte
-slice_get-semicolon text positions s has is =
-    at_tree (λ t q. q.semicolon ≡ Some s → slice_get t s ≡ Some semicolon_byte) text positions has
-    (semicolon-there has.tree.top has.tree.sub has.tree.tail s) is
+slice_get-semicolon text positions s has is = search (at_tree, semicolon-there, rules)
 
 -- the kept text of a text with a pair is that text with some parts lowercased
 pub kept-in_part : (count s : ℕ) (text : List ℕ) → IsLoweredInPart text (with_pairs_lowered count s text)

@@ -1,5 +1,5 @@
 -- The first name of a list, found by its length: no equals sign is in it, and one follows it, or the end of the list.
-use Rattle.std.proofs.Common.{⊎_elim, ◌≡◌, ◌≢◌, ℕ, suc, ◌<◌, ◌≤◌, true, false, List, [], ◌∷◌, length, get_or, refl, sym, ap, ◌∙◌, arith, take, subst}
+use Rattle.std.proofs.Common.{⊎_elim, ◌≡◌, ◌≢◌, ℕ, suc, ◌<◌, ◌≤◌, true, false, List, [], ◌∷◌, length, get_or, refl, sym, ap, ◌∙◌, arith, take, subst, rules}
 use Rattle.std.specs.Prelude.{◌==◌, not}
 use Rattle.std.specs.Char.{to_ascii_lowercase}
 use Rattle.std.proofs.{lemmas.Bool.Decides.nat_tests, lemmas.List.Sums.prefix_len_passes, lemmas.List.Sums.prefix_len_stops, lemmas.List.Folds.length-prefix_len, lemmas.List.Folds.list_any_at, lemmas.List.get_or-take, lemmas.List.length-take, lemmas.Bool.cases_Bool, lemmas.Bool.cases_lt, lemmas.Bool.eqb-true, lemmas.Bool.true≢false}
@@ -9,12 +9,7 @@ use Rattle.mime.proofs.{LowercaseLemmas.length-lowered, ValueLemmas.Pairs.cut_of
 
 -- An equals sign isn't before the first one.
 pub first_equals-le : (text : List ℕ) (n : ℕ) → get_or text n 0 ≡ equals_byte → first_position equals_byte text ≤ n
-first_equals-le text n is = ⊎_elim
-    (λ (before : n < first_position equals_byte text).
-    absurd (true≢false (sym (subst (λ b. not (b == equals_byte) ≡ true) is
-    (prefix_len_passes (λ b. not (b == equals_byte)) text n 0 before)))))
-    (λ (after : first_position equals_byte text ≤ n). after)
-    (cases_lt n (first_position equals_byte text))
+first_equals-le text n is = search (prefix_len_passes, cases_lt, true≢false, rules)
 
 -- The byte at the first position of an equals sign is one, unless the text ends.
 get_or-first_equals : (text : List ℕ) → first_position equals_byte text < length text
@@ -50,9 +45,7 @@ has_equals-before (b ∷ text) = ⊎_elim
 -- A name that is a text but for case is as long as the text.
 pub first_equals-named : (list text : List ℕ) → lowered (cut_of list).name ≡ lowered text
     → first_position equals_byte (without_spaces list) ≡ length text
-first_equals-named list text is =
-    sym (length-prefix_len (λ b. not (b == equals_byte)) (without_spaces list)) ∙ ap length (cut_of-name list _ refl)
-    ∙ sym (length-lowered (cut_of list).name) ∙ ap length is ∙ length-lowered text
+first_equals-named list text is = search (length-prefix_len, length-lowered, cut_of-name, rules)
 
 -- A text that is a list's first name but for case has no equals sign.
 pub has_equals-named : (list text : List ℕ) → lowered (cut_of list).name ≡ lowered text → has_equals text ≡ false

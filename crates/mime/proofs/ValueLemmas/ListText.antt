@@ -1,6 +1,6 @@
 -- The pairs cut from the text of a well-formed parameter list are its pairs, and lowercasing them lowercases the list.
 use Rattle.std.proofs.{lemmas.Grind.common_steps, lemmas.Bool.and_parts, lemmas.Bool.cond-true, lemmas.Bool.cond-false, lemmas.Bool.Decides.nat_tests, lemmas.List.take_at, lemmas.List.drop_at, lemmas.List.drop-drop, lemmas.List.take-append-drop}
-use Rattle.std.proofs.Common.{◌≡◌, ℕ, zero, suc, ◌+◌, ◌-◌, Bool, true, false, cond, List, [], ◌∷◌, ◌++◌, length, take, drop, refl, sym, ap, ◌∙◌, subst, arith, append-nil, append_assoc}
+use Rattle.std.proofs.Common.{rules, ◌≡◌, ℕ, zero, suc, ◌+◌, ◌-◌, Bool, true, false, List, [], ◌∷◌, ◌++◌, length, take, drop, refl, sym, ap, ◌∙◌, subst, arith, append-nil, append_assoc}
 use Rattle.std.specs.Prelude.{◌==◌}
 use Rattle.std.specs.{List.list_all, List.prefix_len, Char.to_ascii_lowercase}
 use Rattle.mime.specs.{Bytes.is_token_byte, Bytes.semicolon_byte, Bytes.equals_byte, Bytes.quote_byte, Grammar.Parameter, Grammar.plain, Grammar.quoted, Grammar.Parameters, Grammar.blank, Grammar.final, Grammar.more, Grammar.text_of_list, Grammar.text_of_parameter, Grammar.is_space, Grammar.AreSpaces, Grammar.AreTokenBytes, Grammar.IsToken, Grammar.IsContent, Grammar.AreParameters, Grammar.IsParameter, Values.lowered, Values.lowered_value, Values.is_charset, Values.lowered_parameter, Values.lowered_list, Values.pair_of, Values.pairs_of_list, Inner.Quoted.content_len, Inner.Quoted.content_of, Inner.Quoted.after_content, Inner.Pairs.PairCut, Inner.Pairs.cut_after_equals, Inner.Pairs.leading_spaces, Inner.Pairs.without_spaces, Inner.Pairs.cut_of, Inner.Pairs.last_cut, Inner.Pairs.pairs_within, Inner.Pairs.lowered_within, Inner.ComparedText.IsLoneCharset, Inner.KeptText.with_pairs_lowered}
@@ -41,8 +41,7 @@ drop_past byte run follow rest n follows long =
     sym (drop-drop 1 n (run ++ follow)) ∙ ap (drop 1) (drop_at run follow n long) ∙ past follow rest follows
   where
     past : (follow rest : List ℕ) → IsFollow byte follow rest → drop 1 follow ≡ rest
-    past follow rest nothing = refl
-    past follow rest (ended _) = refl
+    past follow rest follows = search rules
 
 -- the text after it
 pub after_byte-run : (byte : ℕ) (run follow rest : List ℕ) → list_all (is_other byte) run ≡ true → IsFollow byte follow rest
@@ -120,8 +119,7 @@ end_of (quoted name content n) = quote_byte ∷ n
 -- the text of a parameter in its parts
 text_of_parameter-parts : (p : Parameter) (after : List ℕ)
     → text_of_parameter p ++ after ≡ head_of p ++ ((pair_of p).1 ++ (end_of p ++ after))
-text_of_parameter-parts (plain name value) after = simp append_assoc
-text_of_parameter-parts (quoted name content n) after = simp append_assoc
+text_of_parameter-parts p after = grind (arith, common_steps)
 
 -- A value begins at this position, counted from the list's end.
 head_counted : (n name opening after : List ℕ)
@@ -170,8 +168,7 @@ lowered-spaces (b ∷ bytes) white =
 lowered_parameter-parts : (p : Parameter) (after : List ℕ)
     → lowered (head_of p) ++ (lowered_value (pair_of p).0 (pair_of p).1 ++ (end_of p ++ after))
     ≡ text_of_parameter (lowered_parameter p) ++ after
-lowered_parameter-parts (plain name value) after = rw (lowered-append name (equals_byte ∷ [])) (simp append_assoc)
-lowered_parameter-parts (quoted name content n) after = rw (lowered-append name (equals_byte ∷ quote_byte ∷ [])) (simp append_assoc)
+lowered_parameter-parts p after = grind (arith, common_steps)
 
 -- a list lowercased pair by pair: its first parameter, and then the rest
 lowered_within-parameter : (count : ℕ) (n : List ℕ) (p : Parameter) (rest : List ℕ) → AreSpaces n → IsParameter p
@@ -196,12 +193,7 @@ lowered_within-parameter count n p rest white well =
 -- Under any name, lowercasing changes nothing around a value.
 lowered_value-around : (name prefix value back : List ℕ) → lowered prefix ≡ prefix → lowered back ≡ back
     → lowered_value name (prefix ++ (value ++ back)) ≡ prefix ++ (lowered_value name value ++ back)
-lowered_value-around name prefix value back before after =
-    elim (is_charset name) as (λ charset. cond charset (lowered (prefix ++ (value ++ back))) (prefix ++ (value ++ back))
-    ≡ prefix ++ (cond charset (lowered value) value ++ back)) [
-      | true ↦ rw (lowered-append prefix (value ++ back), lowered-append value back, before, after) refl
-      | false ↦ refl
-    ]
+lowered_value-around name prefix value back before after = grind (arith, common_steps)
 
 -- The last pair is lowercased up to the equals sign after its name, and what follows it is under `charset`.
 lowered_last-named : (n name after : List ℕ) → AreSpaces n → IsToken name
@@ -255,12 +247,12 @@ lowered_within-text_of_list (more n p (final m q)) (white, well, others) =
     ∙ ap (λ x. n ++ (text_of_parameter (lowered_parameter p) ++ (semicolon_byte ∷ x))) (lowered_within-text_of_list (final m q) others)
 lowered_within-text_of_list (more n p (more m q rest)) (white, well, others) =
     lowered_within-parameter _ n p (text_of_list (more m q rest)) white well
-    ∙ ap (λ x. n ++ (text_of_parameter (lowered_parameter p) ++ (semicolon_byte ∷ x))) (lowered_within-text_of_list (more m q rest) others)
+    ∙ ap (λ x. n ++ (text_of_parameter (lowered_parameter p) ++ (semicolon_byte ∷ x)))
+    (lowered_within-text_of_list (more m q rest) others)
 
 -- A list whose only pair is a charset is lowercased as a whole.
-lone_charset-lowered : (count : ℕ) (list : List ℕ) → IsLoneCharset (pairs_within count list) → lowered list ≡ lowered_within count list
-lone_charset-lowered zero list (name, content, only, is) = absurd cc
-lone_charset-lowered (suc (suc n)) list (name, content, only, is) = absurd cc
+lone_charset-lowered : (count : ℕ) (list : List ℕ) → IsLoneCharset (pairs_within count list)
+    → lowered list ≡ lowered_within count list
 lone_charset-lowered (suc zero) list (name, content, only, is) =
     let cut = last_cut list in
     let lies = last_cut-lies list in
@@ -270,6 +262,7 @@ lone_charset-lowered (suc zero) list (name, content, only, is) =
     ap lowered (lies.parts ∙ ap (λ x. lies.prefix ++ x) (append-nil cut.value)) ∙ lowered-append lies.prefix cut.value
     ∙ sym (lowered_within-first 0 list lies ∙ append-nil (lowered lies.prefix ++ (lowered_value cut.name cut.value ++ []))
     ∙ ap (λ x. lowered lies.prefix ++ x) (append-nil (lowered_value cut.name cut.value) ∙ low))
+lone_charset-lowered count list (name, content, only, is) = absurd cc
 
 -- A text that such a list ends is lowercased as a whole.
 pub lone_charset-text : (count semicolon : ℕ) (text : List ℕ) → IsLoneCharset (pairs_within count (drop (semicolon + 1) text))

@@ -1,8 +1,8 @@
 -- A text lowercased from its start on, range by range and pair by pair.
-use Rattle.std.proofs.{lemmas.Grind.common_steps, lemmas.Bool.cond_both, lemmas.List.take_at, lemmas.List.drop_at, lemmas.List.drop-drop, lemmas.List.drop_all, lemmas.List.take-append-drop, lemmas.List.take_rest, lemmas.List.length-take-le, lemmas.List.take-take, Math.Seq.take-add}
-use Rattle.std.proofs.Common.{◌≡◌, ℕ, zero, suc, ◌+◌, ◌-◌, ◌<◌, ◌≤◌, Bool, true, false, cond, List, [], ◌++◌, length, drop, refl, sym, ap, ◌∙◌, arith, append-nil, append_assoc, length-append, take, slice_range, length-drop}
+use Rattle.std.proofs.{lemmas.Grind.common_steps, lemmas.List.take_at, lemmas.List.drop_at, lemmas.List.drop-drop, lemmas.List.drop_all, lemmas.List.take-append-drop, lemmas.List.take_rest, lemmas.List.length-take-le, lemmas.List.take-take, Math.Seq.take-add}
+use Rattle.std.proofs.Common.{◌≡◌, ℕ, suc, ◌+◌, ◌-◌, ◌<◌, ◌≤◌, Bool, true, false, cond, List, [], ◌++◌, length, drop, refl, sym, ap, ◌∙◌, arith, append-nil, append_assoc, length-append, take, slice_range, length-drop, rules}
 use Rattle.mime.specs.{Values.lowered, Values.is_charset, Inner.KeptText.with_pairs_lowered, Inner.Pairs.PairCut, Inner.Pairs.cut_before, Inner.Pairs.lowered_within}
-use Rattle.mime.proofs.{ValueLemmas.Pairs.lowered_within-first, ValueLemmas.Pairs.LiesIn, ValueLemmas.Pairs.cut_before-lies, ValueLemmas.Pairs.cut-within, ValueLemmas.Pairs.first_lowered, LowercaseLemmas.lowered-append, LowercaseLemmas.lowered-lowered}
+use Rattle.mime.proofs.{ValueLemmas.Pairs.lowered_within-first, ValueLemmas.Pairs.LiesIn, ValueLemmas.Pairs.cut_before-lies, ValueLemmas.Pairs.first_lowered, LowercaseLemmas.lowered-append, LowercaseLemmas.lowered-lowered}
 use Rattle.mime_search.proofs.IgnoringCase.{length-lowered, lowered-take, lowered-drop}
 use borrow.Rule.Slice.PartMut.{put_mid}
 
@@ -37,12 +37,9 @@ lowered_part : (list prefix back : List ℕ) (k : ℕ) → list ≡ prefix ++ ba
 lowered_part list prefix back k parts size = grind (arith, common_steps)
 
 -- a first value ends within a list
-pub low_within : (list value : List ℕ) (cut : PairCut) (start low : ℕ) (charset : Bool) → LiesIn list cut → start ≡ cut.value_start
-    → value ≡ cut.value → low ≡ cond charset (length value) 0 → start + low ≤ length list
-low_within list value cut start low charset lies starts values is =
-    let short : low ≤ length value =
-    rw is (cond_both charset (length value) 0 (λ n. n ≤ length value) (λ _. omega arith) (λ _. omega arith)) in
-    omega (arith, starts, short, ap length values, cut-within list cut lies)
+pub low_within : (list value : List ℕ) (cut : PairCut) (start low : ℕ) (charset : Bool) → LiesIn list cut
+    → start ≡ cut.value_start → value ≡ cut.value → low ≡ cond charset (length value) 0 → start + low ≤ length list
+low_within list value cut start low charset lies starts values is = grind (arith, common_steps)
 
 -- a list is lowercased up to its first value, and with it under `charset`
 pub lowered_first-start : (list : List ℕ) (cut : PairCut) (lies : LiesIn list cut) (low : ℕ)
@@ -72,22 +69,12 @@ pub record IsLoweredTo (bytes left : List ℕ) (from count : ℕ) (whole : List 
 -- nothing is done
 pub lowered_to-none : (bytes text list : List ℕ) (semicolon left count : ℕ) → bytes ≡ text → list ≡ drop (semicolon + 1) text
     → left ≡ count → 0 < count → IsLoweredTo bytes list 0 left (with_pairs_lowered count semicolon text)
-lowered_to-none bytes text list semicolon left count same end counts some =
-    let from = semicolon + 1 in
-    record {
-      done = [];
-      between = take from text;
-      parts = same ∙ sym (take-append-drop from text) ∙ ap (λ x. take from text ++ x) (sym end);
-      at = refl;
-      comes = (λ i. lowered (take from text) ++ lowered_within (counts i) (end i));
-      none = λ is. absurd (omega (arith, is, counts, some));
-    }
+lowered_to-none bytes text list semicolon left count same end counts some = search (take-append-drop, rules)
 
 -- the sizes of these parts
 pub lowered_to-sizes : (bytes left : List ℕ) (from count : ℕ) (whole : List ℕ) (so_far : IsLoweredTo bytes left from count whole)
     → length bytes ≡ from + (length so_far.between + length left)
-lowered_to-sizes bytes left from count whole so_far =
-    omega (arith, so_far.at, ap length so_far.parts, length-append so_far.done (so_far.between ++ left), length-append so_far.between left)
+lowered_to-sizes bytes left from count whole so_far = grind (arith, common_steps)
 
 -- the next pair is lowercased, and what is before it
 pub lowered_to-more : (bytes left part rest : List ℕ) (from low count next : ℕ) (whole : List ℕ)
@@ -134,9 +121,3 @@ lowered_to-more bytes left part rest from low count next whole so_far counts low
           ∙ ap (λ m. lowered_within m left) (sym counts))) ∙ so_far.comes;
       none = λ _. refl;
     }
-
--- All pairs are lowercased.
-pub lowered_to-all : (bytes left : List ℕ) (from count : ℕ) (whole : List ℕ) → IsLoweredTo bytes left from count whole → count ≡ 0
-    → bytes ≡ whole
-lowered_to-all bytes left from zero whole so_far is = (rw (so_far.none refl) at so_far.parts) ∙ (rw (so_far.none refl) at so_far.comes)
-lowered_to-all bytes left from (suc count) whole so_far is = absurd cc

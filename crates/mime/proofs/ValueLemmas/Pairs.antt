@@ -128,13 +128,6 @@ unfolding cut_of
 cut_before-lies zero list = last_cut-lies list
 cut_before-lies (suc others) list = cut_value-lies list (before_byte equals_byte (without_spaces list)) _ (ends_after_equals list)
 
--- the first value and the rest don't overlap within the list
-pub cut-within : (list : List ℕ) (cut : PairCut) → LiesIn list cut → cut.value_start + length cut.value + length cut.rest ≤ length list
-cut-within list cut lies =
-    let size : length list ≡ length lies.prefix + (length cut.value + (length lies.middle + length cut.rest)) =
-    ap length lies.parts ∙ simp length-append in
-    omega (arith, size, lies.value_start)
-
 -- all before the rest, and the same with the first pair lowercased
 abbrev before_rest : (list : List ℕ) (cut : PairCut) → LiesIn list cut → List ℕ
 before_rest list cut lies = lies.prefix ++ (cut.value ++ lies.middle)
@@ -157,14 +150,11 @@ lowered_first-joined list cut lies =
 -- only capitals are made small
 first_lowered-in_part : (list : List ℕ) (cut : PairCut) (lies : LiesIn list cut)
     → IsLoweredInPart (before_rest list cut lies) (first_lowered list cut lies)
-first_lowered-in_part list cut lies =
-    in_parts _ _ _ _ (lowercase lies.prefix)
-    (in_parts _ _ _ _ (lowered_value-either (IsLoweredInPart cut.value) cut.name cut.value (same cut.value) (lowercase cut.value))
-    (same lies.middle))
+first_lowered-in_part list cut lies = search (lowered_value-either, same, lowercase, in_parts, rules)
 
 -- the list with its first pairs lowercased: the first, and then the others
-pub lowered_within-first : (count : ℕ) (list : List ℕ) (lies : LiesIn list (cut_before count list)) → let cut = cut_before count list in
-    lowered_within (suc count) list ≡ first_lowered list cut lies ++ lowered_within count cut.rest
+pub lowered_within-first : (count : ℕ) (list : List ℕ) (lies : LiesIn list (cut_before count list))
+    → let cut = cut_before count list in lowered_within (suc count) list ≡ first_lowered list cut lies ++ lowered_within count cut.rest
 lowered_within-first count list lies =
     let cut = cut_before count list in
     let size = length list - length cut.rest in
@@ -195,22 +185,16 @@ pub cut_of-part : {X : Type 0} (part : PairCut → X) (list name back : List ℕ
     → name ≡ before_byte equals_byte (without_spaces list) → back ≡ after_byte equals_byte (without_spaces list)
     → x ≡ part (cut_after_equals size name back) → x ≡ part (cut_of list)
 unfolding cut_of
-cut_of-part part list name back size x size_is name_is back_is is =
-    is ∙ (λ i. part (cut_after_equals (size_is i) (name_is i) (back_is i)))
+cut_of-part part list name back size x size_is name_is back_is is = grind (arith, common_steps)
 
 -- the cut of a list has the name before its first equals sign
 pub cut_of-name : (list name : List ℕ) → name ≡ before_byte equals_byte (without_spaces list) → name ≡ (cut_of list).name
 unfolding cut_of
-cut_of-name list name is =
-    let after = after_byte equals_byte (without_spaces list) in
-    let named : (cut_after_equals (length list) (before_byte equals_byte (without_spaces list)) after).name
-    ≡ before_byte equals_byte (without_spaces list) = search rules in
-    is ∙ sym named
+cut_of-name list name is = grind (arith, common_steps)
 
 -- if the first name isn't accepted, what is found in a list is what is found in the rest
 pub found-next : (Accepts : List ℕ → Bool → Type 0) (count : ℕ) (list : List ℕ) (found : Option (List ℕ × Bool))
     → count ≢ 0
     → ¬ (Accepts (cut_of list).name true) → IsFirstAccepted Accepts (items_of (pairs_within (count - 1) (cut_of list).rest)) found
     → IsFirstAccepted Accepts (items_of (pairs_within count list)) found
-found-next Accepts count list found some other rest =
-    rw (pairs_within-first count list some) (λ accepted. absurd (other accepted), λ _. rest)
+found-next Accepts count list found some other rest = grind (arith, common_steps)

@@ -53,9 +53,7 @@ plus_is_last text value reads =
 -- the slash lies in the essence
 pub slash_in : (text essence : List ℕ) (value : MediaType) → Reads text value → essence ≡ value.essence
     → slice_get essence value.slash ≡ Some slash_byte
-slash_in text essence value reads is =
-    let there = slice_get-prefix (lowered reads.tree.top) slash_byte (lowered reads.tree.sub) _ (sym (length-lowered reads.tree.top)) in
-    rw is (subst (λ (v : MediaType). slice_get v.essence v.slash ≡ Some slash_byte) reads.valued there)
+slash_in text essence value reads is = search (slice_get-prefix, length-lowered, rules)
 
 -- the plus lies in the essence, after the subtype's first byte
 pub record PlusIn (essence : List ℕ) (slash plus : ℕ) : Type 0 where
@@ -97,11 +95,7 @@ low_drop n text low = lowered-drop n text ∙ ap (drop n) low
 
 -- the essence of a value that was read
 pub read-low_essence : (text : List ℕ) (value : MediaType) → Reads text value → lowered value.essence ≡ value.essence
-read-low_essence text value reads =
-    let top = lowered reads.tree.top in
-    let sub = lowered reads.tree.sub in
-    subst (λ (v : MediaType). lowered v.essence ≡ v.essence) reads.valued
-    (lowered-append top (slash_byte ∷ sub) ∙ rw (lowered-lowered reads.tree.top, lowered-lowered reads.tree.sub) refl)
+read-low_essence text value reads = search (lowered-lowered, lowered-append, rules)
 
 -- lowercased pairs are low
 low_pairs : (pairs : List (List ℕ × List ℕ)) → AreLowPairs (map lowered_pair pairs)
@@ -160,7 +154,8 @@ same_from_text text other x y reads also is =
 
 -- Kept texts that are the same are kept texts of equal values.
 pub same_from_kept : (text other : List ℕ) (positions places : Positions) (first second : MediaType) → IsKept text positions
-    → IsKept other places → media_of text positions ≡ first → media_of other places ≡ second → text ≡ other → Same first second
+    → IsKept other places → media_of text positions ≡ first → media_of other places ≡ second → text ≡ other
+    → Same first second
 same_from_kept text other positions places first second kept also is there same =
     subst (Same first) there (subst (λ x. Same x (media_of other places)) is
     (same_from_text text other _ _ (reads-from_kept text positions kept) (reads-from_kept other places also) same))

@@ -1,5 +1,5 @@
 -- What reading a text answers, and that the constant media types are stored with their positions.
-use Rattle.std.proofs.Common.{◌≡◌, ℕ, List, [], ◌∷◌, refl, sym, ap, ◌∙◌, subst, ◌+◌, length, take, drop, Option, Some, None, codes, rules}
+use Rattle.std.proofs.Common.{◌≡◌, ℕ, List, [], ◌∷◌, refl, sym, ap, ◌∙◌, ◌+◌, length, take, drop, Option, Some, None, codes, rules}
 use Rattle.std.specs.Prelude.{codes, unwrap_or}
 use Rattle.mime.specs.{Bytes.is_token_byte, Bytes.space_byte, Grammar.SyntaxTree, Grammar.no_list, Grammar.plain, Grammar.final, Grammar.Tail, Grammar.listed, Grammar.text_of, Grammar.IsToken, Grammar.IsTail, Values.value_of, Values.IsAccepted, Values.IsRejected, Values.lowered_tree, Faults.IsFault, Faults.Explains, Inner.Scanning.HasPositions, Inner.Scanning.positions_of, Inner.KeptText.IsKept, Inner.KeptText.kept_positions, Inner.KeptText.positions_in, declared.scan.fault.ParseError.ParseError, declared.scan.fault.ParseError.TheVariants.InvalidToken, declared.scan.Positions.Positions, Atoms.atom_text, declared.atoms.Atom.Atom, declared.atoms.Atom.TheVariants.STAR_STAR}
 use Rattle.mime.proofs.{GrammarLemmas.Readings.one_tree, ValueLemmas.KeptText.reads_as, GrammarLemmas.Viability.rejected-at_dead, GrammarLemmas.Faults.completed_is_rejected}
@@ -62,7 +62,3 @@ pub one_positions : (text : List ℕ) (first second : Positions) → HasPosition
 one_positions text first second has also =
     sym has.same_positions ∙ ap positions_of (one_tree has.tree also.tree has.well_formed also.well_formed (has.spelled
     ∙ sym also.spelled)) ∙ also.same_positions
-
--- `*/*` is accepted
-pub star-accepted : (text : List ℕ) → text ≡ 42 ∷ 47 ∷ 42 ∷ [] → IsAccepted text
-star-accepted text is = subst IsAccepted (sym is) (accepted-from_positions _ _ (kept_atom STAR_STAR).has)

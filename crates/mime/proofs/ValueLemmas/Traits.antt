@@ -1,8 +1,8 @@
 -- The order of values, with the laws of `Before` and `Same`, and two iterators that std's `eq` compares.
 use Rattle.std.proofs.{lemmas.Grind.common_steps, lemmas.Map.Lookups.exact_bytes, lemmas.Map.Lookups.exact_pairs, lemmas.Bool.true≢false, lemmas.Bool.Decides.same_from_decides}
-use Rattle.std.proofs.Common.{arith, length, slice_index, take, zero, suc, ℕ, ◌≡◌, ◌<◌, ◌⊎◌, inl, inr, ⊎_elim, Bool, true, false, IsTrue, ◌↔◌, List, [], ◌∷◌, refl, sym, ap, ◌∙◌, subst, true≢false, Option, rules}
-use Rattle.std.specs.{declared.cmp.Ordering.Ordering, declared.cmp.Ordering.TheVariants.Less, declared.cmp.Ordering.TheVariants.Equal, declared.cmp.Ordering.TheVariants.Greater, Cmp.IsTotalOrder, Cmp.tied_itself, Cmp.nat_cmp_is, Cmp.nat_cmp_total, Cmp.ranked, FinMap.IsAntisymmetric, FinMap.nat_cmp-IsAntisymmetric, Cmp.Lexicographic.slice_cmp, Cmp.Lexicographic.nat_list_cmp_total, Ordering.MatchOrdering, Ordering.nat_cmp, Ordering.ordering_then, Ordering.is_eq, Ordering.is_lt, Ordering.eq_by_cmp, Ordering.ordering_reverse, Iterator.YieldsFirstBy, Iterator.YieldsThen, Iterator.ComparesItemsByEq, List.AllZip}
-use Rattle.mime.specs.{Values.MediaType, Comparison.Same, Comparison.IsListBefore, Comparison.IsTextBefore, Comparison.IsPairBefore, Comparison.Before, Comparison.pair_cmp, Comparison.media_cmp, Laws.OneOf, Inner.OrderLaws.same_from_cmp, Inner.OrderLaws.pair_cmp_total, Inner.OrderLaws.media_cmp_total}
+use Rattle.std.proofs.Common.{arith, length, slice_index, take, zero, suc, ℕ, ◌≡◌, ◌<◌, ◌⊎◌, inl, inr, Bool, true, false, IsTrue, ◌↔◌, List, [], ◌∷◌, refl, sym, ap, ◌∙◌, subst, true≢false, Option, rules}
+use Rattle.std.specs.{declared.cmp.Ordering.Ordering, declared.cmp.Ordering.TheVariants.Less, declared.cmp.Ordering.TheVariants.Equal, declared.cmp.Ordering.TheVariants.Greater, Cmp.IsTotalOrder, Cmp.tied_itself, Cmp.nat_cmp_total, FinMap.IsAntisymmetric, FinMap.nat_cmp-IsAntisymmetric, Cmp.Lexicographic.slice_cmp, Cmp.Lexicographic.nat_list_cmp_total, Ordering.MatchOrdering, Ordering.nat_cmp, Ordering.ordering_then, Ordering.is_eq, Ordering.is_lt, Ordering.eq_by_cmp, Ordering.ordering_reverse, Iterator.YieldsFirstBy, Iterator.YieldsThen, Iterator.ComparesItemsByEq, List.AllZip}
+use Rattle.mime.specs.{Values.MediaType, Comparison.Same, Comparison.IsListBefore, Comparison.IsTextBefore, Comparison.IsPairBefore, Comparison.Before, Comparison.pair_cmp, Comparison.media_cmp, Laws.OneOf, Inner.OrderLaws.same_from_cmp, Inner.OrderLaws.media_cmp_total}
 use Rattle.std.specs.Prelude.{MatchOption, IfSome}
 use Rattle.mime.proofs.BytesLemmas.{cons_parts}
 use Rattle.mime_search.specs.Differences.{DifferAt}
@@ -34,10 +34,7 @@ finds_lists cmp IsLess finds exact (x ∷ xs) (y ∷ ys) =
 
 -- the orders of bytes, of texts, of pairs and of values find which is before
 finds_bytes : Finds nat_cmp (λ x y. x < y)
-finds_bytes x y = (
-  λ is. subst (λ o. MatchOrdering o (x < y) (x ≡ y) (y < x)) is (ranked x y (nat_cmp x y) refl),
-  λ less. sym (nat_cmp_is x y Less less),
-)
+finds_bytes x y = grind (arith, common_steps)
 
 -- The order of texts finds which text is before.
 finds_texts : Finds (slice_cmp nat_cmp) IsTextBefore
@@ -49,16 +46,11 @@ exact_texts = exact nat_list_cmp_total exact_bytes
 
 -- The order of pairs finds which pair is before.
 finds_pairs : Finds pair_cmp IsPairBefore
-finds_pairs x y =
-    finds_then x.0 y.0 _ _ (slice_cmp nat_cmp x.0 y.0) (slice_cmp nat_cmp x.1 y.1) (finds_texts x.0 y.0) (exact_texts x.0 y.0)
-    (finds_texts x.1 y.1)
+finds_pairs x y = search (finds_then, finds_texts, exact_texts, rules)
 
 -- The order of media types finds which is before.
 finds_media : (x y : MediaType) → (media_cmp x y ≡ Less) ↔ Before x y
-finds_media x y =
-    finds_then x.essence y.essence _ _ (slice_cmp nat_cmp x.essence y.essence) (slice_cmp pair_cmp x.pairs y.pairs)
-    (finds_texts x.essence y.essence) (exact_texts x.essence y.essence)
-    (finds_lists pair_cmp IsPairBefore finds_pairs (exact pair_cmp_total (exact_pairs _ _ exact_bytes exact_bytes)) x.pairs y.pairs)
+finds_media x y = search (exact, finds_then, finds_lists, finds_texts, exact_texts, finds_pairs, exact_bytes, exact_pairs, rules)
 
 -- what the order of values says: the first is before the second, they are equal, or the second is before the first
 pub tells_media : (x y : MediaType) → MatchOrdering (media_cmp x y) (Before x y) (Same x y) (Before y x)
@@ -139,10 +131,7 @@ differ_in_beginnings text other n m at within also differ = grind (arith, common
 -- values whose essences differ are ordered by the bytes at which these first differ
 pub ordered_by_essence : (x y : MediaType) (at : ℕ) → at < length x.essence → at < length y.essence
     → DifferAt x.essence y.essence 0 at → media_cmp x y ≡ nat_cmp (slice_index x.essence at) (slice_index y.essence at)
-ordered_by_essence x y at within also differ =
-    let essences = ordered_by_difference x.essence y.essence at within also differ in
-    decided (slice_cmp nat_cmp x.essence y.essence) _
-    (λ same. differ.differ ((exact nat_cmp_total nat_cmp-IsAntisymmetric _ _).0 (sym essences ∙ same))) ∙ essences
+ordered_by_essence x y at within also differ = search (exact, decided, ordered_by_difference, rules)
 
 module _ {A B : Type 0} (seen : A → B) (eq : A → A → Bool) (agrees : (x y : A)
     → IsTrue (eq x y) ↔ (seen x ≡ seen y)) (r : Bool) where
@@ -171,11 +160,3 @@ module _ {A B : Type 0} (seen : A → B) (eq : A → A → Bool) (agrees : (x y 
   -- A comparison of items decides whether the lists are the same.
   pub same_items : (s t : List B) → ComparesItemsByEq Steps (λ x y. y ≡ x) Steps s t eq r → IsTrue r ↔ (s ≡ t)
   same_items s t d = along d.1 d.2 d.3 d.4 s t d.5 d.6 d.8 (subst (λ j. YieldsThen Steps j d.2 d.4 d.6) d.7 d.9) d.10 d.11
-
--- a list without pairs is before one with some
-pub none-first : (xs ys : List (List ℕ × List ℕ)) → (length xs ≡ 0) ⊎ (length ys ≡ 0)
-    → nat_cmp (length xs) (length ys) ≡ slice_cmp pair_cmp xs ys
-none-first [] [] one = refl
-none-first [] (y ∷ ys) one = sym (nat_cmp_is 0 (suc (length ys)) Less (omega arith))
-none-first (x ∷ xs) [] one = sym (nat_cmp_is (suc (length xs)) 0 Greater (omega arith))
-none-first (x ∷ xs) (y ∷ ys) one = ⊎_elim (λ none. absurd (omega (arith, none))) (λ none. absurd (omega (arith, none))) one

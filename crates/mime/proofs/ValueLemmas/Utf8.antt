@@ -1,12 +1,11 @@
 -- A text of which parts are lowercased: what holds of it, and that it keeps UTF-8.
 use Rattle.std.proofs.Common.{◌≡◌, ℕ, ◌<◌, ◌≤◌, Bool, true, List, [], ◌∷◌, ◌++◌, length, take, drop, refl, sym, ap, ◌∙◌, subst, arith, ⊎_elim, rules}
-use Rattle.std.specs.Prelude.{IsUtf8}
+use Rattle.std.specs.Prelude.{IsUtf8, ◌&&◌, ◌||◌, nat_le, nat_lt}
 use Rattle.std.specs.{Char.to_ascii_lowercase, List.list_all}
-use Rattle.std.proofs.{lemmas.Bool.and_parts, lemmas.Bool.cases_lt, lemmas.Bool.Decides.nat_tests, lemmas.List.take_at, lemmas.List.drop_at, lemmas.List.take-append-drop, lemmas.Str.IsUtf8-nil, lemmas.Str.IsUtf8-append, lemmas.Str.IsUtf8-encode, lemmas.Str.IsUtf8-from_ascii, lemmas.Str.encode_ascii, lemmas.Str.Ascii.IsAscii-cons, lemmas.Str.Ascii.IsAscii-nil}
+use Rattle.std.proofs.{lemmas.Bool.and_parts, lemmas.Bool.cases_lt, lemmas.Bool.Decides.nat_tests, lemmas.Grind.common_steps, lemmas.List.take-append-drop, lemmas.Str.IsUtf8-nil, lemmas.Str.IsUtf8-append, lemmas.Str.IsUtf8-encode, lemmas.Str.IsUtf8-from_ascii, lemmas.Str.encode_ascii, lemmas.Str.Ascii.IsAscii-cons, lemmas.Str.Ascii.IsAscii-nil}
 use Rattle.mime.specs.Values.{lowered}
 use Rattle.mime.proofs.{LowercaseLemmas.lowered-lowered, LowercaseLemmas.lowered-append, BytesLemmas.list_all-wider}
 use Rattle.mime_search.proofs.IgnoringCase.{length-lowered, lowered-take, lowered-drop}
-use Rattle.std.specs.Prelude.{◌&&◌, ◌||◌, nat_le, nat_lt}
 use lib.Dec.{ltb}
 use lib.Utf8.{scalars, scalar, encodes, encode}
 
@@ -47,13 +46,7 @@ low-in_part text partly (in_parts prefix back low_prefix low_back first second) 
 -- the lowercased forms of a prefix and of what follows it, taken from the lowercased form of the whole
 pub lowered-parts : (prefix back partly : List ℕ) → lowered partly ≡ lowered (prefix ++ back)
     → (lowered (take (length prefix) partly) ≡ lowered prefix) × (lowered (drop (length prefix) partly) ≡ lowered back)
-lowered-parts prefix back partly is =
-    let n = length prefix in
-    let whole = is ∙ lowered-append prefix back in
-    let size = length-lowered prefix in (
-      lowered-take n partly ∙ ap (take n) whole ∙ take_at (lowered prefix) (lowered back) n size,
-      lowered-drop n partly ∙ ap (drop n) whole ∙ drop_at (lowered prefix) (lowered back) n size,
-    )
+lowered-parts prefix back partly is = search (common_steps, lowered-append, length-lowered, lowered-take, lowered-drop, rules)
 
 -- bytes below the letters and past ASCII are themselves in any case
 abbrev pub is_no_letter : ℕ → Bool

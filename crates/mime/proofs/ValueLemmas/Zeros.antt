@@ -1,5 +1,5 @@
 -- The zeros that follow a short text.
-use Rattle.std.proofs.Common.{◌≡◌, ℕ, zero, suc, ◌+◌, ◌-◌, ◌≤◌, List, ◌∷◌, ◌++◌, length, map, take, drop, replicate, refl, ap, ap₂, sym, ◌∙◌, arith}
+use Rattle.std.proofs.Common.{◌≡◌, ℕ, zero, suc, ◌+◌, ◌-◌, ◌≤◌, List, ◌∷◌, ◌++◌, length, map, take, drop, replicate, refl, ap, ap₂, sym, ◌∙◌, rules}
 use Rattle.std.specs.Char.{to_ascii_lowercase}
 use Rattle.std.proofs.{Math.Nat.add-sub_of_le, lemmas.List.drop_at, lemmas.List.drop-replicate, lemmas.List.drop-take, lemmas.List.length-take-le, lemmas.List.take-append-drop, lemmas.List.take-replicate}
 
@@ -16,9 +16,7 @@ zeros-lowercase (suc count) = ap (λ bytes. 0 ∷ bytes) (zeros-lowercase count)
 -- those of a block, within its first bytes
 pub zeros-within : (block : List ℕ) (len size more : ℕ) → len ≤ size → drop len block ≡ replicate (size + more - len) 0
     → drop len (take size block) ≡ replicate (size - len) 0
-zeros-within block len size more within zeros =
-    ap (λ n. drop len (take n block)) (sym (add-sub_of_le within)) ∙ drop-take len (size - len) block
-    ∙ ap (take (size - len)) zeros ∙ take-replicate (size - len) (size + more - len) 0 (omega arith)
+zeros-within block len size more within zeros = search (add-sub_of_le, drop-take, take-replicate, rules)
 
 -- two texts that fill as many bytes with them are the same only if all bytes are
 pub zeros-same : (bytes others : List ℕ) (len other size : ℕ) → len ≤ length bytes → other ≤ length others

@@ -1,6 +1,6 @@
 -- The scanner says of the list what it says of the text, and a text has one of each position.
-use Rattle.std.proofs.Common.{◌≢◌, ℕ, ◌+◌, List, ◌∙◌, refl, sym, ap, arith, length, drop, Some}
-use Rattle.mime.specs.{Bytes.semicolon_byte, Values.IsRejected, Inner.Scanning.Judges, declared.scan.Positions.Positions, declared.scan.Scanned.Scanned, declared.scan.Scanned.TheVariants.Accepted, declared.scan.Scanned.TheVariants.Unfinished, declared.scan.Scanned.TheVariants.Stopped, declared.scan.Scanned.TheVariants.Followed}
+use Rattle.std.proofs.Common.{◌≢◌, ℕ, ◌+◌, List, ◌∙◌, refl, sym, ap, length, drop, Some, rules}
+use Rattle.mime.specs.{Values.IsRejected, Inner.Scanning.Judges, declared.scan.Positions.Positions, declared.scan.Scanned.Scanned, declared.scan.Scanned.TheVariants.Accepted, declared.scan.Scanned.TheVariants.Unfinished, declared.scan.Scanned.TheVariants.Stopped, declared.scan.Scanned.TheVariants.Followed}
 use Rattle.mime.proofs.{BytesLemmas.boundary_after, ValueLemmas.Reading.accepted-from_positions, ValueLemmas.Reading.one_positions, ValueLemmas.Reading.rejected-from_fault, GrammarLemmas.Viability.rejected-at_dead, CompareLemmas.Essences.judged-by_list}
 use Rattle.mime.proofs.compare.has_list_of.Goals as goal
 
@@ -13,9 +13,7 @@ rejected-not_accepted text count (Stopped byte) judged other = rejected-at_dead 
 rejected-not_accepted text count (Followed positions byte) judged other = rejected-at_dead _ _ _ judged.1
 
 pub of-list-requires : goal.of-list-requires
-of-list-requires c =
-    rw c.essence_str-end.ensures
-    (boundary_after c.args.s.now (length c.args.mime.now.media.essence) semicolon_byte c.utf8.s c.requires.begins.0 (omega arith))
+of-list-requires c = search (boundary_after, rules)
 
 pub returns-in-Accepted : goal.returns-in-Accepted
 returns-in-Accepted c =

@@ -1,7 +1,6 @@
 -- Separators are passed, and then a piece is read.
-use Rattle.std.proofs.Common.{◌≡◌, ℕ, ◌+◌, ◌-◌, List, [], ◌∷◌, ◌++◌, None, length, drop, ap, sym, subst, refl, ◌∙◌, arith}
+use Rattle.std.proofs.Common.{◌≡◌, ℕ, ◌+◌, ◌-◌, List, [], ◌∷◌, ◌++◌, None, length, drop, ap, sym, subst, refl, ◌∙◌, arith, rules}
 use Rattle.std.proofs.lemmas.List.{drop_at}
-use Rattle.std.specs.Str.{IsCharBoundary}
 use Rattle.mime.specs.Inner.BetweenCalls.{ReadsPiece}
 use Rattle.mime.proofs.{CutLemmas.Pieces.separated-piece, CutLemmas.Pieces.passes-nothing, CutLemmas.Pieces.separators-boundary, CutLemmas.Pieces.separators-begins, iter.read_next_piece.Goals.In-Some}
 use Rattle.mime.proofs.iter.read_next_piece.Goals as goal
@@ -19,10 +18,7 @@ starts : (c : In-Some) → c.separators.new.reader.count - c.args.from - 1 ≡ l
 starts c = omega (arith, c.in-Some.ensures.given.counted, c.new-reader.ensures.count)
 
 pub range_from-requires : goal.range_from-requires
-range_from-requires c = λ _.
-    let here = (goal.at.range_from-requires c).In-Some in
-    subst (IsCharBoundary c.args.text.now) (sym (c.position-start.ensures ∙ starts here))
-    (separators-boundary c.args.text.now c.in-Some.ensures.run (others here) c.utf8.text (spelled here) c.in-Some.ensures.of_class)
+range_from-requires c = search (separators-boundary, spelled, starts, rules)
 
 -- what follows the separators, as it is read
 rest_is : (c : In-Some) (start : ℕ) → start ≡ c.separators.new.reader.count - c.args.from - 1

@@ -1,5 +1,5 @@
 -- The bytes so far, those up to a stop that is known or found by a call, and the stop, if it is of the class.
-use Rattle.std.proofs.Common.{sym, ◌∙◌}
+use Rattle.std.proofs.Common.{sym, ◌∙◌, rules}
 use Rattle.mime.specs.Inner.ByteClasses.{token_bytes}
 use Rattle.mime.proofs.{ScanLemmas.Passing.passing_more, ScanLemmas.Passing.passing_none, ScanLemmas.Passing.passing_with, ScanLemmas.Passing.passes_to, ScanLemmas.Passing.reaches_wider, ScanLemmas.Pluses.token_bytes-wider, scan.token.Goals.in-Some+else-not-is_in_token, scan.token.Goals.in_default}
 use Rattle.mime.proofs.scan.token.Goals as goal
@@ -19,9 +19,7 @@ loop-reader-init c =
     ]
 
 pub loop-reader-preserved : goal.loop-reader-preserved
-loop-reader-preserved c =
-    passing_more c.loop-reader.invariant c.next_byte-byte.ensures (sym c.is_in_token-in-loop-reader.ensures
-    ∙ c.if-not-is_in_token-2.false)
+loop-reader-preserved c = search (passing_more, rules)
 
 pub returns-then-not-is_in_token-3 : goal.returns-then-not-is_in_token-3
 returns-then-not-is_in_token-3 c =
@@ -29,6 +27,4 @@ returns-then-not-is_in_token-3 c =
     (sym c.is_in_token-in-Some-next_far.ensures ∙ c.if-not-is_in_token-3.true)
 
 pub loop-stop-preserved : goal.loop-stop-preserved
-loop-stop-preserved c =
-    passing_with (λ _ is. is) c.loop-stop.invariant c.in-Some-next_far.ensures.reaches
-    (sym c.is_in_token-in-Some-next_far.ensures ∙ c.if-not-is_in_token-3.false)
+loop-stop-preserved c = search (passing_with, rules)

@@ -1,5 +1,5 @@
 -- One quoted pair or three were skipped before a further one, and then the last.
-use Rattle.std.proofs.Common.{◌∙◌, ◌+◌, ◌≤◌, length, arith}
+use Rattle.std.proofs.Common.{◌+◌, ◌≤◌, length, arith}
 use Rattle.mime_search.proofs.Quotes.{search_past_pair, search_past_three}
 use Rattle.mime_search.proofs.quoted.after_quoted_pairs.Goals as goal
 
@@ -29,6 +29,3 @@ loop-last-preserved c =
       pair = c.if-text-last-eq92.true;
       left = search_past_pair text last _ before.left (omega (arith, room)) before.pair;
     }
-
-pub returns-clause-left : goal.returns-clause-left
-returns-clause-left c = c.after_quoted_pair.ensures.left ∙ c.loop-last.invariant.left

@@ -17,9 +17,3 @@ pub returns-in-Err-clause-steps : goal.returns-in-Err-clause-steps
 returns-in-Err-clause-steps c =
     next-out_of_memory _ _ _ _ _ (rw c.in-Some.is at c.in_ok-piece.ensures) (search rules)
     (ap (λ (i : Iteration). record { text = i.text; left = []; out_of_memory = true; steps = i.steps }) c.self.view_is)
-
-pub invariant_of-self : goal.invariant_of-self
-invariant_of-self c = search rules
-
-pub returns-in-Err-clause-goes : goal.returns-in-Err-clause-goes
-returns-in-Err-clause-goes c = search rules

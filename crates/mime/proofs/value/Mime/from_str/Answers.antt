@@ -1,7 +1,7 @@
 -- The scanner's verdict is what the call answers.
-use Rattle.std.proofs.Common.{◌-◌, sym, rules, inl, inr}
+use Rattle.std.proofs.Common.{◌-◌, sym, inl, inr}
 use Rattle.mime.specs.Faults.{IsDeadAt}
-use Rattle.mime.proofs.{ValueLemmas.Reading.Explains-from_fault, ValueLemmas.Reading.rejected-from_fault, ValueLemmas.Reading.star-accepted, GrammarLemmas.Viability.rejected-at_dead, value.Mime.from_str.Goals.In-Stopped}
+use Rattle.mime.proofs.{ValueLemmas.Reading.Explains-from_fault, ValueLemmas.Reading.rejected-from_fault, GrammarLemmas.Viability.rejected-at_dead, value.Mime.from_str.Goals.In-Stopped}
 use Rattle.mime.proofs.value.Mime.from_str.Goals as goal
 
 pub returns-clause-explained : goal.returns-clause-explained
@@ -10,10 +10,6 @@ returns-clause-explained c = c.of_accepted.ensures.explained
 pub returns-in-Unfinished-clause-accepted : goal.returns-in-Unfinished-clause-accepted
 returns-in-Unfinished-clause-accepted c = λ accepted.
     absurd (rejected-from_fault _ _ (rw c.by_blocks-reader.ensures.left at c.in-Unfinished.ensures.judged.1) accepted)
-
-pub returns-in-Unfinished-clause-star : goal.returns-in-Unfinished-clause-star
-returns-in-Unfinished-clause-star c = λ star.
-    absurd (rejected-from_fault _ _ (rw c.by_blocks-reader.ensures.left at c.in-Unfinished.ensures.judged.1) (star-accepted _ star))
 
 -- The byte at which the scanner stopped is at fault.
 dead_at_stop : (c : In-Stopped) → IsDeadAt c.args.s.now (c.scan.new.reader.count - c.by_blocks-reader.result.count - 1) c.in-Stopped.byte
@@ -27,10 +23,6 @@ pub returns-in-Stopped-clause-accepted : goal.returns-in-Stopped-clause-accepted
 returns-in-Stopped-clause-accepted c = λ accepted.
     absurd (rejected-at_dead _ _ _ (dead_at_stop (goal.at.returns-in-Stopped-clause-accepted c).In-Stopped) accepted)
 
-pub returns-in-Stopped-clause-star : goal.returns-in-Stopped-clause-star
-returns-in-Stopped-clause-star c = λ star.
-    absurd (rejected-at_dead _ _ _ (dead_at_stop (goal.at.returns-in-Stopped-clause-star c).In-Stopped) (star-accepted _ star))
-
 pub returns-in-Unfinished-clause-explained : goal.returns-in-Unfinished-clause-explained
 returns-in-Unfinished-clause-explained c =
     rw c.new.ensures (Explains-from_fault _ _ (rw c.by_blocks-reader.ensures.left at c.in-Unfinished.ensures.judged.1))
@@ -42,15 +34,3 @@ returns-in-Stopped-clause-explained c =
 
 pub returns-clause-read : goal.returns-clause-read
 returns-clause-read c = c.of_accepted.ensures.read
-
-pub returns-clause-accepted : goal.returns-clause-accepted
-returns-clause-accepted c = search rules
-
-pub returns-clause-star : goal.returns-clause-star
-returns-clause-star c = search rules
-
-pub returns-in-Unfinished-clause-read : goal.returns-in-Unfinished-clause-read
-returns-in-Unfinished-clause-read c = tt
-
-pub returns-in-Stopped-clause-read : goal.returns-in-Stopped-clause-read
-returns-in-Stopped-clause-read c = tt

@@ -1,22 +1,16 @@
 -- Each turn lowercases the first pair of what is left, with what is before it.
-use Rattle.std.proofs.Common.{◌≡◌, ◌-◌, drop, length, length-drop, refl, lit<, ap, subst, ◌∙◌, arith, ◌++◌, take, append-nil}
+use Rattle.std.proofs.Common.{◌-◌, length, length-drop, refl, lit<, ap, ◌∙◌, arith, append-nil, rules}
 use Rattle.std.proofs.lemmas.List.{take_all, drop_all, take_rest}
 use borrow.Rule.Slice.PartMut.{put_mid}
-use Rattle.mime.specs.{Inner.KeptText.with_pairs_lowered, Values.lowered, Inner.ComparedText.IsLoneCharset}
-use Rattle.mime.proofs.{BytesLemmas.boundary_after, ValueLemmas.ListText.lone_charset-text, ValueLemmas.Pairs.cut_before-lies, ValueLemmas.LoweredTo.IsLoweredTo, ValueLemmas.LoweredTo.lowered_to-none, ValueLemmas.LoweredTo.lowered_to-more, ValueLemmas.LoweredTo.lowered_to-all, ValueLemmas.LoweredTo.lowered_to-sizes, ValueLemmas.LoweredTo.low_within}
+use Rattle.mime.specs.{Inner.KeptText.with_pairs_lowered}
+use Rattle.mime.proofs.{BytesLemmas.boundary_after, ValueLemmas.ListText.lone_charset-text, ValueLemmas.Pairs.cut_before-lies, ValueLemmas.LoweredTo.IsLoweredTo, ValueLemmas.LoweredTo.lowered_to-none, ValueLemmas.LoweredTo.lowered_to-more, ValueLemmas.LoweredTo.lowered_to-sizes, ValueLemmas.LoweredTo.low_within}
 use Rattle.mime.proofs.value.kept.lowercase_text.Goals as goal
 
 pub of-left-requires : goal.of-left-requires
 of-left-requires c = boundary_after _ _ _ c.utf8.text c.requires.parted (lit< tt)
 
 pub returns-then-is_lone_charset : goal.returns-then-is_lone_charset
-returns-then-is_lone_charset c =
-    let bytes = c.args.bytes.now in
-    let lone = subst IsLoneCharset c.of_text.ensures (c.is_lone_charset.ensures c.if-is_lone_charset.true) in
-    let all : lowered (take (length bytes) bytes) ++ drop (length bytes) bytes ≡ lowered bytes =
-    rw (take_all (length bytes) bytes (omega arith), drop_all (length bytes) bytes (omega arith)) (append-nil (lowered bytes)) in
-    c.lowercase_start.ensures ∙ all ∙ ap lowered c.requires.same
-    ∙ lone_charset-text c.args.count c.args.semicolon c.args.text.now lone
+returns-then-is_lone_charset c = search (append-nil, take_all, drop_all, lone_charset-text, rules)
 
 pub loop-others-init : goal.loop-others-init
 loop-others-init c = lowered_to-none _ _ _ _ _ _ c.requires.same c.of-left.ensures refl c.requires.some
@@ -57,6 +51,3 @@ overflow_sub-from c = omega (arith, c.len-in-loop-others.ensures, lowered_to-siz
 
 pub loop-others-preserved : goal.loop-others-preserved
 loop-others-preserved c = rw c.len-in-loop-others.ensures (next_turn c)
-
-pub returns : goal.returns
-returns c = lowered_to-all _ _ _ _ _ c.loop-others.invariant c.loop-others-test.false

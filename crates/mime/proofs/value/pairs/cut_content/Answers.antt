@@ -1,5 +1,5 @@
 -- The byte after the content is a quote, which is ASCII.
-use Rattle.std.proofs.Common.{◌∙◌, ap, arith, false}
+use Rattle.std.proofs.Common.{◌∙◌, ap, false, rules}
 use Rattle.mime.specs.Inner.Quoted.{content_len}
 use Rattle.mime.proofs.ValueLemmas.Pairs.{len_from-le, quote_at_len}
 use Rattle.mime.proofs.value.pairs.cut_content.Goals as goal
@@ -9,6 +9,4 @@ split_around-requires-clause-within c =
     rw (c.content_len-length.ensures ∙ ap content_len (c.as_bytes.ensures.value ∙ c.text.ensures)) (len_from-le false c.args.text.now)
 
 pub split_around-requires-clause-ascii : goal.split_around-requires-clause-ascii
-split_around-requires-clause-ascii c = λ within.
-    let length = c.content_len-length.ensures ∙ ap content_len (c.as_bytes.ensures.value ∙ c.text.ensures) in
-    omega (arith, rw (← length) at (quote_at_len false c.args.text.now (omega (arith, length, within))))
+split_around-requires-clause-ascii c = search (quote_at_len, rules)

@@ -1,5 +1,5 @@
 -- A name that is the key's text but for case is as long as that text: it is the name that was cut.
-use Rattle.std.proofs.Common.{◌≡◌, ℕ, ◌+◌, ◌≤◌, false, List, ◌∙◌, true, sym, ap, subst, true≢false, take, drop, length}
+use Rattle.std.proofs.Common.{◌≡◌, ℕ, ◌+◌, ◌≤◌, false, List, ◌∙◌, true, sym, ap, subst, true≢false, take, drop, length, rules}
 use Rattle.mime.specs.{Bytes.equals_byte, Inner.Pairs.has_equals, Values.lowered}
 use Rattle.mime_search.specs.Rests.{before_byte, after_byte, first_position}
 use Rattle.mime.proofs.{ValueLemmas.Pairs.cut_of-name, ValueLemmas.KnownNames.first_equals-named, ValueLemmas.KnownNames.has_equals-named, ValueLemmas.KnownNames.first_equals-taken, value.pairs.cut_name_for.Goals.then-not-is_accepted-via-then-not-is_accepted, value.pairs.cut_name_for.Goals.then-not-is_accepted-via-else-not-is_accepted+then-has_equals}
@@ -14,11 +14,7 @@ taken body text name end name_is end_is least named none =
     (name_is ∙ ap (λ n. take n body) (sym at), end_is ∙ ap (λ n. drop (n + 1) body) (sym at))
 
 pub returns-in_default-clause-other : goal.returns-in_default-clause-other
-returns-in_default-clause-other g c = λ _. (
-  c.if-is_only.true,
-  λ accepted. c.cut_name_of_size.ensures.other c.in_default.is (ap (first_position equals_byte) c.without_spaces-list.ensures
-      ∙ first_equals-named c.args.list.now c.in-Some.text.now (c.in-Some.ensures _ accepted)),
-)
+returns-in_default-clause-other g c = search (first_equals-named, rules)
 
 pub returns-then-not-is_accepted-clause-other : goal.returns-then-not-is_accepted-clause-other
 returns-then-not-is_accepted-clause-other g c = λ _.

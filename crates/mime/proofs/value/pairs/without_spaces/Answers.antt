@@ -1,9 +1,7 @@
 -- Spaces are ASCII: the list may be cut after them.
-use Rattle.std.proofs.Common.{◌∙◌, ◌≡◌, sym, ap, subst, length, get_or, arith}
+use Rattle.std.proofs.Common.{◌∙◌, ◌≡◌, ap, subst, length, get_or, arith, rules}
 use Rattle.std.specs.Prelude.{IsUtf8}
 use Rattle.std.proofs.lemmas.Str.{IsCharBoundary-start, IsCharBoundary-after_ascii}
-use Rattle.std.specs.Str.{IsCharBoundary}
-use Rattle.mime.specs.Inner.Pairs.{leading_spaces}
 use Rattle.mime.proofs.ValueLemmas.Pairs.{spaces_border}
 use Rattle.mime.proofs.value.pairs.without_spaces.Goals as goal
 
@@ -19,8 +17,4 @@ after-requires-then-bytes-gt32-2 c =
     (omega (arith, space))
 
 pub after-requires-2 : goal.after-requires-2
-after-requires-2 c =
-    let list = c.args.list.now in
-    let bytes = c.as_bytes-bytes.ensures.value ∙ c.text.ensures in
-    subst (IsCharBoundary list) (sym (c.count_spaces.ensures ∙ ap leading_spaces bytes))
-    (spaces_border list (subst IsUtf8 c.text.ensures c.text.utf8))
+after-requires-2 c = search (spaces_border, rules)

@@ -1,8 +1,7 @@
 -- The text of the fault follows what is written first.
-use Rattle.std.proofs.Common.{List, ℕ, [], ◌∷◌, ◌++◌, ◌∙◌, sym, ap, subst, refl, codes}
+use Rattle.std.proofs.Common.{List, ℕ, [], ◌∷◌, ◌++◌, sym, subst, codes, rules}
 use Rattle.std.proofs.lemmas.List.Folds.{concat-append}
-use Rattle.std.specs.List.{FoldsTo, concat}
-use Rattle.mime.specs.Printed.{fault_text}
+use Rattle.std.specs.List.{FoldsTo}
 use Rattle.mime.proofs.scan.fault.FromStrErrorDisplay.fmt.Goals as goal
 
 -- calls after calls
@@ -12,17 +11,4 @@ calls_then took w [] v ys u p q = subst (λ x. FoldsTo took x ys u) (sym p) q
 calls_then took w (x ∷ xs) v ys u p q = (p.0, p.1, calls_then took p.0 xs v ys u p.2 q)
 
 pub returns-clause-styled : goal.returns-clause-styled
-returns-clause-styled g c = λ flush ok.
-    let one = c.in_ok-write_str.ensures.styled flush refl in
-    let two = c.fmt.ensures.styled one.flush ok in
-    record {
-      wrote = record {
-        parts = one.wrote.parts ++ two.wrote.parts;
-        calls = calls_then g.W.Write.write_str_gives _ one.wrote.parts _ two.wrote.parts _ one.wrote.calls two.wrote.calls;
-        whole =
-            concat-append one.wrote.parts two.wrote.parts ∙ ap (λ t. t ++ concat two.wrote.parts) one.wrote.whole
-            ∙ ap (λ t. codes "mime parse error: " ++ t) (two.wrote.whole ∙ ap fault_text c.fault.ensures);
-      };
-      spec = two.spec ∙ one.spec;
-      flush = two.flush;
-    }
+returns-clause-styled g c = search (codes, concat-append, calls_then, rules)

@@ -1,5 +1,5 @@
 -- What the mask shows is skipped: the bytes up to the first stop, which is given, or all that are known, and those found after them.
-use Rattle.std.proofs.Common.{◌+◌, ◌/◌, ◌^◌, not, get_or, Some, subst, arith}
+use Rattle.std.proofs.Common.{◌+◌, ◌/◌, ◌^◌, not, get_or, Some, subst, arith, rules}
 use lib.Count.{count_trailing_zeros}
 use Rattle.mime_search.specs.{Classes.is_stop, declared.class.TheConstants.TOKEN_STOPS}
 use Rattle.mime.specs.{Inner.Scanning.Passing, Inner.Scanning.Reaches, Inner.Remaining.reader_at}
@@ -8,19 +8,10 @@ use Rattle.mime_search.proofs.Masks.{known-none, known-few, known-some}
 use Rattle.mime.proofs.scan.reader.ByteReader.known_stop.Goals as goal
 
 pub bounds-self-inside-stop : goal.bounds-self-inside-stop
-bounds-self-inside-stop c =
-    let keeps = c.self.invariant in
-    omega (
-      arith,
-      keeps.there,
-      known-few (is_stop TOKEN_STOPS) _ _ _ _ keeps.mask keeps.there keeps.few c.if-self.false c.if-stops-eq0.false,
-    )
+bounds-self-inside-stop c = search (known-few, rules)
 
 pub invariant_of-self-2 : goal.invariant_of-self-2
-invariant_of-self-2 c =
-    let keeps = c.self.invariant in
-    let near = known-few (is_stop TOKEN_STOPS) _ _ _ _ keeps.mask keeps.there keeps.few c.if-self.false c.if-stops-eq0.false in
-    record { within = omega (arith, keeps.there, near); fits = keeps.fits; few = keeps.few; there = keeps.there; mask = keeps.mask }
+invariant_of-self-2 c = search (known-few, rules)
 
 pub returns : goal.returns
 returns c =

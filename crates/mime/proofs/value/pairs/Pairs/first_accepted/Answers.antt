@@ -1,5 +1,5 @@
 -- The name of the first pair that is left is accepted, or the key finds what it does in the others.
-use Rattle.std.proofs.Common.{◌≡◌, ◌∙◌, ◌-◌, None, true, refl, sym, subst, arith, true≢false}
+use Rattle.std.proofs.Common.{◌≡◌, ◌∙◌, ◌-◌, true, sym, subst, true≢false, rules}
 use Rattle.mime.specs.{Inner.Pairs.PairCut, Inner.Pairs.cut_of, Inner.Pairs.pairs_within, Items.items_of, Items.IsFirstAccepted, Inner.KeptText.AreLowPairs}
 use Rattle.mime.proofs.{ValueLemmas.Parts.first_value-found, ValueLemmas.Pairs.cut_of-part, ValueLemmas.Pairs.cut_of-name, ValueLemmas.Pairs.found-next, ValueLemmas.Pairs.pairs_within-first}
 use Rattle.mime.proofs.value.pairs.Pairs.first_accepted.Goals as goal
@@ -12,13 +12,7 @@ returns-then-first g c =
     record { found = c.loop-left.invariant.decides _ value.0; low = value.1 }
 
 pub returns-then-left-eq1-clause-found : goal.returns-then-left-eq1-clause-found
-returns-then-left-eq1-clause-found g c =
-    let list = c.loop-left.list in
-    let first = c.in-Some.ensures in
-    let none : c.loop-left.left - 1 ≡ 0 = omega (arith, c.if-left-eq1.true) in
-    c.loop-left.invariant.decides None (found-next (g.K.ParamKey.Accepts c.args.key.now) c.loop-left.left list None c.loop-left-test.true
-    (λ accepted. true≢false (sym (first.accepted.1 (subst (λ n. g.K.ParamKey.Accepts c.args.key.now n true)
-    (sym (cut_of-name list _ first.name)) accepted)) ∙ c.if-first.false)) (rw none refl))
+returns-then-left-eq1-clause-found g c = search (true≢false, cut_of-name, found-next, rules)
 
 pub loop-left-preserved : goal.loop-left-preserved
 loop-left-preserved g c =

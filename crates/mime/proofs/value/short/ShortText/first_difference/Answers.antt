@@ -1,5 +1,5 @@
 -- Zeros follow both texts, so if these are the same, all bytes are.
-use Rattle.std.proofs.Common.{arith, length, slice_index, sym, ap, ◌∙◌, ◌≡◌}
+use Rattle.std.proofs.Common.{arith, length, slice_index, ◌≡◌, rules}
 use Rattle.mime.specs.{contracts.value.short.ShortText.the_view, contracts.value.short.ShortText.the_invariant, declared.value.short.ShortText.TheInside.Inside}
 use Rattle.mime.proofs.ValueLemmas.Zeros.{zeros-same}
 use Rattle.mime.proofs.value.short.ShortText.first_difference.Goals as goal
@@ -11,25 +11,13 @@ same one other size also first second is =
     zeros-same one.bytes other.bytes one.len other.len 40 (omega (arith, first.0, size)) (omega (arith, second.0, also)) first.2 second.2 is
 
 pub returns-in-Some-clause-none : goal.returns-in-Some-clause-none
-returns-in-Some-clause-none c = λ is.
-    let all = same c.self.inside c.other.inside c.self.told c.other.told c.self.invariant c.other.invariant (c.self.view_is ∙ is
-    ∙ sym c.other.view_is) in
-    absurd (c.in-Some.ensures.some.differ (ap (λ bytes. slice_index bytes c.in-Some.at) all.1))
+returns-in-Some-clause-none c = search (slice_index, same, rules)
 
 pub returns-in-Some-difference_from-clause-none : goal.returns-in-Some-difference_from-clause-none
-returns-in-Some-difference_from-clause-none c = λ is.
-    let all = same c.self.inside c.other.inside c.self.told c.other.told c.self.invariant c.other.invariant (c.self.view_is ∙ is
-    ∙ sym c.other.view_is) in
-    absurd (c.in-Some-difference_from.ensures.some.differ (ap (λ bytes. slice_index bytes c.in-Some-difference_from.at) all.1))
+returns-in-Some-difference_from-clause-none c = search (slice_index, same, rules)
 
 pub returns-in-Some-difference_from-2-clause-none : goal.returns-in-Some-difference_from-2-clause-none
-returns-in-Some-difference_from-2-clause-none c = λ is.
-    let all = same c.self.inside c.other.inside c.self.told c.other.told c.self.invariant c.other.invariant (c.self.view_is ∙ is
-    ∙ sym c.other.view_is) in
-    absurd (c.in-Some-difference_from-2.ensures.some.differ (ap (λ bytes. slice_index bytes c.in-Some-difference_from-2.at) all.1))
+returns-in-Some-difference_from-2-clause-none c = search (slice_index, same, rules)
 
 pub returns-else-self-other-clause-none : goal.returns-else-self-other-clause-none
-returns-else-self-other-clause-none c = λ is.
-    let all = same c.self.inside c.other.inside c.self.told c.other.told c.self.invariant c.other.invariant (c.self.view_is ∙ is
-    ∙ sym c.other.view_is) in
-    absurd (c.if-self-other.false all.0)
+returns-else-self-other-clause-none c = search (same, rules)

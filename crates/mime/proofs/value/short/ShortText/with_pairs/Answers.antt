@@ -1,7 +1,7 @@
 -- Lowercasing in part keeps UTF-8.
 use Rattle.std.proofs.Common.{sym, subst, ◌∙◌}
 use Rattle.std.specs.Str.{IsUtf8}
-use Rattle.mime.proofs.{ValueLemmas.KeptText.kept-in_part, ValueLemmas.KeptText.slice_get-semicolon, ValueLemmas.Utf8.IsUtf8-in_part, ValueLemmas.Zeros.zeros-after}
+use Rattle.mime.proofs.{ValueLemmas.KeptText.kept-in_part, ValueLemmas.Utf8.IsUtf8-in_part, ValueLemmas.Zeros.zeros-after}
 use Rattle.mime.proofs.value.short.ShortText.with_pairs.Goals as goal
 
 pub of-requires-clause-utf8 : goal.of-requires-clause-utf8
@@ -9,9 +9,6 @@ of-requires-clause-utf8 c =
     let text = c.args.text.now in
     let parts = kept-in_part c.args.positions.pair_count c.in-Some.semicolon text in
     subst IsUtf8 (sym c.lowercase_pairs.ensures.lowered) (IsUtf8-in_part text _ parts c.utf8.text)
-
-pub lowercase_pairs-requires-clause-parted : goal.lowercase_pairs-requires-clause-parted
-lowercase_pairs-requires-clause-parted c = slice_get-semicolon _ _ _ c.requires.accepted c.in-Some.is
 
 pub of-requires-clause-zeros : goal.of-requires-clause-zeros
 of-requires-clause-zeros c =
