@@ -1,9 +1,9 @@
 -- The search for the end of quoted content, position by position.
-use Rattle.std.proofs.Common.{⊎_elim, one-add, ◌≡◌, ◌≢◌, ℕ, suc, ◌+◌, ◌-◌, ◌/◌, ◌^◌, ◌++◌, ◌<◌, ◌≤◌, Bool, true, false, cond, List, [], ◌∷◌, length, length-drop, get_or, map, take, drop, refl, sym, ap, ◌∙◌, arith, ne_eqb}
+use Rattle.std.proofs.Common.{⊎_elim, one-add, ◌≡◌, ◌≢◌, ℕ, suc, ◌+◌, ◌++◌, ◌<◌, ◌≤◌, Bool, true, false, cond, List, [], ◌∷◌, length, length-drop, get_or, map, take, drop, refl, sym, ap, ◌∙◌, arith}
 use Rattle.std.specs.Prelude.{◌==◌, ◌||◌, not}
 use Rattle.std.specs.{List.prefix_len, Simd.Lanes.mask_l}
-use Rattle.std.proofs.{lemmas.Bool.or_parts, lemmas.Bool.cases_Bool, lemmas.Bool.Decides.nat_tests, lemmas.List.drop_more, lemmas.List.drop-drop, lemmas.List.drop-map, lemmas.List.drop-take, lemmas.List.get_or-drop, lemmas.List.Sums.prefix_len_stops}
-use Rattle.mime_search.proofs.Searches.{a_stop, no_stop, stop_within, mask-drop}
+use Rattle.std.proofs.{lemmas.Bool.or_parts, lemmas.Bool.cases_Bool, lemmas.Bool.Decides.nat_tests, lemmas.List.drop_more, lemmas.List.drop-drop, lemmas.List.get_or-drop, lemmas.List.Sums.prefix_len_stops}
+use Rattle.mime_search.proofs.Searches.{a_stop, no_stop, stop_within}
 use lib.Count.{count_trailing_zeros}
 use Rattle.mime_search.specs.{Classes.is_stop, Classes.end_of_run, declared.class.Class.Class, Quoted.quote, Quoted.backslash, Quoted.len_from, Quoted.meant_from}
 
