@@ -43,4 +43,5 @@ returns-else-special_from-bytes c =
     let mark = c.special_from.ensures in
     let found = form_found same (λ i. search (c.type_inv.value i, rules)) plain text stop.end mark.special in
     let either = c.else-plain-bytes.either in
-    grind (arith, nat_tests, found, same, either, stop, mark, c.if-text-bytes.false, c.if-first_stop-bytes.false, c.if-special_from-bytes.false)
+    let none = c.if-first_stop-bytes.false in
+    grind (arith, nat_tests, found, same, either, stop, mark, c.if-text-bytes.false, none, c.if-special_from-bytes.false)
