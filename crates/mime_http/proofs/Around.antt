@@ -1,7 +1,7 @@
 -- White space around a text, and ASCII bytes in a text in UTF-8.
 use Rattle.mime_search.{specs.Classes.end_of_run, specs.declared.class.Class.Class}
 use Rattle.std.proofs.lemmas.List.{take-take}
-use Rattle.mime_http.proofs.Common.{is_stop, length-drop, length-take-le, not, take-append-drop, drop, prefix_len, one-add, take_rest, AreSpaces, IsToken, AreTokenBytes-from_token, AreTokenBytes, IsAscii, IsAscii-cons, IsAscii-nil, IsCharBoundary-after_ascii, IsCharBoundary-before_ascii, IsUtf8, IsUtf8-append, IsUtf8-drop, IsUtf8-from_ascii, IsUtf8-take, List, [], and_parts, append-nil, arith, drop-append-add, get_or, get_or_from_slice_get, is_space, is_token_byte, length, length-append, nat_tests, refl, slice_get-prefix, take-append_seam, ℕ, ⊤, ◌++◌, ◌+◌, ◌<◌, ◌∷◌, and_from, ap, cond_both, false, if◌then◌else◌, list_all-append, suc, take, take_all, take_more, trim_end, trim_start, trimmed, ◌-◌, ◌≡◌, ◌≤◌, HttpReads, MediaType, append_assoc, list_all, sym, ◌∙◌, IsUtf8-nil}
+use Rattle.mime_http.proofs.Common.{is_stop, length-drop, length-take-le, not, take-append-drop, drop, prefix_len, one-add, take_rest, AreSpaces, IsToken, AreTokenBytes-from_token, AreTokenBytes, IsAscii-cons, IsAscii-nil, IsCharBoundary-after_ascii, IsCharBoundary-before_ascii, IsUtf8, IsUtf8-append, IsUtf8-drop, IsUtf8-from_ascii, IsUtf8-take, List, [], and_parts, append-nil, arith, drop-append-add, get_or, get_or_from_slice_get, is_space, is_token_byte, length, length-append, nat_tests, refl, slice_get-prefix, take-append_seam, ℕ, ⊤, ◌++◌, ◌+◌, ◌<◌, ◌∷◌, and_from, ap, cond_both, false, if◌then◌else◌, list_all-append, suc, take, take_all, take_more, trim_end, trim_start, trimmed, ◌-◌, ◌≡◌, ◌≤◌, HttpReads, MediaType, append_assoc, list_all, sym, ◌∙◌, IsUtf8-nil}
 use Rattle.mime_http.proofs.{Runs.spaces-append}
 
 -- ---- ASCII bytes
