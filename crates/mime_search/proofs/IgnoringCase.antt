@@ -1,5 +1,5 @@
 -- Texts that are compared block by block: bits taken together, and blocks that overlap.
-use Rattle.std.proofs.Common.{◌≡◌, ◌↔◌, ℕ, ◌-◌, ◌≤◌, List, ◌++◌, length, zero-add, take, drop, bit_or, sym, ap, ◌∙◌, arith, ◌≢◌, suc, ◌+◌, ◌<◌, Bool, true, false, cond, [], ◌∷◌, set, get_or, refl, subst, length-drop}
+use Rattle.std.proofs.Common.{◌≡◌, ◌↔◌, ℕ, ◌-◌, ◌≤◌, List, ◌++◌, length, zero-add, take, drop, bit_or, sym, ap, ◌∙◌, arith, ◌≢◌, suc, ◌+◌, ◌<◌, Bool, true, false, cond, [], ◌∷◌, set, get_or, refl, subst, length-drop, rules}
 use Rattle.std.specs.{List.range_with_len, List.list_all, List.position_or_len, Option.is_some, Char.to_ascii_lowercase, Simd.Lanes.zip2}
 use Rattle.std.proofs.{lemmas.List.FromFn.get_or-range_with_len, lemmas.List.length-map, lemmas.List.take-map, lemmas.List.drop-map, lemmas.List.take-append-drop, lemmas.List.take_rest, lemmas.List.take-take, lemmas.List.take_more, lemmas.List.take_more_set, lemmas.List.length-take-le, lemmas.List.get_or-take, lemmas.List.get_or-drop, lemmas.List.get_or-map, lemmas.Nat.le_or_l, lemmas.Nat.le_or_r, Math.Seq.take-add, lemmas.Bool.eqb-true, lemmas.Bool.eq-eqb, lemmas.Bool.Decides.nat_tests, lemmas.List.Sums.AllPass-from_list_all, lemmas.List.Sums.prefix_len-le-length, lemmas.List.Sums.prefix_len_stops, lemmas.Simd.length-zip2, lemmas.Simd.get_or-zip2}
 use Rattle.std.specs.Prelude.{◌==◌, not, Option, None, Some, IfSome, IsTrue}
@@ -30,10 +30,7 @@ first_bit_of bits = position_or_len (λ b. b == 1) bits
 -- two numbers have no bit together exactly if neither has one
 pub together : (n m : ℕ) (P Q Whole : Type 0) → (n ≡ 0) ↔ P → (m ≡ 0) ↔ Q → (P → Q → Whole) → (Whole → P × Q)
     → (bit_or n m ≡ 0) ↔ Whole
-together n m P Q Whole first second whole parts = (
-  λ none. whole (first.0 (omega (arith, le_or_l n m))) (second.0 (omega (arith, le_or_r n m))),
-  λ all. let both = parts all in cc (first.1 both.0, second.1 both.1),
-)
+together n m P Q Whole first second whole parts = search (le_or_l, le_or_r, rules)
 
 -- the lowercased form of a text's last bytes
 pub lowered_rest : (text : List ℕ) (from : ℕ) → lowered (take (length text - from) (drop from text)) ≡ drop from (lowered text)

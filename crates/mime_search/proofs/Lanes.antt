@@ -80,10 +80,6 @@ pub stops_inside : (class : Class) (v : List ℕ) → length v ≡ 16 → class.
     → 65535 - outside class v ≡ stops class v
 stops_inside class v long is = rw is (omega (arith, mask-not (is_outside class) v, ap (λ n. 2 ^ n) long))
 
--- a search stops outside the ranges
-pub stops_outside : (class : Class) (v : List ℕ) → class.inside ≡ false → outside class v ≡ stops class v
-stops_outside class v is = rw is refl
-
 -- two bytes, as ranges
 pub of_two : (one other b : ℕ) → not (((nat_lt (bit_or b 0) one || nat_lt one (bit_or b 0)) && (nat_lt b other || nat_lt other b))
     && (nat_lt b other || nat_lt other b)) ≡ (b == one || b == other)

@@ -1,5 +1,5 @@
 -- The search for the end of quoted content, position by position.
-use Rattle.std.proofs.Common.{⊎_elim, one-add, ◌≡◌, ◌≢◌, ℕ, suc, ◌+◌, ◌++◌, ◌<◌, ◌≤◌, Bool, true, false, cond, List, [], ◌∷◌, length, length-drop, get_or, map, take, drop, refl, sym, ap, ◌∙◌, arith}
+use Rattle.std.proofs.Common.{⊎_elim, one-add, ◌≡◌, ◌≢◌, ℕ, suc, ◌+◌, ◌++◌, ◌<◌, ◌≤◌, Bool, true, false, cond, List, [], ◌∷◌, length, length-drop, get_or, map, take, drop, refl, sym, ap, ◌∙◌, arith, rules}
 use Rattle.std.specs.Prelude.{◌==◌, ◌||◌, not}
 use Rattle.std.specs.{List.prefix_len, Simd.Lanes.mask_l}
 use Rattle.std.proofs.{lemmas.Bool.or_parts, lemmas.Bool.cases_Bool, lemmas.Bool.Decides.nat_tests, lemmas.List.drop_more, lemmas.List.drop-drop, lemmas.List.get_or-drop, lemmas.List.Sums.prefix_len_stops}
@@ -32,9 +32,7 @@ plain_run (b ∷ bytes) = ⊎_elim
 -- A search goes on after a run without quotes and backslashes.
 pub search_past_plain_run : (text : List ℕ) (from to : ℕ) → to ≡ from + plain_len (drop from text)
     → to + len_from false (drop to text) ≡ from + len_from false (drop from text)
-search_past_plain_run text from to is =
-    let rest = drop-drop (plain_len (drop from text)) from text ∙ ap (λ n. drop n text) (sym is) in
-    omega (arith, is, plain_run (drop from text), ap (len_from false) rest)
+search_past_plain_run text from to is = search (plain_run, drop-drop, rules)
 
 -- A search goes on after a run that a class passes.
 pub search_past_run : (class : Class) → ((b : ℕ) → is_stop class b ≡ is_mark b) → (text : List ℕ) (from to : ℕ)
@@ -45,15 +43,7 @@ search_past_run class are text from to is =
 -- a first quote or backslash within the text is one
 mark_there : (text : List ℕ) (from to : ℕ) → to ≡ from + plain_len (drop from text) → to < length text
     → is_mark (get_or text to 0) ≡ true
-mark_there text from to is within =
-    let at : get_or (drop from text) (plain_len (drop from text)) 0 ≡ get_or text to 0 =
-    get_or-drop from text (plain_len (drop from text)) 0 ∙ ap (λ n. get_or text n 0) (sym is) in
-    let stops = prefix_len_stops (λ b. not (is_mark b)) (drop from text) 0 (omega (arith, is, within, length-drop from text)) in
-    is_true (is_mark (get_or text to 0)) (ap (λ b. not (is_mark b)) (sym at) ∙ stops)
-  where
-    is_true : (b : Bool) → not b ≡ false → b ≡ true
-    is_true true e = refl
-    is_true false e = sym e
+mark_there text from to is within = search (length-drop, get_or-drop, prefix_len_stops, rules)
 
 -- a backslash is passed with the byte that it pairs
 pub search_past_pair : (text : List ℕ) (position whole : ℕ) → position + len_from false (drop position text) ≡ whole

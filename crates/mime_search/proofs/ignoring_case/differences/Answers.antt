@@ -1,6 +1,5 @@
 -- One more bit; at the end there is one for each of the bytes.
-use Rattle.std.proofs.Common.{◌≡◌, ◌+◌, ◌∙◌, sym, ap, subst, take, arith, rules, slice_set}
-use Rattle.std.specs.Simd.Lanes.{zip2}
+use Rattle.std.proofs.Common.{◌+◌, ◌∙◌, ap, take, arith, rules, slice_set}
 use Rattle.std.proofs.lemmas.List.{take_all}
 use Rattle.mime_search.specs.Differences.{difference_bit}
 use Rattle.mime_search.proofs.IgnoringCase.{one_more}
@@ -21,8 +20,4 @@ loop-at-preserved c =
     }
 
 pub returns : goal.returns
-returns c =
-    let found = c.loop-at.found in
-    let full : c.loop-at.at ≡ 16 = omega (arith, c.loop-at-test.false, c.loop-at.invariant.within) in
-    sym (take_all 16 found (omega (arith, c.loop-at.invariant.long)))
-    ∙ subst (λ n. take n found ≡ zip2 difference_bit (take n c.args.a.now) (take n c.args.b.now)) full c.loop-at.invariant.so_far
+returns c = search (take_all, rules)

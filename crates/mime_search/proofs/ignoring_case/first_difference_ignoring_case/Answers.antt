@@ -1,5 +1,5 @@
 -- Texts are equal block by block, up to one that differs; the last block may overlap the one before.
-use Rattle.std.proofs.Common.{◌≡◌, ◌-◌, ◌+◌, length, sym, ◌∙◌, arith, refl}
+use Rattle.std.proofs.Common.{◌≡◌, ◌-◌, ◌+◌, length, sym, ◌∙◌, arith, refl, rules}
 use Rattle.std.proofs.lemmas.List.{take_all}
 use Rattle.mime_search.specs.Differences.{lowered}
 use Rattle.mime_search.proofs.{IgnoringCase.length-lowered, IgnoringCase.shorter, IgnoringCase.equal_onward, IgnoringCase.difference_onward}
@@ -10,10 +10,7 @@ returns-in-Some-clause-some c =
     difference_onward c.args.a.now c.args.b.now c.loop-from.from c.loop-from.invariant.same c.in-Some.at c.in-Some.ensures.some
 
 pub loop-from-preserved : goal.loop-from-preserved
-loop-from-preserved c = record {
-  within = omega (arith, c.loop-from-test.true);
-  same = equal_onward c.args.a.now c.args.b.now c.loop-from.from c.loop-from.invariant.same 16 (c.in-None.ensures.none refl);
-}
+loop-from-preserved c = search (equal_onward, rules)
 
 pub returns-in-Some-difference_in_block-clause-some : goal.returns-in-Some-difference_in_block-clause-some
 returns-in-Some-difference_in_block-clause-some c =

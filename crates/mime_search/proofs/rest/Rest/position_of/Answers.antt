@@ -1,5 +1,5 @@
 -- The rest is searched from its first block on, or the string's last block.
-use Rattle.std.proofs.Common.{◌≡◌, ◌-◌, length, drop, ◌∙◌, ap, sym, arith}
+use Rattle.std.proofs.Common.{◌≡◌, ◌∙◌, ap, arith, rules}
 use Rattle.mime_search.specs.{Classes.is_stop, Rests.first_position}
 use Rattle.mime_search.proofs.Searches.{no_stop, a_stop, first_stop-position}
 use Rattle.mime_search.proofs.rest.Rest.position_of.Goals as goal
@@ -24,15 +24,4 @@ returns-then-text-ge-BLOCK c =
     ) ∙ ap (first_position c.args.byte) (c.as_bytes-text.ensures.value ∙ c.self.view_is)
 
 pub returns : goal.returns
-returns c =
-    let whole = c.as_bytes-whole.result.now in
-    let text = c.as_bytes-text.result.now in
-    let whole_is = c.as_bytes-whole.ensures.value in
-    let rest = (λ i. drop (length (whole_is i) - length (c.as_bytes-text.ensures.value i)) (whole_is i))
-    ∙ sym c.self.invariant ∙ c.self.view_is in
-    omega (
-      arith,
-      c.first_stop_at_end.ensures,
-      first_stop-position c.of-class.result c.args.byte c.of-class.ensures whole (length whole - length text),
-      ap (first_position c.args.byte) rest,
-    )
+returns c = search (first_stop-position, rules)
