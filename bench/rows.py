@@ -164,7 +164,7 @@ def texts():
     for label, make, most in (("quotes", lambda n: '"' * n, 56), ("quotes \"a", lambda n: '"a' * (n // 2), 44.5),
                               ("a token", lambda n: "x" * n, 2), ("a token but for its end", lambda n: "x" * n + "?", 3)):
         yield long(f"with_parameter: {label}", "write_parameter", make, "a/b", most=most)
-    yield long("unescape: a plain value after a pair", "unescape", lambda n: '\\"' + "x" * n, most=9.5)
+    yield long("unescape: a plain value after a pair", "unescape", lambda n: '\\"' + "x" * n, most=8.3)
     yield long("mime_list: */ over and over", "call_items", lambda n: "*/" * (n // 2))
     yield long("mime_unescape: pairs \\\"", "call_unescape", lambda n: '\\"' * (n // 2))
     yield long("mime_unescape: a plain value", "call_unescape", lambda n: "x" * n, most=1.5)
@@ -191,8 +191,8 @@ def calls():
     yield Row("mime_best, of an Accept header and four offers", "call_best", HEADERS, ", ".join(OFFERS))
     yield Row("mime_order, of the same", "call_order", HEADERS, ", ".join(OFFERS), differs=True)
     yield Row("mime_boundary", "call_boundary", TEXT)
-    for label, text, added, most in (("a charset", TEXT, "charset\nutf-8", None), ("a URL", "application/ld+json", f"profile\n{URL}", 1_550),
-                                     ("a file name", "application/pdf", f"name\n{NAME}", 1_360),
+    for label, text, added, most in (("a charset", TEXT, "charset\nutf-8", None), ("a URL", "application/ld+json", f"profile\n{URL}", 1_450),
+                                     ("a file name", "application/pdf", f"name\n{NAME}", 1_290),
                                      ("a boundary that ends in ?", "multipart/mixed", f"boundary\n{MARKED}", 1_460)):
         yield Row(f"mime_set_parameter, {label}", "call_set_parameter", text, added, most, differs=True)
 
