@@ -4,10 +4,13 @@
 //! rounds. No clause states the results. bench/run compares their sums with the Rust crate's.
 #![tactic(auto)]
 
+mod ranking;
+
+use crate::ranking::ranks;
 use mime::{BOUNDARY, CHARSET, Mime, MimeIter, ParamKey, TextKey, mime_eq_str};
 use mime_http::{
-    Accept, boundary, content_type, covers, rank_offers, unescape, weight_of, with_boundary,
-    with_charset, with_parameter,
+    Accept, boundary, content_type, covers, unescape, weight_of, with_boundary, with_charset,
+    with_parameter,
 };
 use std::alloc::{AllocError, Global};
 use std::fmt::Write;
@@ -363,10 +366,7 @@ fn one(
         (28, Some(mime), _) => written(with_charset(alloc, mime, "utf-8")),
         (29, Some(mime), _) => written(with_boundary(alloc, mime, "----WebKitFormBoundary7MA4YWxk")),
         (30, Some(mime), _) => written(with_parameter(alloc, mime, "name", "a value")),
-        (32, _, _) => match rank_offers(alloc, accept.ranges(), offers) {
-            Ok(ranking) => ranking.len(),
-            Err(_) => 0,
-        },
+        (32, _, _) => ranks(alloc, &accept, offers),
         _ => 0,
     })
 }
