@@ -119,7 +119,7 @@ white_trimmed (b ∷ bytes) white all = grind (arith, white_trimmed bytes white 
 run_of_white : (class : Class) → ((b : ℕ) → is_stop class b ≡ not (is_space b)) → (bytes : List ℕ)
     → prefix_len (λ b. not (is_stop class b)) bytes ≡ length bytes → AreSpaces bytes
 run_of_white class stops [] all = refl
-run_of_white class stops (b ∷ bytes) all = search (run_of_white class stops bytes, one-add, prefix_len, not, is_stop, rules)
+run_of_white class stops (b ∷ bytes) all = search (run_of_white class stops bytes, one-add, rules)
 
 -- A block in which a search for other bytes doesn't stop is left out.
 pub block_trimmed : (class : Class) → ((b : ℕ) → is_stop class b ≡ not (is_space b)) → (piece : List ℕ) (start end : ℕ)

@@ -74,7 +74,7 @@ as_many (b ∷ c ∷ bytes) = grind (arith, as_many bytes, as_many (c ∷ bytes)
 -- Two values that differ mean different bytes if the longer one means itself.
 pub longer_differs : (longer shorter : List ℕ) → unescaped longer ≡ longer → length shorter ≤ length longer → longer ≢ shorter
     → unescaped longer ≢ unescaped shorter
-longer_differs longer shorter itself long differ same = search (unescaped, as_many, length, rules)
+longer_differs longer shorter itself long differ same = search (as_many, rules)
 
 -- ---- what is written for a value
 

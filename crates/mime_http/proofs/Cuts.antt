@@ -124,7 +124,7 @@ no_quote_next (c ∷ bytes) other = rw other refl
 -- A byte outside strings that is no comma and opens no string goes on with the piece.
 pub outside_byte : (line : List ℕ) (at : ℕ) → at < length line → (get_or line at 0 == 44) ≡ false
     → (get_or line at 0 == 61 && get_or line (at + 1) 0 == 34) ≡ false → end_on Outside line (at + 1) ≡ end_on Outside line at
-outside_byte line at within on opens = search (nat_tests, drop_more, get_or-drop, no_quote_next, drop, rules)
+outside_byte line at within on opens = search (nat_tests, drop_more, get_or-drop, no_quote_next, rules)
 
 -- A comma outside strings ends the piece, and so does the line's end.
 pub ends_outside : (line : List ℕ) (at : ℕ) → (at < length line → get_or line at 0 ≡ 44) → end_on Outside line at ≡ at
@@ -205,13 +205,12 @@ outside_next line from to within is =
 cut_goes_on : (place : At) (piece bytes : List ℕ) → cut_from place piece bytes
     ≡ (piece ++ take (piece_len place bytes) bytes) ∷ cut_after (drop (piece_len place bytes) bytes)
 cut_goes_on place piece [] = ap (λ p. p ∷ []) (sym (append-nil piece))
-cut_goes_on place piece (b ∷ bytes) =
-    search (cut_goes_on (after place b) (piece ++ (b ∷ [])) bytes, append-nil, append_assoc, take, piece_len, after, rules)
+cut_goes_on place piece (b ∷ bytes) = search (cut_goes_on (after place b) (piece ++ (b ∷ [])) bytes, append-nil, append_assoc, rules)
 
 -- The cut of a line from a position on has the bytes up to the piece's end first.
 pub cut_at_end : (line : List ℕ) (from end : ℕ) → end ≡ end_on Outside line from
     → cut (drop from line) ≡ take (end - from) (drop from line) ∷ cut_after (drop end line)
-cut_at_end line from end is = search (cut_goes_on, Outside, drop, drop-drop, piece_len, rules)
+cut_at_end line from end is = search (cut_goes_on, drop-drop, rules)
 
 -- ---- the first piece
 

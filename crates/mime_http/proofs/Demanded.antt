@@ -1,7 +1,7 @@
 -- What a range demands of an offer, and its weight: item by item, and by a kept text that ends in a weight of one decimal. What covers an
 -- offer is told by what both mean.
 use Rattle.std.proofs.Common.{rules}
-use Rattle.mime_http.proofs.Common.{IsFirstAccepted, Item, List, MediaType, None, Option, Some, [], arith, bytes_eq, bytes_eq-Decides, list_any, name_seen, name_text, refl, sym, true, unescaped, ◌&&◌, ◌++◌, ◌∙◌, codes, demanded, first_value, has, if◌then◌else◌, items_of, length, list_all, option_map, option_or, thousandths_of, unwrap_or, ℕ, ◌+◌, ◌∷◌, ◌≡◌, AreSpaces, HasBytesAt, Reads, SyntaxTree, ap, ap₂, drop, drop-append_seam, essence_of, final, is_ascii_digit, is_token_byte, length-append, listed, one_reading, plain, read_number, text_from_reads, text_of_tail, value_of, ◌*◌, ◌-◌, Bool, CoversItself, MeaningCounts, and_from, map, meaning_of, not, list_all-from_AllPass, get_or, All-filter, list_any_at, item_of, list_all-map, length-map}
+use Rattle.mime_http.proofs.Common.{IsFirstAccepted, Item, List, MediaType, None, Option, Some, [], arith, bytes_eq, bytes_eq-Decides, list_any, name_seen, name_text, refl, sym, true, unescaped, ◌&&◌, ◌++◌, ◌∙◌, codes, demanded, first_value, has, if◌then◌else◌, items_of, length, list_all, option_map, option_or, thousandths_of, unwrap_or, ℕ, ◌+◌, ◌∷◌, ◌≡◌, AreSpaces, HasBytesAt, Reads, SyntaxTree, ap, ap₂, drop, drop-append_seam, essence_of, final, is_ascii_digit, is_token_byte, length-append, listed, one_reading, plain, read_number, text_from_reads, text_of_tail, value_of, ◌*◌, ◌-◌, Bool, CoversItself, MeaningCounts, and_from, map, meaning_of, not, list_all-from_AllPass, get_or, All-filter, list_any_at, list_all-map, length-map}
 use Rattle.mime.{specs.declared.name.Name.Name, proofs.HandedOut.text_of-essence}
 use Rattle.mime_http.proofs.{Numbers.read_is, Written.lengths}
 
@@ -27,7 +27,7 @@ pub found_after : (offer : MediaType) (count : ℕ) (weight : Option (List ℕ))
     then found_of (count + length (demanded pairs)) (option_or weight (first_value (codes "q") pairs)) else None)
 found_after offer count weight [] = grind (arith)
 found_after offer count weight (pair ∷ pairs) =
-    search (found_after offer count (option_or weight (Some pair.1)) pairs, found_after offer (count + 1) weight pairs, option_or, rules)
+    search (found_after offer count (option_or weight (Some pair.1)) pairs, found_after offer (count + 1) weight pairs, rules)
 
 -- ---- what a look-up finds
 
@@ -40,7 +40,7 @@ list_any-map p f (x ∷ xs) = grind (arith, list_any-map p f xs)
 pub has_item : (offer : MediaType) (name value : List ℕ)
     → list_any (λ item. bytes_eq item.name name && bytes_eq (unescaped item.value) (unescaped value)) (items_of offer.pairs)
     ≡ has offer (name, value)
-has_item offer name value = search (list_any-map, bytes_eq, unescaped, item_of, rules)
+has_item offer name value = search (list_any-map, bytes_eq, rules)
 
 -- The value of the first parameter that is accepted is the first of that name.
 pub first_is : (name : List ℕ) (found : Option Name) (pairs : List (List ℕ × List ℕ))
@@ -111,10 +111,8 @@ demanded-map (pair ∷ pairs) = grind (arith, demanded-map pairs)
 -- An offer has all that is demanded exactly if its meanings have all that is demanded of the meanings.
 all_by_meaning : (offer : MediaType) (pairs : List (List ℕ × List ℕ))
     → list_all (has offer) (demanded pairs) ≡ list_all (has_meant (map meaning_of offer.pairs)) (demanded (map meaning_of pairs))
-all_by_meaning offer pairs =
-    search (map, meaning_of, list_all, demanded-map, list_all-map, demanded, list_any-map, bytes_eq, unescaped, rules)
+all_by_meaning offer pairs = search (demanded-map, list_all-map, list_any-map, bytes_eq, rules)
 
 -- A header says the same of media types that mean the same.
 pub meaning_counts : MeaningCounts
-meaning_counts range other offer offered at same alike weighs =
-    search (list_all, has, demanded, all_by_meaning, length, length-map, meaning_of, demanded-map, rules)
+meaning_counts range other offer offered at same alike weighs = search (all_by_meaning, length-map, demanded-map, rules)

@@ -116,7 +116,7 @@ found_top (rank ∷ ranks) = by (fold (ord_max cmp) None (map Some all)) (top_of
 -- The range that a fold over the ranges keeps is the closest.
 pub closest_is_kept : (ranges : List MediaType) (offer : MediaType)
     → fold (ord_max cmp) None (map (closeness offer) (enumerate_from 0 ranges)) ≡ closest ranges offer
-closest_is_kept ranges offer = search (enumerate_from, folded, closeness, found_top, filter_map, rules)
+closest_is_kept ranges offer = search (folded, found_top, rules)
 
 -- No other range is closer than the closest.
 pub closest_is_closest : ClosestIsClosest

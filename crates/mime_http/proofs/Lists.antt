@@ -22,7 +22,7 @@ follows (in_subtype top []) b = grind (arith, nat_tests)
 follows (in_subtype top (s ∷ sub)) b = grind (arith, nat_tests)
 follows (in_value parts name []) b = grind (arith, nat_tests)
 follows (in_value parts name (v ∷ value)) b = grind (arith, nat_tests)
-follows (in_string parts name content) b = search (nat_tests, awaits_after-append, cases_Bool, awaits_after, rules)
+follows (in_string parts name content) b = search (nat_tests, awaits_after-append, cases_Bool, rules)
 follows state b = grind (arith, nat_tests)
 
 -- What is read ends in no string, and no piece ends before.
@@ -89,7 +89,7 @@ sorted_elements (element text range texts media utf8 reads rest) =
 
 -- A list as HTTP writes it is read as its elements.
 pub http_lists_are_read : HttpListsAreRead
-http_lists_are_read lines media lists = search (read, sorted_elements, are_pieces, rules)
+http_lists_are_read lines media lists = search (sorted_elements, are_pieces, rules)
 
 -- ---- and back
 
@@ -126,11 +126,11 @@ one_sorting (blank text _ _ _ white rest) (a_range _ media _ _ _ _ reads _ more)
 one_sorting (blank text _ _ _ white rest) (a_bad _ _ _ _ not_blank _ more) = absurd (not_blank white)
 one_sorting (a_range text media _ _ _ utf8 reads _ rest) (blank _ _ _ _ white more) = absurd (http_is_not_blank white (media, reads))
 one_sorting (a_range text media _ _ _ utf8 reads printed rest) (a_range _ other _ _ _ _ again likewise more) =
-    search (one_sorting rest more, one_printed_text, printed, rules)
+    search (one_sorting rest more, one_printed_text, rules)
 one_sorting (a_range text media _ _ _ utf8 reads _ rest) (a_bad _ _ _ _ _ isnt more) = absurd (isnt (utf8, (media, reads)))
 one_sorting (a_bad text _ _ _ not_blank isnt rest) (blank _ _ _ _ white more) = absurd (not_blank white)
 one_sorting (a_bad text _ _ _ not_blank isnt rest) (a_range _ media _ _ _ utf8 reads _ more) = absurd (isnt (utf8, (media, reads)))
-one_sorting (a_bad text _ _ _ not_blank isnt rest) (a_bad _ _ _ _ _ _ more) = search (one_sorting rest more, trimmed, rules)
+one_sorting (a_bad text _ _ _ not_blank isnt rest) (a_bad _ _ _ _ _ _ more) = search (one_sorting rest more, rules)
 
 -- Lines are read as one header.
 pub one_header : OneHeader

@@ -1,7 +1,7 @@
 -- A weight that is read digit by digit is the number that its text begins with.
 use Rattle.std.proofs.Common.{rules}
 use Rattle.mime_http.specs.{Ranking.are_decimals, Ranking.is_qvalue, RangesLaws.zero, RangesLaws.one}
-use Rattle.mime_http.proofs.Common.{Bool, IsQvalue, QvaluesAre, nat_lt, suc, zero as none, and_parts, cases_Bool, false, list_all, not, subst, true, true≢false, ⊎_elim, ◌||◌, ◌&&◌, List, WeightIsNumber, [], arith, codes, drop, fold, if◌then◌else◌, is_ascii_digit, length, nat_tests, one_digit, one_dot, read_number, refl, replicate, slice_index, sym, take, take_while, take_while-cons, thousandths_of, three_digits, two_digits, worth, zero_dot, ℕ, ◌*◌, ◌++◌, ◌+◌, ◌-◌, ◌==◌, ◌∷◌, ◌≡◌, ◌≤◌, ◌/◌, mul-le-mul_left}
+use Rattle.mime_http.proofs.Common.{Bool, IsQvalue, QvaluesAre, suc, zero as none, and_parts, cases_Bool, false, list_all, not, subst, true, true≢false, ⊎_elim, ◌||◌, ◌&&◌, List, WeightIsNumber, [], arith, codes, drop, fold, if◌then◌else◌, is_ascii_digit, length, nat_tests, one_digit, one_dot, read_number, refl, replicate, slice_index, sym, take, take_while, take_while-cons, thousandths_of, three_digits, two_digits, worth, zero_dot, ℕ, ◌*◌, ◌++◌, ◌+◌, ◌-◌, ◌==◌, ◌∷◌, ◌≡◌, ◌≤◌, ◌/◌, mul-le-mul_left}
 
 -- This is a number with one more digit.
 abbrev step : ℕ → ℕ → ℕ
@@ -88,7 +88,7 @@ are_zeros (b ∷ bytes) all =
 -- Decimals are at most three digits after a dot, or zeros alone.
 decimals_are : (zeros_alone : Bool) (dot : ℕ) (bytes : List ℕ) → are_decimals zeros_alone (dot ∷ bytes) ≡ true
     → (46 ≡ dot) × (length bytes ≤ 3) × (list_all (λ b. b == 48 || (not zeros_alone && is_ascii_digit b)) bytes ≡ true)
-decimals_are zeros_alone dot bytes are = search (and_parts, nat_lt, length, nat_tests, rules)
+decimals_are zeros_alone dot bytes are = search (and_parts, nat_tests, rules)
 
 -- A text is a qvalue if the same text is one.
 respelled : {text other : List ℕ} {thousandths : ℕ} → IsQvalue text thousandths → text ≡ other

@@ -44,7 +44,7 @@ module _ {least : ℕ} {ranks : List Rank} {at : ℕ} {found : List (Reverse Ran
 
   -- An offer that weighs too little isn't one more.
   pub none_more : ¬ (least ≤ (rank_at ranks at).0) → Ranked least ranks (at + 1) found
-  none_more light = search (still, rank_at, cases_lt, rules)
+  none_more light = search (cases_lt, rules)
 
 -- ---- sorted, they are in order
 
@@ -59,7 +59,7 @@ offers_total = then_total (back_total (on_total (λ offer. offer.0.0) ranks_tota
 -- One that isn't after another is higher, or as high and offered earlier.
 first_by : (x y : Rank) (i j : ℕ) → is_lt (ordering_then (rank_cmp x y) (nat_cmp j i)) ≡ false → (i == j) ≡ false
     → (is_gt (rank_cmp x y) ≡ true) ⊎ ((x ≡ y) × (i < j))
-first_by x y i j low differ = search (one_rank, nat_tests, cases_Bool, is_gt, rank_cmp, rules)
+first_by x y i j low differ = search (one_rank, nat_tests, cases_Bool, rules)
 
 module _ {least : ℕ} {ranks : List Rank} {at : ℕ} (found sorted : List (Reverse Rank × ℕ)) (was : Ranked least ranks at found)
     (moved : IsPermutation found sorted) where
@@ -105,7 +105,7 @@ are_ranked least ranges offers found sorted past was moved up =
 -- The positions of the offers that weigh something are in order.
 pub in_order : {ranges offers : List MediaType} {ranked : List (Reverse Rank × ℕ)} (order : List ℕ)
     → AreRanked 1 ranges offers ranked → order ≡ map (λ offer. offer.1) ranked → AreInOrder ranges offers order
-in_order {ranges} {offers} order are is = search (weighs_within, map, merit, length-map, rules)
+in_order {ranges} {offers} order are is = search (weighs_within, length-map, rules)
 
 -- What all offers say of the ranges that decide is the ranking.
 pub is_ranking : {ranges offers : List MediaType} {ranked : List (Reverse Rank × ℕ)} (count : ℕ) (ranking : List RankedOffer)

@@ -1,7 +1,7 @@
 -- Worked facts of the pages `Ranges`, `Ranking` and `Unescaped`: what covers an offer, which is the best, and why; with the examples of
 -- RFC 9110 (12.5.1) and of RFC 7231 (5.3.2). Ranges and offers are given by their texts.
 use Rattle.std.proofs.Common.{rules}
-use Rattle.mime_http.proofs.Common.{All-contains, AllPairs, AreInOrder, Bool, Contains, List, MeanTheSame, MediaType, None, Option, Some, [], ap, arith, best_offer, closeness, codes, drop, false, get_or, given_weight, is_some, map, not, prefix_len, refl, same_Some, slice_get, suc, sym, true, unwrap_or, zero, ℕ, ◌<◌, ◌==◌, ◌∷◌, ◌≡◌, inl, length, length-map, list_all, list_any, merit}
+use Rattle.mime_http.proofs.Common.{All-contains, AllPairs, AreInOrder, Bool, Contains, List, MeanTheSame, MediaType, None, Option, Some, [], ap, arith, best_offer, closeness, codes, drop, false, get_or, given_weight, is_some, map, not, prefix_len, refl, same_Some, slice_get, suc, sym, true, zero, ℕ, ◌<◌, ◌==◌, ◌∷◌, ◌≡◌, inl, length, length-map, list_all, list_any}
 use Rattle.std.specs.List.{slice_split}
 use Prim.Native.String.{String}
 use Rattle.mime_http.{specs.Ranking.IsRanking, specs.Ranking.is_lacking, specs.Ranking.is_qvalue, specs.Ranking.ranked_as, specs.Ranges.ComesBefore, specs.Ranges.merit_at, specs.declared.ranking.RankedOffer.RankedOffer, proofs.Order.best_is_acceptable, proofs.Order.best_is_first, proofs.Order.best_is_ranked_first, proofs.Order.one_ranking, proofs.Order.weighs_within, proofs.Demanded.covers_itself, proofs.Demanded.meaning_counts, proofs.Strangers.stranger_changes_nothing}
@@ -60,7 +60,7 @@ same_meaning = meaning_counts (media "a/b;p=\\flowed") (media "a/b;p=flowed") (m
 
 -- A paired backslash means another byte than a paired letter.
 other_meaning : ¬ (MeanTheSame (media "a/b;p=\\\\") (media "a/b;p=\\x"))
-other_meaning same = search (get_or, rules)
+other_meaning same = search rules
 
 -- A media type covers itself.
 itself : covers "text/html;level=1;q=0.5;level=2" "text/html;level=1;q=0.5;level=2" ≡ true
@@ -111,15 +111,15 @@ acceptable = best_is_acceptable (all "*/*,text/html;q=0") (all "text/html,image/
 
 -- The best of two isn't the first, which weighs 0.
 not_acceptable : ¬ (best "*/*,text/html;q=0" "text/html,image/jpeg" ≡ Some 0)
-not_acceptable is = search (best_is_acceptable, given_weight, same_Some, rules)
+not_acceptable is = search (best_is_acceptable, same_Some, rules)
 
 -- No order begins with another than the best.
 not_in_order : ¬ (AreInOrder (all "application/json,*/*") (all "text/html,application/json") (0 ∷ 1 ∷ []))
-not_in_order are = search (unwrap_or, best_is_first, rules)
+not_in_order are = search (best_is_first, rules)
 
 -- An entry that covers no offer changes nothing, so `text/html` stays the best.
 stranger : best "text/html,image/jpeg;q=0,*/*;q=0.1" "text/html" ≡ Some 0
-stranger = search (stranger_changes_nothing, Contains, closeness, zero, suc, rules)
+stranger = search (stranger_changes_nothing, rules)
 
 -- ---- why an offer is chosen
 
@@ -207,7 +207,7 @@ not_ranked is =
 -- Both are in order.
 two_in_order : AreInOrder better offered (1 ∷ 0 ∷ [])
 unfolding two_ranked
-two_in_order = search (two_ranked, both_weigh, both, weighs_within, map, merit, rules)
+two_in_order = search (two_ranked, both_weigh, both, weighs_within, rules)
 
 -- An order with one of them alone isn't one.
 one_left_out : ¬ (AreInOrder better offered (1 ∷ []))

@@ -54,7 +54,7 @@ wider_run : (narrow class : ℕ → Bool) → ((b : ℕ) → narrow b ≡ true �
 wider_run narrow class wider zero [] passed = omega arith
 wider_run narrow class wider zero (b ∷ bytes) passed = omega arith
 wider_run narrow class wider (suc n) [] passed = absurd (omega (arith, passed))
-wider_run narrow class wider (suc n) (b ∷ bytes) passed = search (wider_run narrow class wider n bytes, one-add, prefix_len, rules)
+wider_run narrow class wider (suc n) (b ∷ bytes) passed = search (wider_run narrow class wider n bytes, one-add, rules)
 
 -- The end of a run stays the same after some bytes of a narrower class.
 pub run_goes_on : (narrow class : ℕ → Bool) → ((b : ℕ) → narrow b ≡ true → class b ≡ true)

@@ -173,4 +173,4 @@ still_open state at (b ∷ bytes) white all is = grind (arith, by_option, λ (af
 -- A value that lacks a quote lacks it before white space, too.
 pub open_after : (value white : List ℕ) → AreSpaces white → IsHttpFault value MissingQuote
     → IsHttpFault (value ++ white) MissingQuote
-open_after value white all lacks = search (answered_fault, MissingQuote, still_open, before_type, fault_answered, rules)
+open_after value white all lacks = search (answered_fault, still_open, fault_answered, rules)

@@ -1,8 +1,7 @@
 -- A boundary means itself; what is too long means none, and what has no backslash means itself.
-use Rattle.mime_http.proofs.Common.{IsBoundary, contains_char, rules}
+use Rattle.mime_http.proofs.Common.{contains_char, rules}
 use Rattle.mime_http.proofs.{Contents.length-unescaped, Contents.unescaped_same, multipart.meant_boundary.Goals.then-bytes-via-then-bytes, multipart.meant_boundary.Goals.then-bytes-via-else-bytes+then-not-contains}
 use Rattle.mime_http.proofs.multipart.meant_boundary.Goals as goal
 
 pub returns-then-bytes : goal.returns-then-bytes
-returns-then-bytes c =
-    search (then-bytes-via-then-bytes, length-unescaped, then-bytes-via-else-bytes+then-not-contains, contains_char, unescaped_same, IsBoundary, rules)
+returns-then-bytes c = search (length-unescaped, contains_char, unescaped_same, rules)

@@ -10,7 +10,7 @@ is_read : {media : MediaType} {text kept : List ℕ} (name value : List ℕ)
     → text ≡ media.essence ++ text_of_pairs (others name media.pairs ++ ((name, escaped value) ∷ [])) → Reads kept media
     → ((kept : List ℕ) (media : MediaType) → Reads kept media → IsSafe media) → IsToken name → AreHeaderBytes value
     → Reads text (with_pair media (lowered name) (lowered_value name (escaped value)))
-is_read {media} name value made reads safe named header = search (with_pair_is_read, escaped, content_of_escaped, rules)
+is_read {media} name value made reads safe named header = search (with_pair_is_read, content_of_escaped, rules)
 
 pub overflow_add-count : goal.overflow_add-count
 overflow_add-count c = grind (arith, common_steps, others, escaped, length-append, length, pairs_within_text)

@@ -1,6 +1,6 @@
 -- Each parameter is of the name, or is written.
 use Rattle.mime_http.proofs.Common.{NameIs, item_seen, rules, string_bytes, text_in, ◌++◌, ◌∷◌, ◌≡◌}
-use Rattle.mime_http.proofs.{Contents.last_written, Written.none_left, Contents.kept_text, Written.all_left, Written.copied, Written.others_within}
+use Rattle.mime_http.proofs.{Contents.last_written, Contents.kept_text, Written.all_left, Written.copied, Written.others_within}
 use Rattle.mime_http.proofs.parameter.text_with.Goals as goal
 
 pub loop-other-init : goal.loop-other-init
@@ -17,7 +17,7 @@ loop-other-preserved c =
     rw (pushed, c.form_of_content.ensures, kept_text name kept) (copied c.loop-other.invariant first differ)
 
 pub overflow_add-count : goal.overflow_add-count
-overflow_add-count c = search (item_seen, NameIs, others_within, copied, rules)
+overflow_add-count c = search (others_within, copied, rules)
 
 pub returns-clause-text : goal.returns-clause-text
-returns-clause-text c = search (string_bytes, text_in, last_written, none_left, rules)
+returns-clause-text c = search (last_written, rules)

@@ -41,7 +41,7 @@ pub loop-at-preserved-then-at-from-eq0 : goal.loop-at-preserved-then-at-from-eq0
 loop-at-preserved-then-at-from-eq0 c = search (text_after, text_goes_on, rules)
 
 pub loop-at-preserved : goal.loop-at-preserved
-loop-at-preserved c = search (list_all, is_quoted_text_byte, slice_range, one_part, text_goes_on, rules)
+loop-at-preserved c = search (one_part, text_goes_on, rules)
 
 pub returns-else-is_quoted_text_byte : goal.returns-else-is_quoted_text_byte
 returns-else-is_quoted_text_byte c =
@@ -54,4 +54,4 @@ returns-else-is_quoted_text_byte c =
     c.if-byte-eq92.false))
 
 pub returns : goal.returns
-returns c = search (fault_after, at_end, in_string, rules)
+returns c = search (fault_after, at_end, rules)

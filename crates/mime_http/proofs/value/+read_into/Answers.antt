@@ -1,16 +1,16 @@
 -- What is written anew of a value is read as its media type, and what a value lacks is its fault.
-use Rattle.mime_http.proofs.Common.{Explains, IsAccepted, IsUtf8, Reads, answer_of, arith, length, media_of, rules, subst, sym, trimmed, ◌∙◌}
+use Rattle.mime_http.proofs.Common.{Explains, IsAccepted, IsUtf8, Reads, arith, media_of, rules, subst, sym, trimmed, ◌∙◌}
 use Rattle.mime_http.proofs.{HttpLaws.anew_is, HttpLaws.anew_needs, HttpLaws.reading_needs, HttpLaws.written_is_utf8, HttpLaws.written_reads, ReadFaults.answered_fault}
 use Rattle.mime_http.proofs.value.+read_into.Goals as goal
 
 pub returns-in-Err-clause-explained : goal.returns-in-Err-clause-explained
-returns-in-Err-clause-explained t c = search (IsUtf8, answered_fault, answer_of, rules)
+returns-in-Err-clause-explained t c = search (answered_fault, rules)
 
 pub from_utf8_unchecked-text-requires : goal.from_utf8_unchecked-text-requires
-from_utf8_unchecked-text-requires t c = search (IsUtf8, written_is_utf8, rules)
+from_utf8_unchecked-text-requires t c = search (written_is_utf8, rules)
 
 pub returns-in_default-clause-explained : goal.returns-in_default-clause-explained
-returns-in_default-clause-explained t c = search (IsUtf8, IsAccepted, trimmed, length, anew_needs, rules)
+returns-in_default-clause-explained t c = search (anew_needs, rules)
 
 pub returns-in-Err-from_str-clause-explained : goal.returns-in-Err-from_str-clause-explained
 returns-in-Err-from_str-clause-explained t c =

@@ -1,8 +1,7 @@
 -- The pieces written one by one are the whole text.
 use Rattle.std.proofs.Common.{rules}
 use Rattle.mime_http.proofs.Common.{FoldsTo, List, [], append-nil, arith, append_assoc, concat, ℕ, ◌++◌, ◌∷◌, ◌≡◌}
-use Rattle.std.specs.{Fmt.WritesInCalls, Fmt.InlineText.inline_text, Fmt.InlineText.IsIntact, Fmt.InlineText.AppendsIfIntact, declared.fmt.InlineText.InlineText}
-use Rattle.mime_http.specs.HttpPrinted.{not_utf8_text as printed}
+use Rattle.std.specs.{Fmt.InlineText.inline_text, Fmt.InlineText.IsIntact, Fmt.InlineText.AppendsIfIntact, declared.fmt.InlineText.InlineText}
 use Rattle.mime_http.proofs.value.not_utf8_text.Goals as goal
 
 -- What calls wrote is appended.
@@ -12,4 +11,4 @@ appended text new [] calls intact = grind (arith, append-nil, calls)
 appended text new (part ∷ parts) (next, takes, calls) intact = grind (arith, appended next new parts calls, takes intact, append_assoc)
 
 pub returns : goal.returns
-returns c = search (WritesInCalls, AppendsIfIntact, printed, appended, rules)
+returns c = search (appended, rules)
