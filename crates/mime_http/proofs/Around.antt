@@ -1,4 +1,5 @@
 -- White space around a text, and ASCII bytes in a text in UTF-8.
+use Rattle.std.proofs.Common.{rules}
 use Rattle.mime_search.{specs.Classes.end_of_run, specs.declared.class.Class.Class}
 use Rattle.std.proofs.lemmas.List.{take-take}
 use Rattle.mime_http.proofs.Common.{is_stop, length-drop, length-take-le, not, take-append-drop, drop, prefix_len, one-add, take_rest, AreSpaces, IsToken, AreTokenBytes-from_token, AreTokenBytes, IsAscii-cons, IsAscii-nil, IsCharBoundary-after_ascii, IsCharBoundary-before_ascii, IsUtf8, IsUtf8-append, IsUtf8-drop, IsUtf8-from_ascii, IsUtf8-take, List, [], and_parts, append-nil, arith, drop-append-add, get_or, get_or_from_slice_get, is_space, is_token_byte, length, length-append, nat_tests, refl, slice_get-prefix, take-append_seam, ℕ, ⊤, ◌++◌, ◌+◌, ◌<◌, ◌∷◌, and_from, ap, cond_both, false, if◌then◌else◌, list_all-append, suc, take, take_all, take_more, trim_end, trim_start, trimmed, ◌-◌, ◌≡◌, ◌≤◌, HttpReads, MediaType, append_assoc, list_all, sym, ◌∙◌, IsUtf8-nil}
@@ -118,8 +119,7 @@ white_trimmed (b ∷ bytes) white all = grind (arith, white_trimmed bytes white 
 run_of_white : (class : Class) → ((b : ℕ) → is_stop class b ≡ not (is_space b)) → (bytes : List ℕ)
     → prefix_len (λ b. not (is_stop class b)) bytes ≡ length bytes → AreSpaces bytes
 run_of_white class stops [] all = refl
-run_of_white class stops (b ∷ bytes) all =
-    grind (arith, stops b, one-add (prefix_len (λ b. not (is_stop class b)) bytes), run_of_white class stops bytes, all)
+run_of_white class stops (b ∷ bytes) all = search (run_of_white class stops bytes, one-add, rules)
 
 -- A block in which a search for other bytes doesn't stop is left out.
 pub block_trimmed : (class : Class) → ((b : ℕ) → is_stop class b ≡ not (is_space b)) → (piece : List ℕ) (start end : ℕ)

@@ -1,4 +1,5 @@
 -- The content of quoted strings: what is written for a value and in which form, what needs no backslash, and what it means.
+use Rattle.std.proofs.Common.{rules}
 use Rattle.mime_http.proofs.Common.{AreHeaderBytes, one-add, AreTokenBytes-from_token, Bool, IsBoundary, IsContent, IsToken, List, WrittenIsMeant, [], and_parts, ap, append-nil, append_assoc, arith, drop, drop-length, escaped, false, get_or, if◌then◌else◌, is_bchar, is_quoted_byte, is_quoted_text_byte, is_token_byte, length, list_all, list_all-wider, lowered, lowered_value, nat_tests, no_byte, not, quoted_pair, refl, suc, sym, take, take-length, text_byte, true, unescaped, zero, ℕ, ◌&&◌, ◌*◌, ◌++◌, ◌+◌, ◌-◌, ◌<◌, ◌==◌, ◌||◌, ◌∙◌, ◌∷◌, ◌≡◌, ◌≢◌, ◌≤◌, Form, flat_map-append, text_of_pairs, Token, form_of, is_plain, is_token_value, prefix_len, text_in, text_of_pair, is_ascii_uppercase}
 use Rattle.mime.specs.Bytes.{backslash_byte}
 use Rattle.std.specs.Int.Bits.{or_zero_r}
@@ -73,8 +74,7 @@ as_many (b ∷ c ∷ bytes) = grind (arith, as_many bytes, as_many (c ∷ bytes)
 -- Two values that differ mean different bytes if the longer one means itself.
 pub longer_differs : (longer shorter : List ℕ) → unescaped longer ≡ longer → length shorter ≤ length longer → longer ≢ shorter
     → unescaped longer ≢ unescaped shorter
-longer_differs longer shorter itself long differ same =
-    let is : longer ≡ unescaped shorter = sym itself ∙ same in differ (is ∙ (as_many shorter).1 (omega (arith, long, ap length is)))
+longer_differs longer shorter itself long differ same = search (as_many, rules)
 
 -- ---- what is written for a value
 
@@ -219,8 +219,7 @@ run_found value from at is =
 pub special_written : (value text whole : List ℕ) (from at : ℕ) → at < length value → is_plain (get_or value at 0) ≡ false
     → escaped (drop from value) ≡ slice_range value from at ++ escaped (drop at value) → text ++ escaped (drop from value) ≡ whole
     → ((text ++ slice_range value from at) ++ (backslash_byte ∷ get_or value at 0 ∷ [])) ++ escaped (drop (at + 1) value) ≡ whole
-special_written value text whole from at within special run is =
-    grind (arith, nat_tests, append_assoc, drop_more value at 0 within, special, run, is)
+special_written value text whole from at within special run is = search (nat_tests, append_assoc, drop_more, rules)
 
 -- ---- what is written in a form
 

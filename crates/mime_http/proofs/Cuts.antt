@@ -1,4 +1,5 @@
 -- Lines are cut in one way, and each line is; and how far a line's first piece goes.
+use Rattle.std.proofs.Common.{rules}
 use Rattle.mime_http.proofs.Common.{drop_of_length-le, AreBetweenCommas, At, BeginsPiece, IsInString, IsPiece, List, OneCut, Outside, [], after, ap, append-nil, append_assoc, arith, nat_tests, comma, cond_both, cut, cut_from, ends_piece, eqb-true, false, flat_map, line_end, no_line, opens_string, piece_byte, piece_end, piece_string, refl, string_byte, string_end, string_pair, subst, sym, true, ℕ, ⊤, ◌++◌, ◌==◌, ◌∙◌, ◌∷◌, ◌≡◌, Equals, Paired, before_mark, Bool, cond, cut_after, drop, drop-drop, drop_more, get_or, get_or-drop, is_mark, length, length-drop, min, not, prefix_len, prefix_len-le-length, suc, take, zero, ◌&&◌, ◌+◌, ◌-◌, ◌<◌, ◌≤◌, IsNextOutside, piece_len, passes_at_first, true≢false, cases_Bool, ⊎_elim, take-append-drop, take_all, cases_lt}
 use Rattle.mime_http.specs.LineCut.{Quoted}
 use Rattle.mime_search.{specs.Classes.is_stop, specs.Classes.end_of_run, specs.Quoted.awaits_next, specs.Quoted.len_from, specs.declared.class.Class.Class}
@@ -60,9 +61,7 @@ Continues Paired bytes = IsPiece (61 ∷ 34 ∷ 92 ∷ bytes)
 
 -- A byte outside strings that is no comma may stand before what goes on from it.
 byte_before : (b : ℕ) (bytes : List ℕ) → (b == 44) ≡ false → Continues (after Outside b) bytes → IsPiece (b ∷ bytes)
-byte_before b bytes on = cond_both (b == 61) _ _ (λ place. Continues place bytes → IsPiece (b ∷ bytes))
-    (λ equals. subst (λ c. IsPiece (c ∷ bytes)) (sym (eqb-true b 61 equals)))
-    (λ other. piece_byte b bytes on (opens_none b bytes other))
+byte_before b bytes on = search (IsPiece, eqb-true, piece_byte, opens_none, rules)
 
 -- At each place, a byte that ends no piece may stand before what goes on from it.
 further : (place : At) (b : ℕ) (bytes : List ℕ) → ends_piece place b ≡ false → Continues (after place b) bytes
@@ -125,8 +124,7 @@ no_quote_next (c ∷ bytes) other = rw other refl
 -- A byte outside strings that is no comma and opens no string goes on with the piece.
 pub outside_byte : (line : List ℕ) (at : ℕ) → at < length line → (get_or line at 0 == 44) ≡ false
     → (get_or line at 0 == 61 && get_or line (at + 1) 0 == 34) ≡ false → end_on Outside line (at + 1) ≡ end_on Outside line at
-outside_byte line at within on opens =
-    grind (arith, nat_tests, drop_more line at 0 within, on, opens, get_or-drop (at + 1) line 0 0, no_quote_next (drop (at + 1) line))
+outside_byte line at within on opens = search (nat_tests, drop_more, get_or-drop, no_quote_next, rules)
 
 -- A comma outside strings ends the piece, and so does the line's end.
 pub ends_outside : (line : List ℕ) (at : ℕ) → (at < length line → get_or line at 0 ≡ 44) → end_on Outside line at ≡ at
@@ -160,8 +158,7 @@ run_outside (b ∷ bytes) =
 -- After an equals sign and a quote, a piece goes on in a string.
 pub string_opens : (line : List ℕ) (at : ℕ) → at + 1 < length line → get_or line at 0 ≡ 61 → get_or line (at + 1) 0 ≡ 34
     → end_on Quoted line (at + 1 + 1) ≡ end_on Outside line at
-string_opens line at within equals quote =
-    rw (drop_more line at 0 (omega (arith, within)), equals, drop_more line (at + 1) 0 within, quote) (omega arith)
+string_opens line at within equals quote = search (drop_more, rules)
 
 -- After the quote that closes a string, or at the end, a piece goes on outside strings.
 string_left : (paired : Bool) (bytes : List ℕ)
@@ -208,18 +205,12 @@ outside_next line from to within is =
 cut_goes_on : (place : At) (piece bytes : List ℕ) → cut_from place piece bytes
     ≡ (piece ++ take (piece_len place bytes) bytes) ∷ cut_after (drop (piece_len place bytes) bytes)
 cut_goes_on place piece [] = ap (λ p. p ∷ []) (sym (append-nil piece))
-cut_goes_on place piece (b ∷ bytes) = grind (
-  arith,
-  append-nil piece,
-  append_assoc piece (b ∷ []) (take (piece_len (after place b) bytes) bytes),
-  cut_goes_on (after place b) (piece ++ (b ∷ [])) bytes,
-)
+cut_goes_on place piece (b ∷ bytes) = search (cut_goes_on (after place b) (piece ++ (b ∷ [])) bytes, append-nil, append_assoc, rules)
 
 -- The cut of a line from a position on has the bytes up to the piece's end first.
 pub cut_at_end : (line : List ℕ) (from end : ℕ) → end ≡ end_on Outside line from
     → cut (drop from line) ≡ take (end - from) (drop from line) ∷ cut_after (drop end line)
-cut_at_end line from end is =
-    grind (arith, is, cut_goes_on Outside [] (drop from line), drop-drop (piece_len Outside (drop from line)) from line)
+cut_at_end line from end is = search (cut_goes_on, drop-drop, rules)
 
 -- ---- the first piece
 

@@ -1,6 +1,7 @@
 -- What a range demands of an offer, and its weight: item by item, and by a kept text that ends in a weight of one decimal. What covers an
 -- offer is told by what both mean.
-use Rattle.mime_http.proofs.Common.{IsFirstAccepted, Item, List, MediaType, None, Option, Some, [], arith, bytes_eq, bytes_eq-Decides, list_any, name_seen, name_text, refl, sym, true, unescaped, ◌&&◌, ◌++◌, ◌∙◌, codes, demanded, first_value, has, if◌then◌else◌, items_of, length, list_all, option_map, option_or, thousandths_of, unwrap_or, ℕ, ◌+◌, ◌∷◌, ◌≡◌, AreSpaces, HasBytesAt, Reads, SyntaxTree, ap, ap₂, drop, drop-append_seam, essence_of, final, is_ascii_digit, is_token_byte, length-append, listed, one_reading, plain, read_number, text_from_reads, text_of_tail, value_of, ◌*◌, ◌-◌, Bool, CoversItself, MeaningCounts, and_from, map, meaning_of, not, list_all-from_AllPass, get_or, All-filter, list_any_at, item_of, list_all-map, length-map}
+use Rattle.std.proofs.Common.{rules}
+use Rattle.mime_http.proofs.Common.{IsFirstAccepted, Item, List, MediaType, None, Option, Some, [], arith, bytes_eq, bytes_eq-Decides, list_any, name_seen, name_text, refl, sym, true, unescaped, ◌&&◌, ◌++◌, ◌∙◌, codes, demanded, first_value, has, if◌then◌else◌, items_of, length, list_all, option_map, option_or, thousandths_of, unwrap_or, ℕ, ◌+◌, ◌∷◌, ◌≡◌, AreSpaces, HasBytesAt, Reads, SyntaxTree, ap, ap₂, drop, drop-append_seam, essence_of, final, is_ascii_digit, is_token_byte, length-append, listed, one_reading, plain, read_number, text_from_reads, text_of_tail, value_of, ◌*◌, ◌-◌, Bool, CoversItself, MeaningCounts, and_from, map, meaning_of, not, list_all-from_AllPass, get_or, All-filter, list_any_at, list_all-map, length-map}
 use Rattle.mime.{specs.declared.name.Name.Name, proofs.HandedOut.text_of-essence}
 use Rattle.mime_http.proofs.{Numbers.read_is, Written.lengths}
 
@@ -25,11 +26,8 @@ pub found_after : (offer : MediaType) (count : ℕ) (weight : Option (List ℕ))
     → found_from offer count weight (items_of pairs) ≡ (if list_all (has offer) (demanded pairs)
     then found_of (count + length (demanded pairs)) (option_or weight (first_value (codes "q") pairs)) else None)
 found_after offer count weight [] = grind (arith)
-found_after offer count weight (pair ∷ pairs) = grind (
-  arith,
-  found_after offer count (option_or weight (Some pair.1)) pairs,
-  found_after offer (count + 1) weight pairs,
-)
+found_after offer count weight (pair ∷ pairs) =
+    search (found_after offer count (option_or weight (Some pair.1)) pairs, found_after offer (count + 1) weight pairs, rules)
 
 -- ---- what a look-up finds
 
@@ -42,8 +40,7 @@ list_any-map p f (x ∷ xs) = grind (arith, list_any-map p f xs)
 pub has_item : (offer : MediaType) (name value : List ℕ)
     → list_any (λ item. bytes_eq item.name name && bytes_eq (unescaped item.value) (unescaped value)) (items_of offer.pairs)
     ≡ has offer (name, value)
-has_item offer name value =
-    list_any-map (λ item. bytes_eq item.name name && bytes_eq (unescaped item.value) (unescaped value)) item_of offer.pairs
+has_item offer name value = search (list_any-map, bytes_eq, rules)
 
 -- The value of the first parameter that is accepted is the first of that name.
 pub first_is : (name : List ℕ) (found : Option Name) (pairs : List (List ℕ × List ℕ))
@@ -114,19 +111,8 @@ demanded-map (pair ∷ pairs) = grind (arith, demanded-map pairs)
 -- An offer has all that is demanded exactly if its meanings have all that is demanded of the meanings.
 all_by_meaning : (offer : MediaType) (pairs : List (List ℕ × List ℕ))
     → list_all (has offer) (demanded pairs) ≡ list_all (has_meant (map meaning_of offer.pairs)) (demanded (map meaning_of pairs))
-all_by_meaning offer pairs =
-    let has_meaning = has_meant (map meaning_of offer.pairs) in
-    sym (ap (list_all has_meaning) (demanded-map pairs)
-    ∙ (list_all-map has_meaning meaning_of (demanded pairs) ∙ (λ i. list_all (λ pair.
-    list_any-map (λ own. bytes_eq own.0 pair.0 && bytes_eq own.1 (unescaped pair.1)) meaning_of offer.pairs i) (demanded pairs))))
+all_by_meaning offer pairs = search (demanded-map, list_all-map, list_any-map, bytes_eq, rules)
 
 -- A header says the same of media types that mean the same.
 pub meaning_counts : MeaningCounts
-meaning_counts range other offer offered at same alike weighs =
-    let all : list_all (has offer) (demanded range.pairs) ≡ list_all (has offered) (demanded other.pairs) =
-    all_by_meaning offer range.pairs ∙ ((λ i. list_all (has_meant (alike.pairs i)) (demanded (same.pairs i)))
-    ∙ sym (all_by_meaning offered other.pairs)) in
-    let count : length (demanded range.pairs) ≡ length (demanded other.pairs) =
-    sym (length-map (demanded range.pairs) meaning_of) ∙ (ap length (sym (demanded-map range.pairs) ∙ (ap demanded same.pairs
-    ∙ demanded-map other.pairs)) ∙ length-map (demanded other.pairs) meaning_of) in
-    grind (arith, all, count, weighs, same.essence, alike.essence, alike.top)
+meaning_counts range other offer offered at same alike weighs = search (all_by_meaning, length-map, demanded-map, rules)

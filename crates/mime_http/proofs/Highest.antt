@@ -1,4 +1,5 @@
 -- The highest of ranks: which one a fold keeps, as the closest range's, and where it stands first, as the best offer's.
+use Rattle.std.proofs.Common.{rules}
 use Rattle.mime_http.proofs.Common.{All, All-contains, AllPass-from_list_all, list_any, list_any_at, cases_Bool, suc, Bool, ClosestIsClosest, Contains, Contains-append_right, Equal, IsTotalOrder, List, MediaType, None, Option, Ordering, Rank, Some, [], and_from, ap, arith, by_option, cases_lt, closeness, closest, enumerate_from, false, filter_map, find, fold, get_or, get_or-map, get_or_default, get_or_past, inl, inr, is_gt, is_le, is_lt, length, length-map, list_all, list_all-from_AllPass, map, nat_cmp_total, nat_lt, nat_tests, none-some, on_total, option_cmp, ord_max, position, position_or_len, position_or_len_is, rank_cmp, refl, same_Some, subst, sym, then_total, true, true≢false, zero, ℕ, ⊎_elim, ◌&&◌, ◌+◌, ◌<◌, ◌∙◌, ◌∷◌, ◌≡◌, ◌≤◌, ◌⊎◌}
 use Rattle.std.{proofs.lemmas.Cmp.upto, proofs.lemmas.List.Elements.All-cons, proofs.lemmas.List.Elements.All-nil, proofs.lemmas.List.Folds.list_all_at, proofs.lemmas.Bool.and_right, proofs.lemmas.Bool.and_left, proofs.lemmas.Bool.cases_cond, specs.Cmp.Lexicographic.options_total}
 use borrow.Author.Count.{below_more}
@@ -32,8 +33,7 @@ one_rank x y same = grind (arith, nat_tests)
 
 -- Ranks are in a total order, and so are those that may be missing.
 pub ranks_total : IsTotalOrder rank_cmp
-ranks_total = then_total (then_total (then_total (on_total (λ rank. rank.0) nat_cmp_total) (on_total (λ rank. rank.1) nat_cmp_total))
-    (on_total (λ rank. rank.2) nat_cmp_total)) (on_total (λ rank. rank.3) nat_cmp_total)
+ranks_total = search (then_total, on_total, nat_cmp_total, rules)
 
 abbrev cmp : Option Rank → Option Rank → Ordering
 cmp = option_cmp rank_cmp
@@ -116,9 +116,7 @@ found_top (rank ∷ ranks) = by (fold (ord_max cmp) None (map Some all)) (top_of
 -- The range that a fold over the ranges keeps is the closest.
 pub closest_is_kept : (ranges : List MediaType) (offer : MediaType)
     → fold (ord_max cmp) None (map (closeness offer) (enumerate_from 0 ranges)) ≡ closest ranges offer
-closest_is_kept ranges offer =
-    let items = enumerate_from 0 ranges in
-    sym (folded (closeness offer) None items) ∙ sym (found_top (filter_map (closeness offer) items))
+closest_is_kept ranges offer = search (folded, found_top, rules)
 
 -- No other range is closer than the closest.
 pub closest_is_closest : ClosestIsClosest

@@ -1,7 +1,8 @@
 -- Lists as HTTP writes them are read as their elements, and what is read with nothing bad are such lists.
+use Rattle.std.proofs.Common.{rules}
 use Rattle.std.specs.Str.{is_utf8}
 use Rattle.std.proofs.lemmas.Str.{IsUtf8-from_is_utf8, is_utf8-from_IsUtf8}
-use Rattle.mime_http.proofs.Common.{Answer, FirstBad, Header, IsHeader, IsUtf8, OneFirstBad, after_blank, after_range, arith, bad_here, inl, inr, length, lines_or_any, list_all, media_of, rejected, suc, true≢false, ◌⊎◌, ◌≢◌, At, Outside, State, Parts, MatchOption, MatchOption-at_some, MissingSlash, by_option, next, ends_piece, after, answer_of, answer_from, answer_at_end, read, before_type, in_subtype, in_value, in_string, is_quoted_byte, ◌+◌, AreBetweenCommas, AreElements, AreSame, AreSorted, AreSpaces, BadIsAlone, BeginsPiece, HttpListsAreRead, HttpReads, IsAccepted, IsHttpMediaType, IsPiece, IsPrinted, List, MediaType, OneHeader, ReadAreHttpLists, [], a_bad, a_range, accepted_or_rejected, and_parts, anew, ap, append-nil, arith, as_it_stands, comma, element, false, is_space, is_token_byte, line_end, nat_tests, no_line, no_text, nothing, piece_byte, piece_end, refl, sym, trimmed, with_pairs, without_kept, ℕ, ⊎_elim, ⊤, ◌++◌, ◌∙◌, ◌∷◌, ◌≡◌, Equals, Paired, awaits_after, awaits_after-append, cases_Bool, if◌then◌else◌}
+use Rattle.mime_http.proofs.Common.{Answer, FirstBad, Header, IsHeader, IsUtf8, OneFirstBad, after_blank, after_range, arith, bad_here, inl, inr, length, lines_or_any, list_all, media_of, rejected, suc, true≢false, ◌⊎◌, ◌≢◌, At, Outside, State, Parts, MatchOption, MatchOption-at_some, MissingSlash, by_option, next, ends_piece, after, answer_of, answer_from, answer_at_end, read, before_type, in_subtype, in_value, in_string, is_quoted_byte, ◌+◌, AreBetweenCommas, AreElements, AreSame, AreSorted, AreSpaces, BadIsAlone, BeginsPiece, HttpListsAreRead, HttpReads, IsAccepted, IsHttpMediaType, IsPiece, IsPrinted, List, MediaType, OneHeader, ReadAreHttpLists, [], a_bad, a_range, accepted_or_rejected, and_parts, anew, ap, append-nil, arith, as_it_stands, comma, element, false, is_space, is_token_byte, line_end, nat_tests, no_line, no_text, nothing, piece_byte, piece_end, refl, sym, trimmed, with_pairs, without_kept, ℕ, ⊎_elim, ⊤, ◌∙◌, ◌∷◌, ◌≡◌, Equals, Paired, awaits_after, awaits_after-append, cases_Bool, if◌then◌else◌}
 use Rattle.mime_http.{specs.HttpList.blank, specs.LineCut.Quoted, proofs.Around.reads_around, proofs.Around.white_more, proofs.HttpLaws.one_printed_text, proofs.HttpLaws.same_anew, proofs.PlainIsHttp.plain_is_http, proofs.Takes.sorted_both, proofs.Cuts.IsOutside, proofs.Cuts.IsWhole, proofs.Cuts.is_piece, proofs.Cuts.one_cut, proofs.Cuts.only_cut, proofs.Cuts.opens_none, proofs.ReadBack.answered_is_http, proofs.ReadFaults.rejected_is_none, proofs.ReadForth.http_is_answered, proofs.Runs.keeps_before, proofs.Runs.over_white}
 use Rattle.mime_http.specs.ListLaws.{no_text as no_element}
 
@@ -21,9 +22,7 @@ follows (in_subtype top []) b = grind (arith, nat_tests)
 follows (in_subtype top (s ∷ sub)) b = grind (arith, nat_tests)
 follows (in_value parts name []) b = grind (arith, nat_tests)
 follows (in_value parts name (v ∷ value)) b = grind (arith, nat_tests)
-follows (in_string parts name content) b =
-    ⊎_elim (λ paired. grind (arith, nat_tests, paired, awaits_after-append false content (b ∷ [])))
-    (λ text. grind (arith, nat_tests, text, awaits_after-append false content (b ∷ []))) (cases_Bool (awaits_after false content))
+follows (in_string parts name content) b = search (nat_tests, awaits_after-append, cases_Bool, rules)
 follows state b = grind (arith, nat_tests)
 
 -- What is read ends in no string, and no piece ends before.
@@ -49,9 +48,7 @@ http_is_piece {value} {media} reads =
 spaces_are_piece : (white : List ℕ) → AreSpaces white → IsPiece white
 spaces_are_piece [] all = piece_end
 spaces_are_piece (b ∷ white) all =
-    let parts = and_parts (is_space b) _ all in
-    piece_byte b white (grind (arith, nat_tests, parts.0)) (opens_none b white (grind (arith, nat_tests, parts.0)))
-    (spaces_are_piece white parts.1)
+    search (spaces_are_piece white (and_parts (is_space b) _ all).1, and_parts, is_space, piece_byte, nat_tests, opens_none, rules)
 
 -- A piece begins one.
 starts : {text : List ℕ} → IsPiece text → BeginsPiece text
@@ -92,9 +89,7 @@ sorted_elements (element text range texts media utf8 reads rest) =
 
 -- A list as HTTP writes it is read as its elements.
 pub http_lists_are_read : HttpListsAreRead
-http_lists_are_read lines media lists =
-    let read = sorted_elements lists.elements in
-    (read.0, read.1, record { pieces = lists.texts; cut = are_pieces lists.between lists.elements; sorted = read.2 })
+http_lists_are_read lines media lists = search (sorted_elements, are_pieces, rules)
 
 -- ---- and back
 
@@ -113,11 +108,7 @@ elements_of (a_range text range texts ranges _ utf8 reads kept rest) = element t
 
 -- What is read with nothing bad is such a list.
 pub read_are_http_lists : ReadAreHttpLists
-read_are_http_lists lines header is none = record {
-  texts = is.pieces;
-  between = of_any is.cut;
-  elements = elements_of (rw none at is.sorted);
-}
+read_are_http_lists lines header is none = search (of_any, elements_of, rules)
 
 -- ---- pieces are sorted in one way
 
@@ -135,19 +126,15 @@ one_sorting (blank text _ _ _ white rest) (a_range _ media _ _ _ _ reads _ more)
 one_sorting (blank text _ _ _ white rest) (a_bad _ _ _ _ not_blank _ more) = absurd (not_blank white)
 one_sorting (a_range text media _ _ _ utf8 reads _ rest) (blank _ _ _ _ white more) = absurd (http_is_not_blank white (media, reads))
 one_sorting (a_range text media _ _ _ utf8 reads printed rest) (a_range _ other _ _ _ _ again likewise more) =
-    let same = one_sorting rest more in
-    (λ i. one_printed_text text media other reads printed again likewise i ∷ same.0 i, same.1)
+    search (one_sorting rest more, one_printed_text, rules)
 one_sorting (a_range text media _ _ _ utf8 reads _ rest) (a_bad _ _ _ _ _ isnt more) = absurd (isnt (utf8, (media, reads)))
 one_sorting (a_bad text _ _ _ not_blank isnt rest) (blank _ _ _ _ white more) = absurd (not_blank white)
 one_sorting (a_bad text _ _ _ not_blank isnt rest) (a_range _ media _ _ _ utf8 reads _ more) = absurd (isnt (utf8, (media, reads)))
-one_sorting (a_bad text _ _ _ not_blank isnt rest) (a_bad _ _ _ _ _ _ more) =
-    let same = one_sorting rest more in (same.0, ap (λ x. trimmed text ∷ x) same.1)
+one_sorting (a_bad text _ _ _ not_blank isnt rest) (a_bad _ _ _ _ _ _ more) = search (one_sorting rest more, rules)
 
 -- Lines are read as one header.
 pub one_header : OneHeader
-one_header lines header other first second =
-    let is = one_sorting (rw (only_cut first.cut, sym (only_cut second.cut)) at first.sorted) second.sorted in
-    λ i. record { ranges = is.0 i; bad = is.1 i }
+one_header lines header other first second = search (one_sorting, only_cut, rules)
 
 -- ---- each line has a header
 
@@ -235,18 +222,9 @@ bad_if_first (a_bad _ _ _ _ _ _ _) first = λ none. absurd (omega (arith, ap len
 
 -- A header has one first bad entry if an entry is bad, and otherwise none.
 pub one_first_bad : OneFirstBad
-one_first_bad lines header is = (
-  λ some. let it = first_if_bad is.sorted some in (it.0, record { pieces = is.pieces; cut = is.cut; first = it.1 }),
-  λ at first.
-      let same = only_cut first.cut ∙ sym (only_cut is.cut) in (
-        bad_if_first is.sorted (rw same at first.first),
-        λ other too. one_first first.first (rw (only_cut too.cut, sym (only_cut first.cut)) at too.first),
-      ),
-)
+one_first_bad lines header is = search (first_if_bad, only_cut, bad_if_first, one_first, rules)
 
 -- A bad piece changes nothing of those before it and after it.
 pub bad_is_alone : BadIsAlone
-bad_is_alone lines others before after entry ranges more bad worse first last some isnt with_it without = (
-  record { pieces = before ++ (entry ∷ after); cut = with_it; sorted = sorted_both first (a_bad entry after more worse some isnt last) },
-  record { pieces = before ++ after; cut = without; sorted = sorted_both first last },
-)
+bad_is_alone lines others before after entry ranges more bad worse first last some isnt with_it without =
+    search (after, sorted_both, a_bad, rules)

@@ -1,6 +1,7 @@
 -- A weight that is read digit by digit is the number that its text begins with.
+use Rattle.std.proofs.Common.{rules}
 use Rattle.mime_http.specs.{Ranking.are_decimals, Ranking.is_qvalue, RangesLaws.zero, RangesLaws.one}
-use Rattle.mime_http.proofs.Common.{Bool, IsQvalue, QvaluesAre, nat_lt, suc, zero as none, and_parts, cases_Bool, false, list_all, not, subst, true, true≢false, ⊎_elim, ◌||◌, ◌&&◌, List, WeightIsNumber, [], arith, codes, drop, fold, if◌then◌else◌, is_ascii_digit, length, nat_tests, one_digit, one_dot, read_number, refl, replicate, slice_index, sym, take, take_while, take_while-cons, thousandths_of, three_digits, two_digits, worth, zero_dot, ℕ, ◌*◌, ◌++◌, ◌+◌, ◌-◌, ◌==◌, ◌∷◌, ◌≡◌, ◌≤◌, ◌/◌, mul-le-mul_left}
+use Rattle.mime_http.proofs.Common.{Bool, IsQvalue, QvaluesAre, suc, zero as none, and_parts, cases_Bool, false, list_all, not, subst, true, true≢false, ⊎_elim, ◌||◌, ◌&&◌, List, WeightIsNumber, [], arith, codes, drop, fold, if◌then◌else◌, is_ascii_digit, length, nat_tests, one_digit, one_dot, read_number, refl, replicate, slice_index, sym, take, take_while, take_while-cons, thousandths_of, three_digits, two_digits, worth, zero_dot, ℕ, ◌*◌, ◌++◌, ◌+◌, ◌-◌, ◌==◌, ◌∷◌, ◌≡◌, ◌≤◌, ◌/◌, mul-le-mul_left}
 
 -- This is a number with one more digit.
 abbrev step : ℕ → ℕ → ℕ
@@ -27,12 +28,7 @@ three_digits_more n (a ∷ b ∷ c ∷ bytes) = simp take_while-cons (grind (ari
 -- Digits are worth at most ten of the first one's unit.
 worth_most : (unit : ℕ) (bytes : List ℕ) → worth unit bytes ≤ 10 * unit
 worth_most unit [] = omega arith
-worth_most unit (b ∷ bytes) = grind (
-  arith,
-  nat_tests,
-  λ (digit : b - 48 ≤ 9). mul-le-mul_left unit digit,
-  worth_most (unit / 10) bytes,
-)
+worth_most unit (b ∷ bytes) = search (worth_most (unit / 10) bytes, nat_tests, mul-le-mul_left, rules)
 
 -- ---- from the first byte on
 
@@ -92,9 +88,7 @@ are_zeros (b ∷ bytes) all =
 -- Decimals are at most three digits after a dot, or zeros alone.
 decimals_are : (zeros_alone : Bool) (dot : ℕ) (bytes : List ℕ) → are_decimals zeros_alone (dot ∷ bytes) ≡ true
     → (46 ≡ dot) × (length bytes ≤ 3) × (list_all (λ b. b == 48 || (not zeros_alone && is_ascii_digit b)) bytes ≡ true)
-decimals_are zeros_alone dot bytes are =
-    let (start, all) = and_parts (dot == 46 && nat_lt (length bytes) 4) _ are in
-    let (first, few) = and_parts (dot == 46) _ start in (grind (arith, nat_tests, first), grind (arith, nat_tests, few), all)
+decimals_are zeros_alone dot bytes are = search (and_parts, nat_tests, rules)
 
 -- A text is a qvalue if the same text is one.
 respelled : {text other : List ℕ} {thousandths : ℕ} → IsQvalue text thousandths → text ≡ other

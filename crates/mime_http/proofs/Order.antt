@@ -1,4 +1,5 @@
 -- Offers that are sorted by their ranks are in order, of which the first is the best.
+use Rattle.std.proofs.Common.{rules}
 use Rattle.mime_http.proofs.Common.{BestIsRankedFirst, NoneIsBest, OneOrder, OneRanking, by_option, get_or_from_slice_get, option_map, slice_get_within, unwrap_or, AllPairs, All-contains, Option, best_offer, if◌then◌else◌, position, slice_get, AreInOrder, Contains, IsDistinct, IsTotalOrder, List, MediaType, Ordering, Rank, Reverse, [], ap, arith, back_total, false, flip_args, get_or, get_or_past, cases_Bool, inl, inr, is_gt, is_lt, length, length-map, map, map-append, merit, nat_cmp, nat_cmp_total, nat_tests, ne_eqb, on, on_total, ordering_then, rank_cmp, subst, sym, then_cmp, true, then_total, ℕ, ⊎_elim, ◌++◌, ◌+◌, ◌<◌, ◌==◌, ◌∙◌, ◌∷◌, ◌≡◌, ◌≤◌, ◌⊎◌, All, cases_lt, All-map, All-push, Contains-append_left, Contains-append_right, BestIsAcceptable, BestIsFirst, None, Some, and_parts, get_or-map, nat_lt, refl, slice_get-get_or, suc, zero}
 use Rattle.std.{specs.List.Sorted.IsPermutation, specs.List.Sorted.IsSorted, proofs.lemmas.List.Quantifiers.all_pairs_push, proofs.lemmas.List.Sorted.ranks_by, proofs.lemmas.List.Sorted.sorted_far, proofs.lemmas.List.Sorted.All-permutation, proofs.lemmas.List.Sorted.IsPermutation-map, proofs.lemmas.List.Sorted.Contains-permutation, proofs.lemmas.Map.Keys.IsDistinct-IsPermutation, proofs.lemmas.Map.Keys.IsDistinct-from_apart, proofs.lemmas.Map.Keys.apart_from_distinct, proofs.Math.ListN.get_or-map as get_or-map_at, proofs.lemmas.List.Quantifiers.position-Some}
 use Rattle.mime_http.specs.{Ranges.ComesBefore, Ranges.merit_at, Ranking.IsRanking, Ranking.ranked_as, Sorted.AreRanked, declared.ranking.RankedOffer.RankedOffer}
@@ -43,12 +44,7 @@ module _ {least : ℕ} {ranks : List Rank} {at : ℕ} {found : List (Reverse Ran
 
   -- An offer that weighs too little isn't one more.
   pub none_more : ¬ (least ≤ (rank_at ranks at).0) → Ranked least ranks (at + 1) found
-  none_more light = record {
-    are = still;
-    all = λ i below some. ⊎_elim (λ less. was.all i less some)
-        (λ last. absurd (light (subst (λ k. least ≤ (rank_at ranks k).0) (omega (arith, below, last)) some))) (cases_lt i at);
-    apart = was.apart;
-  }
+  none_more light = search (cases_lt, rules)
 
 -- ---- sorted, they are in order
 
@@ -63,9 +59,7 @@ offers_total = then_total (back_total (on_total (λ offer. offer.0.0) ranks_tota
 -- One that isn't after another is higher, or as high and offered earlier.
 first_by : (x y : Rank) (i j : ℕ) → is_lt (ordering_then (rank_cmp x y) (nat_cmp j i)) ≡ false → (i == j) ≡ false
     → (is_gt (rank_cmp x y) ≡ true) ⊎ ((x ≡ y) × (i < j))
-first_by x y i j low differ =
-    ⊎_elim inl (λ no. inr (one_rank x y (grind (arith, nat_tests, low, no)), grind (arith, nat_tests, low, no, differ)))
-    (cases_Bool (is_gt (rank_cmp x y)))
+first_by x y i j low differ = search (one_rank, nat_tests, cases_Bool, rules)
 
 module _ {least : ℕ} {ranks : List Rank} {at : ℕ} (found sorted : List (Reverse Rank × ℕ)) (was : Ranked least ranks at found)
     (moved : IsPermutation found sorted) where
@@ -111,14 +105,7 @@ are_ranked least ranges offers found sorted past was moved up =
 -- The positions of the offers that weigh something are in order.
 pub in_order : {ranges offers : List MediaType} {ranked : List (Reverse Rank × ℕ)} (order : List ℕ)
     → AreRanked 1 ranges offers ranked → order ≡ map (λ offer. offer.1) ranked → AreInOrder ranges offers order
-in_order {ranges} {offers} order are is = rw is (record {
-  best_first = are.best_first;
-  all = λ at. (
-    λ there. omega (arith, ((are.all at).0 there).1),
-    λ weighs. (are.all at).1
-        (omega (arith, weighs_within (map (merit ranges) offers) at weighs, length-map offers (merit ranges)), omega (arith, weighs)),
-  );
-})
+in_order {ranges} {offers} order are is = search (weighs_within, length-map, rules)
 
 -- What all offers say of the ranges that decide is the ranking.
 pub is_ranking : {ranges offers : List MediaType} {ranked : List (Reverse Rank × ℕ)} (count : ℕ) (ranking : List RankedOffer)

@@ -1,6 +1,7 @@
 -- Worked facts of the pages `Ranges`, `Ranking` and `Unescaped`: what covers an offer, which is the best, and why; with the examples of
 -- RFC 9110 (12.5.1) and of RFC 7231 (5.3.2). Ranges and offers are given by their texts.
-use Rattle.mime_http.proofs.Common.{All-contains, AllPairs, AreInOrder, Bool, Contains, List, MeanTheSame, MediaType, None, Option, Some, [], ap, arith, best_offer, closeness, codes, drop, false, get_or, given_weight, is_some, map, not, prefix_len, refl, same_Some, slice_get, subst, suc, sym, true, unwrap_or, zero, ℕ, ◌<◌, ◌==◌, ◌∷◌, ◌≡◌, inl, length, length-map, list_all, list_any, merit}
+use Rattle.std.proofs.Common.{rules}
+use Rattle.mime_http.proofs.Common.{All-contains, AllPairs, AreInOrder, Bool, Contains, List, MeanTheSame, MediaType, None, Option, Some, [], ap, arith, best_offer, closeness, codes, drop, false, get_or, given_weight, is_some, map, not, prefix_len, refl, same_Some, slice_get, suc, sym, true, zero, ℕ, ◌<◌, ◌==◌, ◌∷◌, ◌≡◌, inl, length, length-map, list_all, list_any}
 use Rattle.std.specs.List.{slice_split}
 use Prim.Native.String.{String}
 use Rattle.mime_http.{specs.Ranking.IsRanking, specs.Ranking.is_lacking, specs.Ranking.is_qvalue, specs.Ranking.ranked_as, specs.Ranges.ComesBefore, specs.Ranges.merit_at, specs.declared.ranking.RankedOffer.RankedOffer, proofs.Order.best_is_acceptable, proofs.Order.best_is_first, proofs.Order.best_is_ranked_first, proofs.Order.one_ranking, proofs.Order.weighs_within, proofs.Demanded.covers_itself, proofs.Demanded.meaning_counts, proofs.Strangers.stranger_changes_nothing}
@@ -59,9 +60,7 @@ same_meaning = meaning_counts (media "a/b;p=\\flowed") (media "a/b;p=flowed") (m
 
 -- A paired backslash means another byte than a paired letter.
 other_meaning : ¬ (MeanTheSame (media "a/b;p=\\\\") (media "a/b;p=\\x"))
-other_meaning same =
-    let b : 92 ≡ 120 = ap (λ (pairs : List (List ℕ × List ℕ)). get_or (get_or pairs 0 ([], [])).1 0 0) same.pairs in
-    absurd (omega (arith, b))
+other_meaning same = search rules
 
 -- A media type covers itself.
 itself : covers "text/html;level=1;q=0.5;level=2" "text/html;level=1;q=0.5;level=2" ≡ true
@@ -112,24 +111,15 @@ acceptable = best_is_acceptable (all "*/*,text/html;q=0") (all "text/html,image/
 
 -- The best of two isn't the first, which weighs 0.
 not_acceptable : ¬ (best "*/*,text/html;q=0" "text/html,image/jpeg" ≡ Some 0)
-not_acceptable is =
-    let ranges = all "*/*,text/html;q=0" in
-    let found = best_is_acceptable ranges (all "text/html,image/jpeg") 0 is in
-    let some : 0 < 0 = subst (λ offer. 0 < given_weight ranges offer) (sym (same_Some _ _ found.1)) found.2 in absurd (omega (arith, some))
+not_acceptable is = search (best_is_acceptable, same_Some, rules)
 
 -- No order begins with another than the best.
 not_in_order : ¬ (AreInOrder (all "application/json,*/*") (all "text/html,application/json") (0 ∷ 1 ∷ []))
-not_in_order are =
-    let same : 1 ≡ 0 = ap (λ (best : Option ℕ). unwrap_or best 0) (best_is_first _ _ (0 ∷ 1 ∷ []) are) in
-    absurd (omega (arith, same))
+not_in_order are = search (best_is_first, rules)
 
 -- An entry that covers no offer changes nothing, so `text/html` stays the best.
 stranger : best "text/html,image/jpeg;q=0,*/*;q=0.1" "text/html" ≡ Some 0
-stranger = (stranger_changes_nothing (all "text/html") (all "*/*;q=0.1") (all "text/html") (media "image/jpeg;q=0") no_jpeg).1
-  where
-    no_jpeg : (offer : MediaType) → Contains (all "text/html") offer → closeness offer (0, media "image/jpeg;q=0") ≡ None
-    no_jpeg offer (zero, within, is) = rw (sym is) refl
-    no_jpeg offer (suc k, within, is) = absurd (omega (arith, within))
+stranger = search (stranger_changes_nothing, rules)
 
 -- ---- why an offer is chosen
 
@@ -217,10 +207,7 @@ not_ranked is =
 -- Both are in order.
 two_in_order : AreInOrder better offered (1 ∷ 0 ∷ [])
 unfolding two_ranked
-two_in_order = record {
-  best_first = two_ranked.best_first;
-  all = λ at. (both_weigh at, λ weighs. both at (weighs_within (map (merit better) offered) at weighs));
-}
+two_in_order = search (two_ranked, both_weigh, both, weighs_within, rules)
 
 -- An order with one of them alone isn't one.
 one_left_out : ¬ (AreInOrder better offered (1 ∷ []))

@@ -1,4 +1,6 @@
 -- Reading on from a position of a value: over a byte, a run, and quoted content; and where nothing goes on.
+use Rattle.std.proofs.Common.{rules}
+use Rattle.std.proofs.lemmas.Grind.{common_steps}
 use Rattle.std.proofs.Common.{suc, sym, zero}
 use Rattle.mime_http.proofs.Common.{Bool, one-add, InvalidToken, IsClosedAt, IsContent, List, None, ParseError, Some, State, [], IsStringFault, IsToken, Parts, after_semicolon, answer_at, answer_at_end, answer_from, ap, append-nil, append_assoc, arith, awaits_after, awaits_after-append, before_semicolon, cases_lt, drop, drop-drop, drop_more, drop_of_length-le, drop_split, false, fault_at, flat_map-append, get_or-drop, if◌then◌else◌, in_name, in_ranges, in_string, in_subtype, in_value, is_quoted_byte, is_quoted_text_byte, is_space, is_token_byte, is_token_value, length, length-drop, length-take-le, nat_tests, list_all, list_all-append, list_all-wider, next, no_byte, not, prefix_len, prefix_len_stops, quoted_pair, refl, rejected, slice_index, slice_range, take, take-add, text_byte, text_of_pair, text_of_parts, true, with_parameter, ℕ, ◌++◌, ◌+◌, ◌-◌, ◌<◌, ◌∙◌, ◌∷◌, ◌≡◌, ◌≢◌, ◌≤◌, not-true, content-awaits, is_stop}
 use Rattle.mime_http.{proofs.Written.token_from_test, proofs.ReadBack.content_more, proofs.Runs.EndsToken, proofs.Runs.KeepsSpace, proofs.Runs.content_ends, proofs.Runs.name_begins, proofs.Runs.no_way, proofs.Runs.on_content, proofs.Runs.on_subtype, proofs.Runs.on_value, proofs.Runs.one_byte, proofs.Runs.over_white, proofs.Runs.subtype_ends, proofs.Runs.value_ends}
@@ -52,8 +54,7 @@ wider_run : (narrow class : ℕ → Bool) → ((b : ℕ) → narrow b ≡ true �
 wider_run narrow class wider zero [] passed = omega arith
 wider_run narrow class wider zero (b ∷ bytes) passed = omega arith
 wider_run narrow class wider (suc n) [] passed = absurd (omega (arith, passed))
-wider_run narrow class wider (suc n) (b ∷ bytes) passed =
-    grind (arith, passed, one-add (prefix_len narrow bytes), wider b, wider_run narrow class wider n bytes)
+wider_run narrow class wider (suc n) (b ∷ bytes) passed = search (wider_run narrow class wider n bytes, one-add, rules)
 
 -- The end of a run stays the same after some bytes of a narrower class.
 pub run_goes_on : (narrow class : ℕ → Bool) → ((b : ℕ) → narrow b ≡ true → class b ≡ true)
@@ -133,9 +134,7 @@ text_after value at to within text is =
 pub pair_content : (value : List ℕ) (at end : ℕ) → end ≡ at + 2 → end ≤ length value → slice_index value at ≡ 92
     → is_quoted_byte (slice_index value (at + 1)) ≡ true → IsContent (slice_range value at end)
 pair_content value at end is within first fits =
-    let whole : slice_range value at end ≡ 92 ∷ slice_index value (at + 1) ∷ [] =
-    grind (arith, parts_joined value at (at + 1) end, one_part value at, one_part value (at + 1)) in
-    rw whole (quoted_pair (slice_index value (at + 1)) [] fits no_byte)
+    grind (arith, common_steps, slice_range, slice_index, parts_joined, one_part, quoted_pair, no_byte)
 
 -- Content before content is content.
 pub content_on : (value : List ℕ) (from at to : ℕ) → from ≤ at → at ≤ to → IsContent (slice_range value from at)

@@ -1,4 +1,5 @@
 -- What is read of a value is what HTTP writes: each state says what the bytes so far are.
+use Rattle.std.proofs.Common.{rules}
 use Rattle.mime_http.proofs.Common.{Answer, arith, AreHttpParameters, AreSpaces, AreTokenBytes, AreTokenBytes-from_token, Bool, HttpReads, IsContent, IsHttpParameter, IsToken, List, MatchOption, MatchOption-at_some, Option, Parts, Some, State, [], after_semicolon, answer_at_end, answer_from, answer_of, append-nil, append_assoc, before_semicolon, before_type, cond_both, eqb-true, in_name, in_string, in_subtype, in_type, in_value, is_space, is_token_byte, list_all, list_all-append, map, map-append, media_of, next, no_byte, no_more, quoted_pair, read, refl, rejected, semicolon, semicolon_and, subst, text_byte, true, with_parameter, with_string, with_token, ℕ, ⊤, ◌++◌, ◌+◌, ◌∷◌, ◌≡◌, IsOpenContent, lowered_pair, IsContent-closed, IsOpenContent-push}
 
 -- ---- what the bytes are in each state
@@ -57,10 +58,9 @@ more b (behind front is) = simp append_assoc (behind front is)
 parameters_more : {bytes more : List ℕ} {pairs others : List (List ℕ × List ℕ)} → AreHttpParameters bytes pairs
     → AreHttpParameters more others → AreHttpParameters (bytes ++ more) (pairs ++ others)
 parameters_more no_more are = are
-parameters_more (semicolon before after _ _ white space all) are =
-    simp append_assoc (semicolon before after _ _ white space (parameters_more all are))
+parameters_more (semicolon before after _ _ white space all) are = search (parameters_more all are, append_assoc, semicolon, rules)
 parameters_more (semicolon_and before after parameter _ pair _ white space is all) are =
-    simp append_assoc (semicolon_and before after parameter _ pair _ white space is (parameters_more all are))
+    search (parameters_more all are, append_assoc, semicolon_and, rules)
 
 -- A type and a subtype behind white space are a media type.
 essence_read : {top sub front : List ℕ} → IsToken top → IsToken sub → Behind AreSpaces (top ++ (47 ∷ sub)) front
@@ -143,8 +143,7 @@ pub read_at_end : (state : State) (value : List ℕ) → Spells state value → 
 read_at_end (in_subtype top (s ∷ sub)) value is = whole_is_http (essence_read is.0 is.1 is.2)
 read_at_end (before_semicolon parts) value is = whole_is_http is
 read_at_end (after_semicolon parts) value is = whole_is_http (opened_is_whole is)
-read_at_end (in_value parts name (v ∷ value)) front is =
-    whole_is_http (parameter_after name (v ∷ value) (with_token name (v ∷ value) is.0 is.1) is.2)
+read_at_end (in_value parts name (v ∷ value)) front is = search (whole_is_http, parameter_after, with_token, rules)
 read_at_end other value is = tt
 
 -- The answer after more bytes is what HTTP writes.

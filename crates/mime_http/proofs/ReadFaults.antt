@@ -1,4 +1,5 @@
 -- The fault of a value that isn't read is the answer: where reading stops nothing helps, and at each byte before that something does.
+use Rattle.std.proofs.Common.{rules}
 use Rattle.mime_http.proofs.Common.{Answer, AreSpaces, not, ◌==◌, nat_tests, EndsIn, InvalidToken, IsHttpFault, IsHttpMediaType, IsHttpViable, List, MissingQuote, MissingSubtype, MissingValue, NoMemory, None, OneHttpFault, ParseError, Parts, State, [], awaits_after, list_all, true, with_parameter, answer_at_end, answer_from, answer_of, ap, append-nil, append_assoc, arith, before_type, by_option, false, codes, completion_of, cons_option, in_name, in_string, in_subtype, in_type, in_value, is_quoted_byte, is_token_byte, last_byte_of, length, length-append, media_of, next, read, refl, rejected, slice_get-prefix, slice_get_within, subst, suc, sym, take, take-append-add, take-append_seam, take-length, unwrap_or, ℕ, ⊤, ◌++◌, ◌+◌, ◌-◌, ◌∙◌, ◌∷◌, ◌≡◌, ◌≢◌, closed-letter, takes_all-any}
 use Rattle.mime_http.proofs.{Runs.no_way, Runs.one_byte, ReadBack.Behind, ReadBack.Spells, ReadBack.behind, ReadBack.answered_is_http, ReadBack.read_at_end, ReadBack.read_from, ReadBack.spelled_after, ReadForth.http_is_answered}
 
@@ -172,5 +173,4 @@ still_open state at (b ∷ bytes) white all is = grind (arith, by_option, λ (af
 -- A value that lacks a quote lacks it before white space, too.
 pub open_after : (value white : List ℕ) → AreSpaces white → IsHttpFault value MissingQuote
     → IsHttpFault (value ++ white) MissingQuote
-open_after value white all lacks =
-    answered_fault (value ++ white) MissingQuote (still_open before_type 0 value white all (fault_answered value MissingQuote lacks))
+open_after value white all lacks = search (answered_fault, still_open, fault_answered, rules)

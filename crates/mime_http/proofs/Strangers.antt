@@ -1,5 +1,6 @@
 -- A range that covers none of the offers only moves the ranges after it by one position, which changes no comparison.
-use Rattle.mime_http.proofs.Common.{cons_option, filter_map, find, Contains, List, MediaType, None, Rank, StrangerChangesNothing, [], ap, arith, closeness, enumerate_from, get_or, if◌then◌else◌, is_le, length, length-append, list_all, list_all-map, map, merit, nat_cmp, nat_lt, nat_tests, option_map, ordering_then, position, rank_cmp, refl, sym, zero, ℕ, ◌&&◌, ◌++◌, ◌+◌, ◌-◌, ◌∙◌, ◌∷◌, ◌≡◌, ◌≤◌, Contains-append_right}
+use Rattle.std.proofs.Common.{rules}
+use Rattle.mime_http.proofs.Common.{cons_option, filter_map, find, Contains, List, MediaType, None, Rank, StrangerChangesNothing, [], ap, arith, closeness, enumerate_from, get_or, if◌then◌else◌, length, length-append, list_all-map, map, merit, nat_cmp, nat_lt, nat_tests, option_map, ordering_then, position, rank_cmp, refl, sym, zero, ℕ, ◌++◌, ◌+◌, ◌-◌, ◌∙◌, ◌∷◌, ◌≡◌, ◌≤◌, Contains-append_right}
 use Rattle.std.proofs.Math.ListN.{get_or-map}
 use Rattle.mime_http.{specs.Ranges.ComesBefore, proofs.Highest.is_best, proofs.Highest.lowest, proofs.Highest.position-map, proofs.Highest.rank_at, proofs.Highest.is_top}
 
@@ -19,8 +20,7 @@ module _ (g : ℕ → ℕ) (same : (x y : ℕ) → nat_cmp (g x) (g y) ≡ nat_c
 
   -- A rank is above all others exactly if it is so after all are moved.
   same_top : (all : List Rank) (one : Rank) → is_top (map (moved g) all) (moved g one) ≡ is_top all one
-  same_top all one = list_all-map (λ other. is_le (rank_cmp other (moved g one))) (moved g) all
-      ∙ (λ i. list_all (λ other. is_le (same_order other one i)) all)
+  same_top all one = search (list_all-map, same_order, rules)
 
   -- The highest of moved ranks is the moved highest.
   same_found : (all ranks : List Rank)
@@ -30,8 +30,7 @@ module _ (g : ℕ → ℕ) (same : (x y : ℕ) → nat_cmp (g x) (g y) ≡ nat_c
 
   -- The best of moved ranks has the same position.
   same_best : (all : List Rank) → position (is_best (map (moved g) all)) (map (moved g) all) ≡ position (is_best all) all
-  same_best all =
-      position-map (is_best (map (moved g) all)) (moved g) all ∙ (λ i. position (λ one. nat_lt 0 one.0 && same_top all one i) all)
+  same_best all = search (position-map, same_top, rules)
 
   module _ (all : List Rank) (none : moved g lowest ≡ lowest) where
     -- An offer's rank is moved.
@@ -70,11 +69,9 @@ module _ (offer : MediaType) (k : ℕ) where
   one_range_more : (range : MediaType) (after : List MediaType) → closeness offer (0, range) ≡ None
       → (at : ℕ) (before : List MediaType) → k ≡ at + length before
       → ranks_from offer at (before ++ (range ∷ after)) ≡ map (moved (shifted k)) (ranks_from offer at (before ++ after))
-  one_range_more range after none at [] long = ap (λ first. cons_option first (ranks_from offer (at + 1) after))
-      (covers_so offer range (λ _. at) 0 ∙ ap (option_map (moved (λ _. at))) none) ∙ later at after (omega (arith, long))
+  one_range_more range after none at [] long = search (covers_so, later, rules)
   one_range_more range after none at (other ∷ before) long =
-      ap (cons_option (closeness offer (at, other))) (one_range_more range after none (at + 1) before (omega (arith, long)))
-      ∙ moved_first other at at _ (grind (arith, nat_tests, long))
+      search (one_range_more range after none (at + 1) before (omega (arith, long)), moved_first, nat_tests, rules)
 
 module _ (before after : List MediaType) (range : MediaType) where
   -- This is how early a range stands that stood so early without this one.

@@ -1,4 +1,5 @@
 -- What is taken of lines, piece by piece.
+use Rattle.std.proofs.Common.{rules}
 use Rattle.mime_http.proofs.Common.{AreHeld, At, FirstBad, Held, IsFirstBad, MatchOption, None, Option, Some, after_blank, after_range, bad_here, cut_from, after, false, length-append, nothing_held, ap, option_or, pieces_of, with_bad, with_range, ◌∙◌, ◌^◌, AreSorted, AreSpaces, Bool, Header, HttpReads, IsHeader, IsHttpMediaType, IsPrinted, IsUtf8, List, MediaType, OnOk, Outside, Result, Takes, [], a_bad, a_range, append-nil, append_assoc, cut, cut_after, arith, drop, drop_more, drop_of_length-le, get_or, if◌then◌else◌, length, lines_or_any, no_text, on_ok_weaker, refl, sym, take, trimmed, ℕ, ◌++◌, ◌+◌, ◌-◌, ◌<◌, ◌∷◌, ◌≡◌, ◌≤◌}
 use Rattle.mime_http.{specs.HttpList.blank, proofs.Cuts.are_cut, proofs.Cuts.only_cut, proofs.Cuts.cut_at_end, proofs.Cuts.end_on, proofs.Around.trimmed_from_blank}
 
@@ -23,8 +24,7 @@ first_after : {texts : List (List ℕ)} {ranges : List MediaType} {text : List �
     → ¬ (IsUtf8 text × IsHttpMediaType text) → AreSorted texts ranges [] → FirstBad (texts ++ (text ∷ [])) (length ranges)
 first_after some isnt no_text = bad_here _ [] some isnt
 first_after some isnt (blank text texts ranges _ white rest) = after_blank text _ _ white (first_after some isnt rest)
-first_after some isnt (a_range text range texts ranges _ utf8 reads printed rest) =
-    after_range text _ _ utf8 (range, reads) (first_after some isnt rest)
+first_after some isnt (a_range text range texts ranges _ utf8 reads printed rest) = search (first_after some isnt rest, after_range, rules)
 
 -- The first bad text of held pieces stays the first, or there is still none, with a piece that isn't bad after them.
 first_still : (first : Option ℕ) (pieces bad : List (List ℕ)) (piece : List ℕ) → MatchOption first (bad ≡ []) (FirstBad pieces)
@@ -37,24 +37,12 @@ first_still (Some at) pieces bad piece is = first_stays (piece ∷ []) is
 module _ (keeps_bad : Bool) (piece : List ℕ) (old : Held) where
   -- A piece of white space adds nothing.
   pub takes_blank : AreSpaces piece → Takes keeps_bad (piece ∷ []) old old
-  takes_blank white = λ before held. record {
-    bad = held.bad ++ [];
-    sorted = rw (append-nil old.kept.ranges) at (sorted_both held.sorted (blank piece [] [] [] white no_text));
-    kept = rw (append-nil held.bad) held.kept;
-    count = rw (append-nil held.bad) held.count;
-    first = first_still old.first before held.bad piece held.first;
-  }
+  takes_blank white = search (append-nil, sorted_both, blank, no_text, first_still, rules)
 
   -- A media type that was added is a range.
   pub takes_range : {range : MediaType} (new : Held) {X E : Type 0} (result : Result X E) → IsUtf8 piece → HttpReads piece range
       → IsPrinted piece range → OnOk result (new ≡ with_range range old) → OnOk result (Takes keeps_bad (piece ∷ []) old new)
-  takes_range {range} new result utf8 reads printed = on_ok_weaker result (λ is before held. rw is (record {
-    bad = held.bad ++ [];
-    sorted = sorted_both held.sorted (a_range piece range [] [] [] utf8 reads printed no_text);
-    kept = rw (append-nil held.bad) held.kept;
-    count = rw (append-nil held.bad) held.count;
-    first = first_still old.first before held.bad piece held.first;
-  }))
+  takes_range {range} new result utf8 reads printed = search (on_ok_weaker, sorted_both, a_range, no_text, append-nil, first_still, rules)
 
   -- The first of a bad piece and of those before it is theirs, or else this piece.
   first_of_bad : (first : Option ℕ) {pieces bad : List (List ℕ)} {ranges : List MediaType} (entry : List ℕ) → ¬ (AreSpaces piece)
@@ -87,8 +75,7 @@ pieces_of_nothing holds = rw (only_cut holds.cut) at holds.sorted
 pub both_are_nothing : (first : List (List ℕ)) {rest : List (List ℕ)} → AreSorted (first ++ rest) [] []
     → AreSorted first [] [] × AreSorted rest [] []
 both_are_nothing [] sorted = (no_text, sorted)
-both_are_nothing (text ∷ first) (blank _ _ _ _ white others) =
-    let both = both_are_nothing first others in (blank text first [] [] white both.0, both.1)
+both_are_nothing (text ∷ first) (blank _ _ _ _ white others) = search (both_are_nothing first others, blank, rules)
 
 -- A text of which nothing is read is white space.
 pub is_blank : {piece : List ℕ} {rest : List (List ℕ)} → AreSorted (piece ∷ rest) [] [] → trimmed piece ≡ []
@@ -119,11 +106,7 @@ module _ {keeps_bad : Bool} where
   -- After some are taken, those behind them are left.
   pub rest_left : (some : List (List ℕ)) {old now new : Held} {all rest : List (List ℕ)}
       → AreLeft keeps_bad old now all (some ++ rest) → Takes keeps_bad some now new → AreLeft keeps_bad old new all rest
-  rest_left some {rest = rest} left taken = record {
-    takes = λ last others.
-        left.takes last (λ before held. rw (sym (append_assoc before some rest)) (others (before ++ some) (taken before held)));
-    nothing = λ sorted. (both_are_nothing some (left.nothing sorted)).1;
-  }
+  rest_left some {rest = rest} left taken = search (append_assoc, both_are_nothing, rules)
 
   -- All are taken if none is left.
   pub all_taken : {old now : Held} {all : List (List ℕ)} → AreLeft keeps_bad old now all [] → Takes keeps_bad all old now

@@ -142,11 +142,6 @@ pub copied : {name whole text : List ℕ} {total count : ℕ} {items next : List
     → Left name whole (text ++ text_of_pair (item.name, item.value)) total (count + 1) next
 copied left is other = grind (arith, false_from_ne_true, name_decides, append_assoc)
 
--- If no items are left, all is written and counted.
-pub none_left : {name whole text : List ℕ} {total count : ℕ} {items : List Item} → Left name whole text total count items
-    → items ≡ [] → (text ≡ whole) × (count ≡ total)
-none_left {text = text} left none = (sym (append-nil text) ∙ (rw none at left.written), omega (arith, rw none at left.counted))
-
 -- The pairs of other names are no more than all pairs.
 pub others_within : (name : List ℕ) (pairs : List (List ℕ × List ℕ)) → length (others name pairs) ≤ length pairs
 others_within name [] = omega arith

@@ -1,6 +1,7 @@
 -- Nothing is left out of bytes of which the first and the last are no white space.
-use Rattle.std.proofs.Common.{ap, arith, get_or, refl, sym, List, [], ℕ, ◌<◌, ◌∙◌, ◌∷◌, ◌≡◌, false}
-use Rattle.mime_http.proofs.Common.{is_space, nat_tests, trim_end, trim_start}
+use Rattle.std.proofs.Common.{rules}
+use Rattle.std.proofs.Common.{arith, get_or, refl, List, [], ℕ, ◌<◌, ◌∷◌, ◌≡◌, false}
+use Rattle.mime_http.proofs.Common.{is_space, nat_tests, trim_start}
 use Rattle.mime_http.proofs.Around.{nothing_after}
 use Rattle.mime_http.proofs.list.trimmed.Goals as goal
 
@@ -14,6 +15,4 @@ nothing_before [] other = refl
 nothing_before (b ∷ bytes) other = rw other refl
 
 pub returns-then-bytes-gt32-2 : goal.returns-then-bytes-gt32-2
-returns-then-bytes-gt32-2 c =
-    sym (ap trim_end (nothing_before c.args.bytes.now (no_space _ c.if-bytes-gt32.true))
-    ∙ nothing_after c.args.bytes.now (λ some. no_space _ c.if-bytes-gt32-2.true))
+returns-then-bytes-gt32-2 c = search (nothing_before, no_space, nothing_after, rules)

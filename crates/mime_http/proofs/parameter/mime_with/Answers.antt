@@ -1,4 +1,6 @@
 -- What is written is known to be read as the media type with the parameter.
+use Rattle.std.proofs.Common.{rules}
+use Rattle.std.proofs.lemmas.Grind.{common_steps}
 use Rattle.mime_http.proofs.Common.{AreHeaderBytes, IfOk-weaker, IsSafe, IsToken, List, MediaType, Reads, [], ap, ap₂, arith, escaped, length, length-append, lowered, lowered-lowered, lowered_value, others, string_bytes, subst, sym, text_of_pairs, with_pair, ℕ, ◌++◌, ◌+◌, ◌∙◌, ◌∷◌, ◌≡◌}
 use Rattle.mime_http.proofs.{Contents.content_of_escaped, Written.pairs_within_text, Written.with_pair_is_read}
 use Rattle.mime_http.proofs.parameter.mime_with.Goals as goal
@@ -8,15 +10,10 @@ is_read : {media : MediaType} {text kept : List ℕ} (name value : List ℕ)
     → text ≡ media.essence ++ text_of_pairs (others name media.pairs ++ ((name, escaped value) ∷ [])) → Reads kept media
     → ((kept : List ℕ) (media : MediaType) → Reads kept media → IsSafe media) → IsToken name → AreHeaderBytes value
     → Reads text (with_pair media (lowered name) (lowered_value name (escaped value)))
-is_read {media} name value made reads safe named header =
-    rw made (with_pair_is_read _ media name (escaped value) reads (safe _ media reads) named (content_of_escaped value header))
+is_read {media} name value made reads safe named header = search (with_pair_is_read, content_of_escaped, rules)
 
 pub overflow_add-count : goal.overflow_add-count
-overflow_add-count c =
-    let pairs = others c.args.name.now c.args.mime.now.media.pairs ++ ((c.args.name.now, escaped c.args.value.now) ∷ []) in
-    let long = simp length-append at (ap length c.in_ok-text.ensures.text) in
-    let counted = simp length-append at (pairs_within_text pairs) in
-    omega (arith, long, counted, c.in_ok-text.ensures.count, c.len-more.ensures, c.len-more.type_inv)
+overflow_add-count c = grind (arith, common_steps, others, escaped, length-append, length, pairs_within_text)
 
 pub invariant_of-known : goal.invariant_of-known
 invariant_of-known c =

@@ -1,6 +1,6 @@
 -- Each parameter is of the name, or is written.
-use Rattle.mime_http.proofs.Common.{[], NameIs, arith, item_seen, rules, string_bytes, text_in, ◌++◌, ◌∙◌, ◌∷◌, ◌≡◌}
-use Rattle.mime_http.proofs.{Contents.last_written, Written.none_left, Contents.kept_text, Written.all_left, Written.copied, Written.others_within}
+use Rattle.mime_http.proofs.Common.{NameIs, item_seen, rules, string_bytes, text_in, ◌++◌, ◌∷◌, ◌≡◌}
+use Rattle.mime_http.proofs.{Contents.last_written, Contents.kept_text, Written.all_left, Written.copied, Written.others_within}
 use Rattle.mime_http.proofs.parameter.text_with.Goals as goal
 
 pub loop-other-init : goal.loop-other-init
@@ -17,15 +17,7 @@ loop-other-preserved c =
     rw (pushed, c.form_of_content.ensures, kept_text name kept) (copied c.loop-other.invariant first differ)
 
 pub overflow_add-count : goal.overflow_add-count
-overflow_add-count c =
-    let first : c.loop-other.other-iterator ≡ item_seen (c.in-Some.other, c.in-Some.kept) ∷ c.next.new.self = search rules in
-    let differ : ¬ (NameIs c.in-Some.other.text.now c.in-Some.other.ignores_case c.args.name.now) = search rules in
-    let within = others_within c.args.name.now c.args.mime.now.media.pairs in
-    omega (arith, (copied c.loop-other.invariant first differ).counted, within, c.param_count-most.ensures, c.param_count-most.type_inv)
+overflow_add-count c = search (others_within, copied, rules)
 
 pub returns-clause-text : goal.returns-clause-text
-returns-clause-text c =
-    let ended : c.loop-other.other-iterator ≡ [] = search rules in
-    let pushed : string_bytes c.push_parameter-2.new.text
-    ≡ string_bytes c.loop-other.text ++ text_in c.args.form c.args.name.now c.args.value.now = search rules in
-    pushed ∙ last_written _ _ _ _ _ _ (none_left c.loop-other.invariant ended).0 c.requires.fits
+returns-clause-text c = search (last_written, rules)

@@ -1,5 +1,6 @@
 -- The quote, token bytes and more content are read; without quotes is written what is a token.
-use Rattle.mime_http.proofs.Common.{IsClosedAt, IsContent, List, answer_at, ap, ap₂, append-nil, arith, false, in_string, in_value, is_quoted_text_byte, is_token_byte, is_token_value, length, list_all-wider, next, refl, slice_index, slice_range, sym, true, [], ℕ, ◌+◌, ◌++◌, ◌<◌, ◌∙◌, ◌∷◌, ◌≡◌}
+use Rattle.std.proofs.Common.{rules}
+use Rattle.mime_http.proofs.Common.{IsClosedAt, IsContent, List, answer_at, ap, ap₂, append-nil, arith, false, in_string, in_value, is_quoted_text_byte, is_token_byte, is_token_value, length, list_all-wider, refl, slice_index, slice_range, sym, true, [], ℕ, ◌+◌, ◌++◌, ◌<◌, ◌∙◌, ◌∷◌, ◌≡◌}
 use Rattle.mime_http.{specs.Reader.Parts, proofs.Contents.token_byte_text, proofs.ReadAt.IsRun, proofs.ReadAt.content_on, proofs.ReadAt.fault_after, proofs.ReadAt.no_token_value, proofs.ReadAt.one_part, proofs.ReadAt.over_byte, proofs.ReadAt.over_content, proofs.ReadAt.parts_joined, proofs.ReadAt.run_is, proofs.ReadAt.text_content, proofs.ReadAt.token_part, proofs.ReadAt.token_value, proofs.reader.string_at.Goals.else-begin-plain-via-then-begin-plain+else-plain-close, proofs.reader.string_at.Goals.else-begin-plain-via-else-begin-plain}
 use Rattle.mime_http.proofs.reader.string_at.Goals as goal
 
@@ -7,8 +8,7 @@ use Rattle.mime_http.proofs.reader.string_at.Goals as goal
 opens : (parts : Parts) (name value : List ℕ) (quote : ℕ) → quote < length value → slice_index value quote ≡ 34
     → answer_at value (in_value parts name []) quote ≡ answer_at value (in_string parts name []) (quote + 1)
 unfolding is_token_byte
-opens parts name value quote within is =
-    over_byte value quote (in_value parts name []) (in_string parts name []) within (ap (next (in_value parts name [])) is)
+opens parts name value quote within is = search (over_byte, rules)
 
 -- Token bytes are content.
 run_content : (value : List ℕ) (from plain : ℕ) → IsRun is_token_byte value from plain → IsContent (slice_range value from plain)
@@ -18,12 +18,7 @@ run_content value from plain run =
 -- The string is closed from its begin on if it is so after token bytes.
 closed_from : (value : List ℕ) (from plain close : ℕ) → IsRun is_token_byte value from plain → IsClosedAt value plain close
     → IsClosedAt value from close
-closed_from value from plain close run closed = record {
-  least = omega (arith, run.least, closed.least);
-  within = closed.within;
-  content = content_on value from plain close run.least closed.least (run_content value from plain run) closed.content;
-  quote = closed.quote;
-}
+closed_from value from plain close run closed = search (content_on, run_content, rules)
 
 pub returns-in-Err : goal.returns-in-Err
 returns-in-Err c = λ name parts.

@@ -1,28 +1,16 @@
 -- What is written anew of a value is read as its media type, and what a value lacks is its fault.
-use Rattle.mime_http.proofs.Common.{Explains, IsAccepted, IsUtf8, Reads, answer_of, ap, arith, length, media_of, refl, rules, subst, sym, trimmed, ◌<◌, ◌≤◌, ◌∙◌}
+use Rattle.mime_http.proofs.Common.{Explains, IsAccepted, IsUtf8, Reads, arith, media_of, rules, subst, sym, trimmed, ◌∙◌}
 use Rattle.mime_http.proofs.{HttpLaws.anew_is, HttpLaws.anew_needs, HttpLaws.reading_needs, HttpLaws.written_is_utf8, HttpLaws.written_reads, ReadFaults.answered_fault}
 use Rattle.mime_http.proofs.value.+read_into.Goals as goal
 
 pub returns-in-Err-clause-explained : goal.returns-in-Err-clause-explained
-returns-in-Err-clause-explained t c =
-    let utf8 : IsUtf8 c.args.value.now = search rules in
-    (utf8, answered_fault c.args.value.now c.in-Err.fault (ap answer_of (sym c.as_bytes.ensures.value) ∙ c.in-Err.ensures.answer))
+returns-in-Err-clause-explained t c = search (answered_fault, rules)
 
 pub from_utf8_unchecked-text-requires : goal.from_utf8_unchecked-text-requires
-from_utf8_unchecked-text-requires t c =
-    let utf8 : IsUtf8 c.args.value.now = search rules in
-    let (parts, answered, holds) = c.in-Ok.ensures.answer in
-    let text = holds.held (omega (arith, c.write_anew.ensures.room, c.if-len-room.false)) in
-    subst IsUtf8 (sym text) (written_is_utf8 c.as_bytes.result.now parts (rw c.as_bytes.ensures.value utf8) answered)
+from_utf8_unchecked-text-requires t c = search (written_is_utf8, rules)
 
 pub returns-in_default-clause-explained : goal.returns-in_default-clause-explained
-returns-in_default-clause-explained t c =
-    let utf8 : IsUtf8 c.args.value.now = search rules in
-    let isnt : ¬ (IsAccepted (trimmed c.args.value.now)) = search rules in
-    let room : 40 ≤ length c.args.room.now = search rules in
-    let (parts, answered, holds) = c.in-Ok.ensures.answer in
-    let long : 40 < c.in-Ok.len = omega (arith, room, c.write_anew.ensures.room, c.if-len-room.true) in
-    (utf8, anew_needs parts isnt (rw c.as_bytes.ensures.value at answered) refl (omega (arith, long, holds.long)))
+returns-in_default-clause-explained t c = search (anew_needs, rules)
 
 pub returns-in-Err-from_str-clause-explained : goal.returns-in-Err-from_str-clause-explained
 returns-in-Err-from_str-clause-explained t c =

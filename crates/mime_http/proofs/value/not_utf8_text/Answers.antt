@@ -1,7 +1,7 @@
 -- The pieces written one by one are the whole text.
+use Rattle.std.proofs.Common.{rules}
 use Rattle.mime_http.proofs.Common.{FoldsTo, List, [], append-nil, arith, append_assoc, concat, ℕ, ◌++◌, ◌∷◌, ◌≡◌}
-use Rattle.std.specs.{Fmt.WritesInCalls, Fmt.InlineText.inline_text, Fmt.InlineText.IsIntact, Fmt.InlineText.AppendsIfIntact, declared.fmt.InlineText.InlineText}
-use Rattle.mime_http.specs.HttpPrinted.{not_utf8_text as printed}
+use Rattle.std.specs.{Fmt.InlineText.inline_text, Fmt.InlineText.IsIntact, Fmt.InlineText.AppendsIfIntact, declared.fmt.InlineText.InlineText}
 use Rattle.mime_http.proofs.value.not_utf8_text.Goals as goal
 
 -- What calls wrote is appended.
@@ -11,7 +11,4 @@ appended text new [] calls intact = grind (arith, append-nil, calls)
 appended text new (part ∷ parts) (next, takes, calls) intact = grind (arith, appended next new parts calls, takes intact, append_assoc)
 
 pub returns : goal.returns
-returns c =
-    let text = c.new-text in
-    let wrote : WritesInCalls AppendsIfIntact text.result (printed c.args.pos) c.write.new.self = c.in_ok-write.ensures.writes in
-    grind (arith, appended text.result c.write.new.self wrote.parts wrote.calls text.ensures.intact, text.ensures.text, wrote.whole)
+returns c = search (appended, rules)

@@ -1,11 +1,11 @@
 -- A piece is white space, a media type, or bad.
+use Rattle.std.proofs.Common.{rules}
 use Rattle.mime_http.proofs.Common.{ap, arith, as_it_stands, common_steps, length, nil_from_length, trimmed, ◌∙◌}
 use Rattle.mime_http.proofs.{Around.blank_from_trimmed, Around.reads_around, Around.utf8_around, Around.utf8_trimmed, PlainIsHttp.plain_is_http, Takes.takes_bad, Takes.takes_blank, Takes.takes_range}
 use Rattle.mime_http.proofs.accept.Reading.take_piece.Goals as goal
 
 pub returns-then-is_empty-clause-taken : goal.returns-then-is_empty-clause-taken
-returns-then-is_empty-clause-taken c =
-    takes_blank _ _ _ (blank_from_trimmed c.args.piece.now (nil_from_length _ (grind (arith, common_steps))))
+returns-then-is_empty-clause-taken c = search (takes_blank, blank_from_trimmed, nil_from_length, rules)
 
 pub returns-in_default-clause-taken : goal.returns-in_default-clause-taken
 returns-in_default-clause-taken c =
