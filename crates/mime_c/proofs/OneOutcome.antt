@@ -41,8 +41,8 @@ pub record IsReading (IsRead : MediaType → Type 0) (Explained : FieldError →
 
 -- A call has one outcome if it reads a media type first and has one outcome for each.
 pub one_of_reading : {Held : Type 0} {IsRead : MediaType → Type 0} {Explained : FieldError → Type 0} {failed : MimeFound → Held}
-    {Is : MediaType → ℕ → Held → Type 0} → IsReading IsRead Explained → ((media : MediaType) → IsRead media → HasOne (Is media))
-    → HasOne (Of IsRead Explained failed Is)
+    {Is : MediaType → ℕ → Held → Type 0} → IsReading IsRead Explained
+    → ((media : MediaType) → IsRead media → HasOne (Is media)) → HasOne (Of IsRead Explained failed Is)
 one_of_reading reading one = ⊎_elim
     (λ it. let has = one it.0 it.1 in (_, _, has.2, is_read it.0 _ _ it.1 has.3, λ n held some is. search rules))
     (λ it. (_, _, it.1, fails it.0 it.2, λ n held some is. search rules)) reading.either

@@ -1,6 +1,5 @@
 -- What each answer says, whatever the text is: when memory may run out, what then holds, and that the texts come back.
-use Rattle.std.proofs.Common.{rules}
-use Rattle.std.proofs.Common.{◌≡◌, ◌≢◌, ℕ, ◌*◌, ◌≤◌, ◌⊎◌, inl, inr, List, [], ◌∷◌, length, refl, sym, ap, subst, arith, codes, None}
+use Rattle.std.proofs.Common.{rules, ◌≡◌, ◌≢◌, ℕ, ◌*◌, ◌≤◌, ◌⊎◌, inl, inr, List, [], ◌∷◌, length, refl, sym, ap, subst, arith, codes, None}
 use Rattle.std.specs.{List.All, Str.IsUtf8}
 use Rattle.std.proofs.lemmas.List.Elements.{All-contains, All-cons, All-nil}
 use Rattle.mime.specs.{Bytes.is_token_byte, Grammar.no_list, Values.MediaType, Values.Reads, Faults.Explains, Cut.CutItem, Cut.good, Cut.bad, Cut.Cut, Cut.whole, declared.scan.fault.ParseError.TheVariants.NoMemory}

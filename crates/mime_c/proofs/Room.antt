@@ -1,6 +1,5 @@
 -- How many bytes the strings are.
-use Rattle.std.proofs.Common.{rules}
-use Rattle.std.proofs.Common.{◌≡◌, ℕ, zero, suc, ◌+◌, ◌*◌, ◌<◌, ◌≤◌, List, [], ◌∷◌, ◌++◌, length, take, Option, Some, None, sym, ap, ◌∙◌, subst, arith, length-append, length-take}
+use Rattle.std.proofs.Common.{rules, ◌≡◌, ℕ, zero, suc, ◌+◌, ◌*◌, ◌<◌, ◌≤◌, List, [], ◌∷◌, ◌++◌, length, take, Option, Some, None, sym, ap, ◌∙◌, subst, arith, length-append, length-take}
 use Rattle.std.proofs.{lemmas.List.map-append, lemmas.List.Concat.flat_map-append}
 use Rattle.mime.specs.{Grammar.Parameter, Grammar.plain, Grammar.quoted, Grammar.Parameters, Grammar.blank, Grammar.final, Grammar.more, Grammar.Tail, Grammar.no_list, Grammar.listed, Grammar.SyntaxTree, Grammar.text_of, Grammar.text_of_parameter, Grammar.text_of_list, Grammar.text_of_tail, Values.MediaType, Values.Reads, Values.pair_of, Values.pairs_of_list, Values.pairs_of_tail, Values.kept_text, Cut.CutItem, Cut.ItemsOf, Cut.is_read, Cut.is_rejected, Cut.is_empty, Cut.Cut, Cut.whole, Cut.unfinished, Cut.goes_on}
 use Rattle.mime.proofs.HandedOut.{length-lowered, positions_of, kept_text_of, length-in_part, text_of-essence, length-essence_of, value_of_low, value_of-lowering, keeps-tree, kept-in_part, split-size, token-size}

@@ -1,6 +1,5 @@
 -- Strings that are written in a row into the caller's buffer.
-use Rattle.std.proofs.Common.{rules}
-use Rattle.std.proofs.Common.{◌≡◌, ℕ, ◌+◌, ◌*◌, ◌<◌, ◌≤◌, List, [], ◌∷◌, ◌++◌, length, take, drop, refl, sym, ap, ◌∙◌, subst, arith, append_assoc, append-nil, length-append, length-take, length-drop, set}
+use Rattle.std.proofs.Common.{rules, ◌≡◌, ℕ, ◌+◌, ◌*◌, ◌<◌, ◌≤◌, List, [], ◌∷◌, ◌++◌, length, take, drop, refl, sym, ap, ◌∙◌, subst, arith, append_assoc, append-nil, length-append, length-take, length-drop, set}
 use Rattle.std.specs.Str.{IsUtf8}
 use Rattle.std.proofs.{lemmas.List.take_at, lemmas.List.drop_at, lemmas.List.drop-drop, lemmas.Grind.common_steps, lemmas.List.Concat.flat_map-append, lemmas.List.Elements.Contains-append_right}
 use Rattle.mime.specs.{Items.Item, Items.items_of, Values.MediaType, Cut.CutItem, Cut.Cut, Runs.IsFirstItem, Runs.HasNoItem}

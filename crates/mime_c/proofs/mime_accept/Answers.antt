@@ -1,6 +1,5 @@
 -- Each range is written after those before it, and each answer is what it says.
-use Rattle.std.proofs.Common.{rules}
-use Rattle.std.proofs.Common.{◌≡◌, ℕ, ◌+◌, ◌<◌, ◌≤◌, get_or, List, ◌++◌, length, map, drop, ap, ◌∙◌, arith}
+use Rattle.std.proofs.Common.{rules, ◌≡◌, ℕ, ◌+◌, ◌<◌, ◌≤◌, get_or, List, ◌++◌, length, map, drop, ap, ◌∙◌, arith}
 use Rattle.std.proofs.{lemmas.Bool.true≢false, lemmas.List.drop_more, lemmas.List.drop_all}
 use Rattle.mime.specs.Values.{OwnedMedia}
 use Rattle.mime_http.specs.HttpList.{Header}

@@ -1,6 +1,5 @@
 -- Each answer is what it says.
-use Rattle.std.proofs.Common.{rules}
-use Rattle.std.proofs.Common.{◌∙◌, sym}
+use Rattle.std.proofs.Common.{rules, ◌∙◌, sym}
 use Rattle.std.proofs.lemmas.Bool.{true≢false}
 use Rattle.mime_c.specs.HeaderAnswers.{an_offer_is_bad, offers_have_no_memory, best_is, none_is_best}
 use Rattle.mime_c.proofs.HeaderOutcome.{of_good}

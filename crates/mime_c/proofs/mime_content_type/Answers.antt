@@ -1,6 +1,5 @@
 -- Each answer is what it says.
-use Rattle.std.proofs.Common.{rules}
-use Rattle.std.proofs.Common.{arith}
+use Rattle.std.proofs.Common.{rules, arith}
 use Rattle.mime_http.proofs.HandedOut.{printed_is_read}
 use Rattle.mime_c.specs.Answers.{has_room, has_no_room, is_read, fails, are_written}
 use Rattle.mime_c.proofs.{HeaderRoom.value_fits, NoZero.texts_come_back}

@@ -1,6 +1,5 @@
 -- Each answer is what it says.
-use Rattle.std.proofs.Common.{rules}
-use Rattle.std.proofs.Common.{◌≡◌, ◌≢◌, ◌∙◌, ◌++◌, ℕ, List, [], length, drop, sym, ap, subst, arith, IsOk}
+use Rattle.std.proofs.Common.{rules, ◌≡◌, ◌≢◌, ◌∙◌, ◌++◌, ℕ, List, [], length, drop, sym, ap, subst, arith, IsOk}
 use Rattle.std.specs.Vec.{vec_items}
 use Rattle.std.proofs.{lemmas.Bool.Decides.nat_tests, lemmas.Bool.true≢false, lemmas.List.length-map, lemmas.List.nil_from_length}
 use Rattle.mime.specs.Values.{OwnedMedia}

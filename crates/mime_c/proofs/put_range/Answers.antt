@@ -1,7 +1,6 @@
 -- String after string is written.
-use Rattle.std.proofs.Common.{rules}
+use Rattle.std.proofs.Common.{rules, arith, length-append}
 use Rattle.std.proofs.lemmas.Grind.{common_steps}
-use Rattle.std.proofs.Common.{arith, length-append}
 use Rattle.mime_c.proofs.Writing.{both_written, writes-end, strings_of_range}
 use Rattle.mime_c.proofs.put_range.Goals as goal
 

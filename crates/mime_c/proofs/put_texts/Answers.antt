@@ -1,6 +1,5 @@
 -- Behind the parts the kept text is written, and what is found is in the essence.
-use Rattle.std.proofs.Common.{rules}
-use Rattle.std.proofs.Common.{length-append}
+use Rattle.std.proofs.Common.{rules, length-append}
 use Rattle.std.proofs.lemmas.List.{length-map}
 use Rattle.mime_c.proofs.Writing.{fits, wrote-first, strings_of_texts}
 use Rattle.mime_c.proofs.put_texts.Goals as goal

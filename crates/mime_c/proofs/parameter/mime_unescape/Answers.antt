@@ -1,6 +1,5 @@
 -- Each answer is what it says.
-use Rattle.std.proofs.Common.{rules}
-use Rattle.std.proofs.Common.{arith}
+use Rattle.std.proofs.Common.{rules, arith}
 use Rattle.mime_http.proofs.HandedOut.{unescaped_is}
 use Rattle.mime_c.specs.{Answers.has_room, Answers.has_no_room, Answers.holds}
 use Rattle.mime_c.proofs.parameter.mime_unescape.Goals as goal
