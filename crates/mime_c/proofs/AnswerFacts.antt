@@ -1,5 +1,5 @@
 -- What the trusted files say of some texts: each definition has an example and a counterexample.
-use Rattle.std.proofs.Common.{◌≡◌, ◌≢◌, ℕ, true, List, [], ◌∷◌, ◌++◌, map, length, refl, sym, ap, ◌∙◌, arith, codes, Some, None, subst}
+use Rattle.std.proofs.Common.{rules, ◌≡◌, ◌≢◌, ℕ, true, List, [], ◌∷◌, ◌++◌, map, length, refl, sym, ap, ◌∙◌, arith, codes, Some, None}
 use Rattle.std.specs.Str.{IsUtf8, IsValidUpTo}
 use Rattle.std.proofs.{lemmas.Str.IsUtf8-nil, lemmas.List.take_all}
 use Rattle.mime.specs.{Bytes.is_token_byte, Grammar.no_list, Values.MediaType, Values.Reads, Cut.good, Cut.bad, Cut.Cut, Cut.whole, declared.scan.fault.ParseError.TheVariants.MissingSlash, declared.scan.fault.ParseError.TheVariants.MissingSubtype, declared.scan.fault.ParseError.TheVariants.MissingEqual, declared.scan.fault.ParseError.TheVariants.MissingValue, declared.scan.fault.ParseError.TheVariants.MissingQuote, declared.scan.fault.ParseError.TheVariants.InvalidToken, declared.scan.fault.ParseError.TheVariants.NoMemory}
@@ -142,18 +142,13 @@ long_needs = (good long long_value ∷ [], [], long, long_value, whole long long
 
 -- The empty text needs no memory.
 pub empty_needs_none : ¬ (NeedsMemory [])
-empty_needs_none (items, rest, piece, media, cut, has, more) =
-    absurd (omega (arith, has.1, ap length (cut_unique [] [] [] empty-cut items rest cut).0))
+empty_needs_none (items, rest, piece, media, cut, has, more) = search (cut_unique, empty-cut, rules)
 
 -- The byte 255 is no text by itself.
 module _ (isnt : ¬ (IsUtf8 (255 ∷ []))) where
   -- No byte of a text that begins with the byte 255 is valid UTF-8.
   none_valid : IsValidUpTo (255 ∷ []) 0
-  none_valid = record {
-    short = omega arith;
-    front = IsUtf8-nil;
-    longest = λ m above utf8. isnt (subst IsUtf8 (take_all m (255 ∷ []) (omega (arith, above))) utf8);
-  }
+  none_valid = search (IsUtf8-nil, take_all, rules)
 
   -- Such a text isn't read.
   not_read : ReadsTo (255 ∷ []) (codes "----") MIME_NOT_UTF8 (codes "----", nothing)

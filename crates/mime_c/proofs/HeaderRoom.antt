@@ -1,5 +1,5 @@
 -- How many bytes the strings of a header's value are, and that they come back.
-use Rattle.std.proofs.Common.{◌≡◌, ℕ, ◌+◌, ◌*◌, ◌<◌, ◌≤◌, Bool, true, List, [], ◌∷◌, ◌++◌, length, filter, refl, subst, ap, ◌∙◌, arith, length-append, rules}
+use Rattle.std.proofs.Common.{◌≡◌, ℕ, ◌+◌, ◌*◌, ◌<◌, ◌≤◌, Bool, true, List, [], ◌∷◌, ◌++◌, length, filter, refl, subst, ap, arith, length-append, rules}
 use Rattle.std.specs.List.{AllByRecursion}
 use Rattle.std.proofs.lemmas.Bool.Decides.{nat_tests}
 use Rattle.mime.specs.{Bytes.comma_byte, HeaderLaws.IsSafePair, Laws.without_parameters, Values.MediaType, Values.Reads}
@@ -29,10 +29,8 @@ kept_pairs : (test : List ℕ × List ℕ → Bool) (pairs : List (List ℕ × L
     → length (text_of_pairs (filter test pairs)) ≤ 2 * length (strings (pair_texts pairs))
 kept_pairs test [] are = omega arith
 kept_pairs test ((name, value) ∷ pairs) (is, are) =
-    let more = kept_pairs test pairs are in
-    let size = length-strings_of_pair name value pairs in
     let all = length-append (text_of_pair (name, value)) (text_of_pairs (filter test pairs)) in
-    grind (arith, more, size, token-size name is.0, length-pair name value, all)
+    grind (arith, kept_pairs test pairs are, length-strings_of_pair name value pairs, token-size name is.0, length-pair name value, all)
 
 -- All parameters pass a test that is always true.
 filter_all : (pairs : List (List ℕ × List ℕ)) → filter (λ pair. true) pairs ≡ pairs
@@ -60,10 +58,7 @@ pairs_fit (semicolon_and before after parameter rest pair pairs wb wa is are) =
 -- The essence and the strings of the parameters are at most as many bytes as the value.
 pub sizes_of : (value : List ℕ) (media : MediaType) → HttpReads value media
     → (length media.essence + length (strings (pair_texts media.pairs)) ≤ length value) × (2 < length value)
-sizes_of value media reads = (
-  omega (arith, ap length reads.essence, ap length reads.spelled, pairs_fit reads.are_parameters, length-append {A = ℕ}, length-lowered),
-  omega (arith, ap length reads.spelled, token-size reads.top reads.is_top, token-size reads.sub reads.is_sub, length-append {A = ℕ}),
-)
+sizes_of value media reads = search (pairs_fit, length-append, length-lowered, token-size, rules)
 
 -- What is written anew for a value is read as its media type.
 pub read_anew : (value : List ℕ) (media : MediaType) → HttpReads value media
@@ -93,8 +88,14 @@ value_fits value media reads printed =
     kept_fits (as_it_stands v m is) = omega (arith, (lengths_of (trimmed value) media is).0, length-trimmed)
     kept_fits (anew v m isnt is) =
         let all = ap (λ pairs. length (text_of_pairs pairs)) (filter_all media.pairs) in
-        let kept = ap (λ (it : MediaType). length it.kept) is in
-        omega (arith, kept, all, anew_fits value media reads (λ pair. true), (sizes_of value media reads).0, length-append {A = ℕ})
+        omega (
+          arith,
+          ap (λ (it : MediaType). length it.kept) is,
+          all,
+          anew_fits value media reads (λ pair. true),
+          sizes_of value media reads,
+          length-append {A = ℕ},
+        )
 
 -- ---- the strings of ranges
 
@@ -102,10 +103,9 @@ value_fits value media reads printed =
 range_fits : (text : List ℕ) (range : MediaType) → HttpReads text range
     → length (strings (range_texts range)) ≤ 3 * (length text + 1)
 range_fits text range reads =
-    let sizes = sizes_of text range reads in
     let parts = length-append (range.essence ++ 0 ∷ []) (strings (pair_texts range.pairs)) in
     let last = length-append (strings (parts_of range)) (0 ∷ []) in
-    omega (arith, sizes.0, sizes.1, parts, last, ap length (strings_of_range range), length-append range.essence (0 ∷ []))
+    omega (arith, sizes_of text range reads, parts, last, ap length (strings_of_range range), length-append range.essence (0 ∷ []))
 
 -- How many bytes texts are with a comma after each.
 abbrev total : List (List ℕ) → ℕ
@@ -126,8 +126,7 @@ sorted_fit : (texts : List (List ℕ)) (ranges : List MediaType) (bad : List (Li
 sorted_fit texts ranges bad no_text = omega arith
 sorted_fit texts ranges bad (blank text rest _ _ white sorted) = omega (arith, sorted_fit rest ranges bad sorted)
 sorted_fit texts ranges bad (a_range text range rest others _ utf8 reads _ sorted) =
-    let both = ap length (strings_of_ranges range others) ∙ length-append (strings (range_texts range)) (strings (ranges_texts others)) in
-    omega (arith, range_fits text range reads, sorted_fit rest others bad sorted, both)
+    search (sorted_fit rest others bad sorted, strings_of_ranges, length-append, range_fits, rules)
 sorted_fit texts ranges bad (a_bad text rest _ others some isnt sorted) = omega (arith, sorted_fit rest ranges others sorted)
 
 -- The strings of a line's ranges are at most three times as many bytes as the line, and three.

@@ -1,5 +1,5 @@
 -- No text that is written has the byte 0, so the texts come back from their strings.
-use Rattle.std.proofs.Common.{◌≡◌, ℕ, true, false, List, [], ◌∷◌, ◌++◌, refl, ap, ◌∙◌, arith}
+use Rattle.std.proofs.Common.{rules, ◌≡◌, ℕ, true, false, List, [], ◌∷◌, ◌++◌, refl, ap, ◌∙◌, arith}
 use Rattle.std.specs.Prelude.{◌==◌}
 use Rattle.std.specs.List.{list_all, onto_first, flat_map, AllByRecursion}
 use Rattle.std.proofs.{lemmas.Bool.and_parts, lemmas.Bool.and_from, lemmas.Bool.Decides.nat_tests}
@@ -68,8 +68,7 @@ texts_come_back text media reads =
 -- No text of an item has the byte 0.
 no_zero-items : (items : List CutItem) → AllByRecursion IsItem items → AllByRecursion HasNoZero (item_texts items)
 no_zero-items [] are = tt
-no_zero-items (good piece media ∷ items) (reads, others) =
-    (no_zero-read media.kept media (kept_is_read piece media reads), no_zero-items items others)
+no_zero-items (good piece media ∷ items) (reads, others) = search (no_zero-items items others, no_zero-read, kept_is_read, rules)
 no_zero-items (bad piece ∷ items) (is, others) = (no_zero-viable piece is.0, no_zero-items items others)
 
 -- The items of a list come back.

@@ -7,7 +7,7 @@ use Rattle.mime.specs.{Values.MediaType, Values.Reads, Comparison.media_cmp, Fau
 use Rattle.mime.proofs.HandedOut.{one_fault, rejected-from_fault, Explains-from_fault, one_reading, eq_by_cmp-tells, eq_by_cmp-same, accepted_or_rejected, has_cut, cut_unique}
 use Rattle.mime_http.specs.{declared.value.FieldError.FieldError, declared.value.FieldError.TheVariants.NotUtf8, declared.value.FieldError.TheVariants.Invalid, declared.value.FieldError.TheVariants.NoMemory}
 use Rattle.mime_http.proofs.HandedOut.{utf8_or_not}
-use Rattle.mime_c.specs.{Strings.ComeBack, Strings.texts_of, Answers.number_of, Answers.number_of_error, Answers.found_of_error, Answers.InRoom, Answers.has_room, Answers.has_no_room, Answers.Holds, Answers.holds, Answers.Of, Answers.is_read, Answers.fails, Answers.TextExplains, Answers.AreWritten, Answers.are_written, Answers.AreListed, Answers.is_listed, Answers.is_not_text, Answers.AreCompared, Answers.are_compared, Laws.HasOne, Laws.ReadsToOne, Laws.ListsToOne, Laws.ComparesAsOne, declared.MimeFound.MimeFound, declared.TheConstants.MIME_OK, declared.TheConstants.MIME_NO_MEMORY, declared.TheConstants.MIME_NO_ROOM}
+use Rattle.mime_c.specs.{Strings.ComeBack, Strings.texts_of, Answers.number_of, Answers.number_of_error, Answers.InRoom, Answers.has_room, Answers.has_no_room, Answers.Holds, Answers.holds, Answers.Of, Answers.is_read, Answers.fails, Answers.TextExplains, Answers.AreWritten, Answers.are_written, Answers.AreListed, Answers.is_listed, Answers.is_not_text, Answers.AreCompared, Answers.are_compared, Laws.HasOne, Laws.ReadsToOne, Laws.ListsToOne, Laws.ComparesAsOne, declared.MimeFound.MimeFound, declared.TheConstants.MIME_OK, declared.TheConstants.MIME_NO_MEMORY}
 use Rattle.mime_c.proofs.NoZero.{texts_come_back, items_come_back}
 
 -- ---- what all calls share
@@ -23,24 +23,11 @@ pub one_success : {Held : Type 0} {wanted : Held} → HasOne (Holds wanted)
 one_success = (_, _, (λ same. omega (arith, same)), holds, λ n held some is. search rules)
 
 -- A call has one outcome in each buffer if it has one in those that are long enough.
-module _ {Held : Type 0} {least : ℕ} {old : List ℕ} {untouched : Held} {Is : ℕ → Held → Type 0} (one : HasOne Is) where
-  -- A buffer that is too short has no other outcome.
-  only_short : length old < least → (n : ℕ) (held : Held) → n ≢ MIME_NO_MEMORY → InRoom least old untouched Is n held
-      → (n ≡ MIME_NO_ROOM) × (held ≡ untouched)
-  only_short short n held some (has_room _ _ room is) = absurd (omega (arith, short, room))
-  only_short short n held some (has_no_room _) = (refl, refl)
-
-  -- A buffer that is long enough has no other outcome.
-  only_there : least ≤ length old → (n : ℕ) (held : Held) → n ≢ MIME_NO_MEMORY → InRoom least old untouched Is n held
-      → (n ≡ one.0) × (held ≡ one.1)
-  only_there room n held some (has_room _ _ _ is) = one.4 n held some is
-  only_there room n held some (has_no_room short) = absurd (omega (arith, short, room))
-
-  pub one_in_room : HasOne (InRoom least old untouched Is)
-  one_in_room = ⊎_elim
-      (λ short. (_, _, (λ same. omega (arith, same)), has_no_room short, only_short short))
-      (λ room. (_, _, one.2, has_room _ _ room one.3, only_there room))
-      (cases_lt (length old) least)
+pub one_in_room : {Held : Type 0} {least : ℕ} {old : List ℕ} {untouched : Held} {Is : ℕ → Held → Type 0} → HasOne Is
+    → HasOne (InRoom least old untouched Is)
+one_in_room {least = least} {old = old} one = ⊎_elim
+    (λ short. (_, _, (λ same. omega (arith, same)), has_no_room short, λ n held some is. search rules))
+    (λ room. (_, _, one.2, has_room _ _ room one.3, λ n held some is. search rules)) (cases_lt (length old) least)
 
 -- A reading finds one media type, or one reason why there is none, unless memory runs out.
 pub record IsReading (IsRead : MediaType → Type 0) (Explained : FieldError → Type 0) : Type 0 where
@@ -53,29 +40,12 @@ pub record IsReading (IsRead : MediaType → Type 0) (Explained : FieldError →
       → Explained one → Explained two → two ≡ one
 
 -- A call has one outcome if it reads a media type first and has one outcome for each.
-module _ {Held : Type 0} {IsRead : MediaType → Type 0} {Explained : FieldError → Type 0} {failed : MimeFound → Held}
-    {Is : MediaType → ℕ → Held → Type 0} (reading : IsReading IsRead Explained) (one : (media : MediaType) → IsRead media
-    → HasOne (Is media)) where
-  -- A media type that is read has no other outcome.
-  only_read : (media : MediaType) (is : IsRead media) (n : ℕ) (held : Held) → n ≢ MIME_NO_MEMORY
-      → Of IsRead Explained failed Is n held → (n ≡ (one media is).0) × (held ≡ (one media is).1)
-  only_read media is n held some (is_read other _ _ too has) =
-      (one media is).4 n held some (subst (λ (it : MediaType). Is it n held) (reading.one_media media other is too) has)
-  only_read media is n held some (fails error why) = absurd (reading.not_both media error some is why)
-
-  -- An error has no other outcome.
-  only_failed : (error : FieldError) → number_of_error error ≢ MIME_NO_MEMORY → Explained error → (n : ℕ) (held : Held)
-      → n ≢ MIME_NO_MEMORY
-      → Of IsRead Explained failed Is n held → (n ≡ number_of_error error) × (held ≡ failed (found_of_error error))
-  only_failed error h why n held some (is_read media _ _ is has) = absurd (reading.not_both media error h is why)
-  only_failed error h why n held some (fails other too) =
-      let same = reading.one_error error other h some why too in (ap number_of_error same, ap (λ it. failed (found_of_error it)) same)
-
-  pub one_of_reading : HasOne (Of IsRead Explained failed Is)
-  one_of_reading = ⊎_elim
-      (λ it. let has = one it.0 it.1 in (_, _, has.2, is_read it.0 _ _ it.1 has.3, only_read it.0 it.1))
-      (λ it. (_, _, it.1, fails it.0 it.2, only_failed it.0 it.1 it.2))
-      reading.either
+pub one_of_reading : {Held : Type 0} {IsRead : MediaType → Type 0} {Explained : FieldError → Type 0} {failed : MimeFound → Held}
+    {Is : MediaType → ℕ → Held → Type 0} → IsReading IsRead Explained
+    → ((media : MediaType) → IsRead media → HasOne (Is media)) → HasOne (Of IsRead Explained failed Is)
+one_of_reading reading one = ⊎_elim
+    (λ it. let has = one it.0 it.1 in (_, _, has.2, is_read it.0 _ _ it.1 has.3, λ n held some is. search rules))
+    (λ it. (_, _, it.1, fails it.0 it.2, λ n held some is. search rules)) reading.either
 
 -- The strings of a media type that come back are written in one way.
 pub one_writing : {old : List ℕ} {media : MediaType} → ComeBack (texts_of media) → HasOne (AreWritten old media)
@@ -197,5 +167,4 @@ one_comparison first second =
 
 -- `mime_equal` has one outcome.
 pub compares_as_one : ComparesAsOne
-compares_as_one one other =
-    one_of_reading (reading_of_text one) (λ first is. one_of_reading (reading_of_text other) (λ second too. one_comparison first second))
+compares_as_one one other = search (one_of_reading, reading_of_text, one_comparison, rules)

@@ -1,5 +1,5 @@
 -- What each answer says, whatever the text is: when memory may run out, what then holds, and that the texts come back.
-use Rattle.std.proofs.Common.{◌≡◌, ◌≢◌, ℕ, ◌*◌, ◌≤◌, ◌⊎◌, inl, inr, List, [], ◌∷◌, length, refl, sym, ap, subst, arith, codes, None}
+use Rattle.std.proofs.Common.{rules, ◌≡◌, ◌≢◌, ℕ, ◌*◌, ◌≤◌, ◌⊎◌, inl, inr, List, [], ◌∷◌, length, refl, sym, ap, subst, arith, codes, None}
 use Rattle.std.specs.{List.All, Str.IsUtf8}
 use Rattle.std.proofs.lemmas.List.Elements.{All-contains, All-cons, All-nil}
 use Rattle.mime.specs.{Bytes.is_token_byte, Grammar.no_list, Values.MediaType, Values.Reads, Faults.Explains, Cut.CutItem, Cut.good, Cut.bad, Cut.Cut, Cut.whole, declared.scan.fault.ParseError.TheVariants.NoMemory}
@@ -22,8 +22,7 @@ fails_for_memory field.NoMemory is why = absurd why
 -- If memory runs out, `mime_read` writes nothing.
 reads_for_memory : {text old : List ℕ} {n : ℕ} {held : List ℕ × MimeFound} → n ≡ MIME_NO_MEMORY → ReadsTo text old n held
     → (held ≡ (old, nothing)) × IsUtf8 text × Explains text NoMemory
-reads_for_memory {old = old} is (has_room _ _ room (fails error why)) =
-    let failed = fails_for_memory error is why in (ap (λ it. (old, it)) failed.0, failed.1, failed.2)
+reads_for_memory {old = old} is (has_room _ _ room (fails error why)) = search (fails_for_memory, rules)
 reads_for_memory is (has_room _ _ room (is_read media _ _ reads (are_written back))) = absurd (omega (arith, is))
 reads_for_memory is (has_no_room short) = absurd (omega (arith, is))
 

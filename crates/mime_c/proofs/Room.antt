@@ -1,9 +1,9 @@
 -- How many bytes the strings are.
-use Rattle.std.proofs.Common.{◌≡◌, ℕ, zero, suc, ◌+◌, ◌*◌, ◌<◌, ◌≤◌, List, [], ◌∷◌, ◌++◌, length, take, Option, Some, None, sym, ap, ◌∙◌, subst, arith, length-append, length-take}
+use Rattle.std.proofs.Common.{rules, ◌≡◌, ℕ, zero, suc, ◌+◌, ◌*◌, ◌<◌, ◌≤◌, List, [], ◌∷◌, ◌++◌, length, take, Option, Some, None, sym, ap, ◌∙◌, subst, arith, length-append, length-take}
 use Rattle.std.proofs.{lemmas.List.map-append, lemmas.List.Concat.flat_map-append}
-use Rattle.mime.specs.{Grammar.Parameter, Grammar.plain, Grammar.quoted, Grammar.Parameters, Grammar.blank, Grammar.final, Grammar.more, Grammar.Tail, Grammar.no_list, Grammar.listed, Grammar.SyntaxTree, Grammar.text_of, Grammar.text_of_parameter, Grammar.text_of_list, Grammar.text_of_tail, Values.MediaType, Values.Reads, Values.pair_of, Values.pairs_of_list, Values.pairs_of_tail, Values.essence_of, Values.kept_text, Cut.CutItem, Cut.ItemsOf, Cut.is_read, Cut.is_rejected, Cut.is_empty, Cut.Cut, Cut.whole, Cut.unfinished, Cut.goes_on}
+use Rattle.mime.specs.{Grammar.Parameter, Grammar.plain, Grammar.quoted, Grammar.Parameters, Grammar.blank, Grammar.final, Grammar.more, Grammar.Tail, Grammar.no_list, Grammar.listed, Grammar.SyntaxTree, Grammar.text_of, Grammar.text_of_parameter, Grammar.text_of_list, Grammar.text_of_tail, Values.MediaType, Values.Reads, Values.pair_of, Values.pairs_of_list, Values.pairs_of_tail, Values.kept_text, Cut.CutItem, Cut.ItemsOf, Cut.is_read, Cut.is_rejected, Cut.is_empty, Cut.Cut, Cut.whole, Cut.unfinished, Cut.goes_on}
 use Rattle.mime.proofs.HandedOut.{length-lowered, positions_of, kept_text_of, length-in_part, text_of-essence, length-essence_of, value_of_low, value_of-lowering, keeps-tree, kept-in_part, split-size, token-size}
-use Rattle.mime_c.specs.{Strings.string_of, Strings.strings, Strings.texts_of, Strings.item_text, Strings.item_texts, declared.TheConstants.MIME_GOOD, declared.TheConstants.MIME_BAD}
+use Rattle.mime_c.specs.{Strings.strings, Strings.texts_of, Strings.item_texts, declared.TheConstants.MIME_GOOD, declared.TheConstants.MIME_BAD}
 use Rattle.mime_c.proofs.NoZero.{pair_texts}
 
 -- A string has one byte more than its text.
@@ -48,16 +48,7 @@ Lengths text media =
 lengths-low : (text : List ℕ) (tree : SyntaxTree) → length (text_of tree) ≤ length text → 2 < length text
     → Lengths text (value_of_low tree)
 lengths-low text tree size some =
-    let pairs = pairs_of_tail tree.tail in
-    let parts = essence_of tree ∷ pair_texts pairs in
-    let kept = room-kept tree pairs in
-    let all = ap length (flat_map-append string_of parts (kept_text pairs tree ∷ [])) in
-    let essence = ap length (text_of-essence tree) in (
-      omega arith,
-      omega (arith, length-append {A = ℕ}, length-strings, room-tail tree.tail, essence),
-      some,
-      omega (arith, length-append {A = ℕ}, room-tail tree.tail, essence),
-    )
+    search (room-kept, flat_map-append, text_of-essence, length-append, length-strings, room-tail, rules)
 
 -- A kept text is no longer than its text.
 length-kept : (pairs : ℕ) (semicolon : Option ℕ) (text : List ℕ) → length (kept_text_of pairs semicolon text) ≤ length text
@@ -95,17 +86,20 @@ room-items piece items (is_empty none) = omega arith
 -- The strings of two lists of items are those of both.
 pub strings_of_items : (items others : List CutItem)
     → strings (item_texts (items ++ others)) ≡ strings (item_texts items) ++ strings (item_texts others)
-strings_of_items items others = ap strings (map-append item_text items others) ∙ flat_map-append string_of (item_texts items)
-    (item_texts others)
+strings_of_items items others = search (map-append, flat_map-append, rules)
 
 -- The strings of a text's items are at most twice as many bytes as the text.
 pub items_fit : (text : List ℕ) (items : List CutItem) (rest : List ℕ) → Cut text items rest
     → length (strings (item_texts items)) ≤ 2 * length text
 items_fit text items rest (whole t media reads) =
-    let lengths = lengths_of t media reads in
-    omega (arith, length-strings (MIME_GOOD ∷ media.kept) [], lengths.0, lengths.2)
+    omega (arith, length-strings (MIME_GOOD ∷ media.kept) [], lengths_of t media reads)
 items_fit text items rest (unfinished t viable rejected) = omega arith
 items_fit text items rest (goes_on t piece character left first others end split of_piece cut) =
-    let size = split-size t piece character left split in
-    let all = ap length (strings_of_items first others) in
-    omega (arith, room-items piece first of_piece, items_fit left others end cut, length-append {A = ℕ})
+    omega (
+      arith,
+      split-size t piece character left split,
+      ap length (strings_of_items first others),
+      room-items piece first of_piece,
+      items_fit left others end cut,
+      length-append {A = ℕ},
+    )

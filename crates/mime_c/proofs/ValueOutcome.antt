@@ -1,5 +1,5 @@
 -- Each call for one value has one outcome, unless memory runs out.
-use Rattle.std.proofs.Common.{◌≡◌, ◌≢◌, ℕ, ◌⊎◌, inl, inr, List, [], ◌∷◌, refl, sym, ap, ◌∙◌, subst, arith, ⊎_elim, codes, rules}
+use Rattle.std.proofs.Common.{◌≡◌, ◌≢◌, ℕ, ◌⊎◌, inl, inr, List, [], ◌∷◌, refl, sym, ◌∙◌, subst, arith, ⊎_elim, codes, rules}
 use Rattle.std.specs.Prelude.{bytes_eq}
 use Rattle.std.specs.{List.list_all, Option.option_map, Str.IsUtf8}
 use Rattle.std.proofs.{lemmas.Bool.cases_Bool, lemmas.Bool.true≢false, lemmas.Option.same_Some, lemmas.Option.none-some, lemmas.Slice.Eq.bytes_eq-Decides}
@@ -7,7 +7,7 @@ use Rattle.mime.specs.{Bytes.is_quoted_byte, Grammar.IsToken, Values.MediaType, 
 use Rattle.mime.proofs.HandedOut.{kept_is_safe, kept_is_read}
 use Rattle.mime_http.specs.{Boundary.IsBoundary, Boundary.IsBoundaryOf, HttpMediaType.HttpReads, HttpList.IsPrinted, HttpFaults.IsHttpFault, HttpFaults.HttpExplains, Ranges.first_value, Unescaped.unescaped, Written.escaped, Written.with_pairs, declared.value.FieldError.FieldError, declared.value.FieldError.TheVariants.NotUtf8, declared.value.FieldError.TheVariants.Invalid}
 use Rattle.mime_http.proofs.HandedOut.{utf8_or_not, read_or_not, content_of_escaped, one_printed_text, printed_is_read, no_field_error, one_field_error, one_http_fault, with_pair_is_read}
-use Rattle.mime_c.specs.{Strings.ComeBack, Strings.string_in, Answers.number_of, Answers.number_of_error, ParameterAnswers.HasBoundary, ParameterAnswers.boundary_is, ParameterAnswers.has_no_boundary, ParameterAnswers.boundary_has_no_memory, ParameterAnswers.IsParameter, ParameterAnswers.with_parameter, ParameterAnswers.IsSet, ParameterAnswers.is_set, ParameterAnswers.isnt_parameter, Laws.HasOne, Laws.HeaderReadsToOne, Laws.BoundaryIsOne, Laws.UnescapesToOne, Laws.SetsToOne, declared.TheConstants.MIME_NO_MEMORY}
+use Rattle.mime_c.specs.{Strings.ComeBack, Answers.number_of, Answers.number_of_error, ParameterAnswers.HasBoundary, ParameterAnswers.boundary_is, ParameterAnswers.has_no_boundary, ParameterAnswers.boundary_has_no_memory, ParameterAnswers.IsParameter, ParameterAnswers.with_parameter, ParameterAnswers.IsSet, ParameterAnswers.is_set, ParameterAnswers.isnt_parameter, Laws.HasOne, Laws.HeaderReadsToOne, Laws.BoundaryIsOne, Laws.UnescapesToOne, Laws.SetsToOne, declared.TheConstants.MIME_NO_MEMORY}
 use Rattle.mime_c.proofs.{OneOutcome.one_is, OneOutcome.one_success, OneOutcome.one_in_room, OneOutcome.IsReading, OneOutcome.one_of_reading, OneOutcome.one_writing, OneOutcome.valid_up_to, HeaderOutcome.some_or_none, HeaderRoom.read_anew, NoZero.texts_come_back, ParameterRoom.set_comes_back, ParameterRoom.boundary_comes_back}
 
 -- ---- the reading of a value
@@ -24,14 +24,12 @@ module _ (value : List ℕ) where
   -- A value that is read has no error.
   never_both : (media : MediaType) (error : FieldError) → number_of_error error ≢ MIME_NO_MEMORY → IsRead value media
       → ¬ (HttpExplains value error)
-  never_both media error some is =
-      no_field_error value error is.0 (media, is.1) (λ same. some (ap number_of_error same))
+  never_both media error some is = search (no_field_error, rules)
 
   -- A value that isn't read has one error.
   one_fault_of : (one two : FieldError) → number_of_error one ≢ MIME_NO_MEMORY → number_of_error two ≢ MIME_NO_MEMORY
       → HttpExplains value one → HttpExplains value two → two ≡ one
-  one_fault_of one two h k why too =
-      one_field_error value two one (λ same. k (ap number_of_error same)) (λ same. h (ap number_of_error same)) too why
+  one_fault_of one two h k why too = search (one_field_error, rules)
 
   -- A value is read, or has an error.
   value_or_error : ((media : MediaType) × IsRead value media)
@@ -84,8 +82,7 @@ same_boundary : {old : List ℕ} {media : MediaType} {n m : ℕ} {held other : L
     → m ≢ MIME_NO_MEMORY → HasBoundary old media n held → HasBoundary old media m other → (m ≡ n) × (other ≡ held)
 same_boundary h k boundary_has_no_memory two = absurd (h refl)
 same_boundary h k one boundary_has_no_memory = absurd (k refl)
-same_boundary {old = old} h k (boundary_is one has back) (boundary_is two too again) =
-    (refl, ap (string_in old) (same_Some two one (sym too.found ∙ has.found)))
+same_boundary {old = old} h k (boundary_is one has back) (boundary_is two too again) = search (same_Some, rules)
 same_boundary h k (boundary_is one has back) (has_no_boundary none) = absurd (none one has)
 same_boundary h k (has_no_boundary none) (boundary_is two has back) = absurd (none two has)
 same_boundary h k (has_no_boundary none) (has_no_boundary too) = (refl, refl)

@@ -1,8 +1,8 @@
 -- Strings that are written in a row into the caller's buffer.
-use Rattle.std.proofs.Common.{◌≡◌, ℕ, ◌+◌, ◌*◌, ◌<◌, ◌≤◌, List, [], ◌∷◌, ◌++◌, length, take, drop, refl, sym, ap, ◌∙◌, subst, arith, append_assoc, append-nil, length-append, length-take, length-drop, set}
+use Rattle.std.proofs.Common.{rules, ◌≡◌, ℕ, ◌+◌, ◌*◌, ◌<◌, ◌≤◌, List, [], ◌∷◌, ◌++◌, length, take, drop, refl, sym, ap, ◌∙◌, subst, arith, append_assoc, append-nil, length-append, length-take, length-drop, set}
 use Rattle.std.specs.Str.{IsUtf8}
 use Rattle.std.proofs.{lemmas.List.take_at, lemmas.List.drop_at, lemmas.List.drop-drop, lemmas.Grind.common_steps, lemmas.List.Concat.flat_map-append, lemmas.List.Elements.Contains-append_right}
-use Rattle.mime.specs.{Items.Item, Items.items_of, Values.MediaType, Cut.CutItem, Cut.good, Cut.Cut, Runs.IsFirstItem, Runs.HasNoItem}
+use Rattle.mime.specs.{Items.Item, Items.items_of, Values.MediaType, Cut.CutItem, Cut.Cut, Runs.IsFirstItem, Runs.HasNoItem}
 use Rattle.mime.specs.Runs as runs
 use Rattle.mime.proofs.HandedOut.{has_cut}
 use Rattle.mime_c.specs.{Strings.string_of, Strings.strings, Strings.parts_of, Strings.texts_of, Strings.item_text, Strings.item_texts, Writing.HasWritten, Writing.Writes, HeaderAnswers.four_digits, HeaderAnswers.range_texts, HeaderAnswers.ranges_texts, Answers.has_room, Answers.ListsTo, Answers.is_listed, Answers.has_no_memory, declared.TheConstants.MIME_OK, declared.TheConstants.MIME_NO_MEMORY}
@@ -12,16 +12,12 @@ use Rattle.mime_c.proofs.{NoZero.pair_texts, NoZero.items_come_back, Room.items_
 -- Bytes are written after others.
 pub both_written : (now mid new one other : List ℕ) (at next end : ℕ) → Writes now at one mid next → Writes mid next other new end
     → Writes now at (one ++ other) new end
-both_written now mid new one other at next end first second = record {
-  adds = λ old prefix wrote. subst (HasWritten old new end) (append_assoc prefix one other)
-      (second.adds old _ (first.adds old prefix wrote));
-}
+both_written now mid new one other at next end first second = search (append_assoc, rules)
 
 -- A text fits if there is room for it after what is written.
 pub fits : {old now prefix : List ℕ} {at : ℕ} → HasWritten old now at prefix → (text more : List ℕ)
     → length (prefix ++ (string_of text ++ more)) ≤ length old → at + length text < length now
-fits {old} {now} {prefix} wrote text more room =
-    omega (arith, wrote.end, ap length wrote.there, length-append {A = ℕ}, length-drop {A = ℕ})
+fits {old} {now} {prefix} wrote text more room = search (length-append, length-drop, rules)
 
 -- Of all bytes that are to be written some are there, and the others are left.
 pub record Leaves (old now : List ℕ) (at : ℕ) (left all : List ℕ) : Type 0 where
@@ -31,11 +27,7 @@ pub record Leaves (old now : List ℕ) (at : ℕ) (left all : List ℕ) : Type 0
 
 -- All bytes are left at first, after those before a position.
 pub leaves-first : (old all : List ℕ) (at : ℕ) → at ≤ length old → Leaves old old at all (take at old ++ all)
-leaves-first old all at within = record {
-  prefix = take at old;
-  wrote = record { there = grind (arith, common_steps, within); end = omega (arith, within, length-take at old) };
-  onward = refl;
-}
+leaves-first old all at within = grind (arith, common_steps, length-take)
 
 -- All bytes fit if there is room for them from a position on.
 pub leaves-room : (old all : List ℕ) (at : ℕ) → at + length all ≤ length old → length (take at old ++ all) ≤ length old
@@ -49,19 +41,12 @@ module _ {old now left all : List ℕ} {at : ℕ} (leaves : Leaves old now at le
 
   -- The next bytes that are left fit.
   pub leaves-holds : (bytes more : List ℕ) → left ≡ bytes ++ more → length all ≤ length old → at + length bytes ≤ length now
-  leaves-holds bytes more is room =
-      let there = ap length leaves.wrote.there in
-      let sizes = ap length leaves.onward in
-      omega (arith, leaves.wrote.end, there, sizes, ap length is, room, length-append {A = ℕ}, length-drop {A = ℕ})
+  leaves-holds bytes more is room = search (length-append, length-drop, rules)
 
   -- The bytes after the next are left once the next are written.
   pub leaves-next : (bytes more new : List ℕ) (end : ℕ) → left ≡ bytes ++ more → Writes now at bytes new end
       → Leaves old new end more all
-  leaves-next bytes more new end is writes = record {
-    prefix = leaves.prefix ++ bytes;
-    wrote = writes.adds old leaves.prefix leaves.wrote;
-    onward = append_assoc leaves.prefix bytes more ∙ ap (λ it. leaves.prefix ++ it) (sym is) ∙ leaves.onward;
-  }
+  leaves-next bytes more new end is writes = search (append_assoc, rules)
 
 -- All bytes are written if nothing is left.
 pub leaves-last : {old now all : List ℕ} {at : ℕ} → Leaves old now at [] all → HasWritten old now at all
@@ -130,16 +115,12 @@ given-next items more item name value next named valued = rw (next, named, value
 
 -- A media type has its kept text after its parts.
 pub strings_of_texts : (media : MediaType) → strings (texts_of media) ≡ strings (parts_of media) ++ string_of media.kept
-strings_of_texts media = flat_map-append string_of (parts_of media) (media.kept ∷ []) ∙ ap (λ it. strings (parts_of media) ++ it)
-    (append-nil (string_of media.kept))
+strings_of_texts media = search (flat_map-append, append-nil, rules)
 
 -- A range has its weight, its parts and an empty string.
 pub strings_of_range : (range : MediaType)
     → strings (range_texts range) ≡ ((four_digits (weight_of range) ++ 0 ∷ []) ++ strings (parts_of range)) ++ 0 ∷ []
-strings_of_range range =
-    let weight = string_of (four_digits (weight_of range)) in
-    ap (λ it. weight ++ it) (flat_map-append string_of (parts_of range) ([] ∷ [])) ∙ sym
-    (append_assoc weight (strings (parts_of range)) (0 ∷ []))
+strings_of_range range = search (flat_map-append, append_assoc, rules)
 
 -- Ranges have the strings of the first, and then those of the others.
 pub strings_of_ranges : (range : MediaType) (ranges : List MediaType)
@@ -182,19 +163,8 @@ module _ {text old now left : List ℕ} {at : ℕ} (lists : Lists text old now a
     (utf8 : IsUtf8 text) where
   -- All items are listed at the end.
   pub lists-last : HasNoItem left → ListsTo text old MIME_OK (now, at)
-  lists-last (rest, none) =
-      let cut = subst (λ items. Cut text items rest) (append-nil lists.before) (lists.cuts [] rest none) in
-      rw (lists.wrote.there, lists.wrote.end) (has_room _ _ room
-      (is_listed lists.before rest utf8 cut (items_come_back text lists.before rest cut)))
+  lists-last (rest, none) = search (append-nil, has_room, is_listed, items_come_back, rules)
 
   -- The call says that there was no memory for an item.
   pub lists-no_memory : runs.FirstNeedsMemory left → ListsTo text old MIME_NO_MEMORY (now, 0)
-  lists-no_memory needs = has_room _ _ room (has_no_memory now utf8 (
-    lists.before ++ (good needs.piece needs.value ∷ needs.items),
-    needs.rest,
-    needs.piece,
-    needs.value,
-    lists.cuts _ needs.rest needs.cut,
-    Contains-append_right lists.before (good needs.piece needs.value ∷ needs.items) _ (0, omega arith, refl),
-    needs.long,
-  ))
+  lists-no_memory needs = search (has_room, has_no_memory, Contains-append_right, rules)

@@ -1,7 +1,5 @@
 -- Bodies and headers for which the words of the multipart recipe hold, and others for which they don't. The delimiter is `--x`.
-use Rattle.std.proofs.Common.{◌≡◌, ◌≢◌, ◌∙◌, ◌≤◌, ◌++◌, ◌∷◌, [], inl, inr, ℕ, List, Bool, true, false, Option, Some, None, drop, length, length-append, refl, sym, ap, arith, codes, ⊎_elim}
-use Rattle.std.specs.List.{list_all}
-use Rattle.std.specs.Prelude.{◌==◌, not}
+use Rattle.std.proofs.Common.{rules, ◌≡◌, ◌≢◌, ◌∙◌, ◌≤◌, ◌++◌, ◌∷◌, [], inl, inr, ℕ, List, Bool, true, false, Option, Some, None, drop, length, length-append, refl, sym, ap, arith, codes, ⊎_elim}
 use Rattle.std.proofs.{lemmas.Bool.true≢false, lemmas.Bool.false≢true, lemmas.Option.same_Some}
 use Rattle.mime.proofs.HandedOut.{length-lowered}
 use Rattle.mime_examples.specs.Multipart.{IsLine, IsEmptyLine, EndsLine, HasNoDelimiter, IsCut, IsPart, no_line, with_return, without_return, Closes, closed, cut_off, a_part, IsBody, no_delimiter, after_preamble, IsField, IsFirstField, in_line, after_line, empty_line, no_line_end}
@@ -23,13 +21,7 @@ some_byte b text none = omega (arith, ap length none)
 
 -- A line has no line feed, and an empty one at most a carriage return.
 lines : IsLine (codes "a\r") × ¬ (IsLine (codes "a\nb")) × IsEmptyLine [] × IsEmptyLine (codes "\r") × ¬ (IsEmptyLine (codes "a"))
-lines = (
-  refl,
-  (λ is. false≢true is),
-  inl refl,
-  inr refl,
-  λ is. ⊎_elim (λ none. omega (arith, ap length none)) (λ same. let byte : 97 ≡ 13 = ap byte_of same in omega (arith, byte)) is,
-)
+lines = search (false≢true, rules)
 
 -- A line begins at the start and after a line feed, and nowhere else.
 line_ends : EndsLine [] × EndsLine (codes "a\n") × ¬ (EndsLine (codes "\na"))
@@ -40,8 +32,7 @@ line_ends = ((λ some. absurd (some refl)), (λ _. refl), λ ends. omega (arith,
 -- A delimiter within a line is none.
 none_inside : HasNoDelimiter mark (codes "a--x")
 none_inside [] after ends is = let byte : 97 ≡ 45 = ap byte_of is in omega (arith, byte)
-none_inside (b ∷ []) after ends is =
-    let byte : 97 ≡ b = ap byte_of is in omega (arith, byte, same_Some b 10 (ends (some_byte b [])))
+none_inside (b ∷ []) after ends is = search (same_Some, some_byte, rules)
 none_inside (b ∷ c ∷ before) after ends is = omega (arith, simp length-append at (ap length is))
 
 -- A delimiter after a line feed is one.
@@ -195,9 +186,7 @@ first_field =
 -- The first line of a text that begins with a line feed is empty.
 begins_with_feed : (line more : List ℕ) → IsLine line → line ++ (10 ∷ more) ≡ codes "\nA: b\n" → line ≡ []
 begins_with_feed [] more is same = refl
-begins_with_feed (b ∷ line) more is same =
-    let feed : b ≡ 10 = ap byte_of same in
-    let isnt : list_all (λ b. not (b == 10)) (b ∷ line) ≡ false = rw feed refl in absurd (true≢false (sym is ∙ isnt))
+begins_with_feed (b ∷ line) more is same = search (true≢false, rules)
 
 -- No field is found after the empty line that ends a header.
 none_after_header : (text : List ℕ) (found : Option (List ℕ)) → IsFirstField (codes "a") text found → text ≡ codes "\nA: b\n"

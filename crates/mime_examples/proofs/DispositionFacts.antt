@@ -1,5 +1,5 @@
 -- Values of Content-Disposition for which the words of the recipe hold, and others for which they don't.
-use Rattle.std.proofs.Common.{◌≡◌, ◌∙◌, ◌++◌, ◌∷◌, [], ℕ, List, Option, Some, None, false, length, map, length-append, refl, sym, ap, arith, codes}
+use Rattle.std.proofs.Common.{rules, ◌≡◌, ◌∙◌, ◌++◌, ◌∷◌, [], ℕ, List, Option, Some, None, false, length, map, length-append, refl, sym, ap, arith, codes}
 use Rattle.std.specs.{Option.option_map, Str.IsUtf8}
 use Rattle.std.proofs.lemmas.Option.{same_Some, none-some}
 use Rattle.mime.specs.{Bytes.is_token_byte, Bytes.is_quoted_byte, Values.MediaType}
@@ -37,10 +37,7 @@ meant meaning is = sym (ap (option_map (λ value. unescaped_name value.0)) (is.1
 
 -- The name isn't missing, and doesn't mean its backslash.
 no_other_meaning : ¬ (FirstMeans pairs (codes "name") None) × ¬ (FirstMeans pairs (codes "name") (Some (codes "a\\\"b")))
-no_other_meaning = (
-  (λ is. none-some _ (sym (meant None is))),
-  λ is. omega (arith, ap length (same_Some _ _ (meant (Some (codes "a\\\"b")) is))),
-)
+no_other_meaning = search (none-some, meant, same_Some, rules)
 
 -- This is a disposition with both names.
 media : MediaType

@@ -1,5 +1,5 @@
 -- A parameter that was written is the one that is found under its name.
-use Rattle.std.proofs.Common.{◌≡◌, ◌∙◌, ◌++◌, ◌∷◌, [], ℕ, List, Bool, true, false, Option, Some, refl, sym, ap, not, cond, codes}
+use Rattle.std.proofs.Common.{rules, ◌≡◌, ◌++◌, ◌∷◌, [], ℕ, List, Bool, true, false, Option, Some, refl, not, cond, codes}
 use Rattle.std.specs.Str.{bytes_eq}
 use Rattle.std.proofs.{lemmas.Slice.Eq.bytes_eq-Decides, lemmas.Bool.true≢false}
 use Rattle.mime.specs.{Values.lowered, Names.NameIs, Items.items_of, Items.IsFirstAccepted}
@@ -12,8 +12,7 @@ step : (name content n v : List ℕ) (found : Option (List ℕ × Bool)) (rest :
     → found ≡ Some (content, bytes_eq name (codes "charset")))
     → IsFirstAccepted (λ it flag. NameIs it flag name) (items_of (cond keep ((n, v) ∷ rest) rest ++ ((name, content) ∷ []))) found
     → found ≡ Some (content, bytes_eq name (codes "charset"))
-step name content n v found rest true is next first =
-    next (first.1 (λ same. true≢false (sym is ∙ ap not ((bytes_eq-Decides (lowered n) (lowered name)).1 same))))
+step name content n v found rest true is next first = search (true≢false, bytes_eq-Decides, rules)
 step name content n v found rest false is next first = next first
 
 -- A last pair is found after pairs of other names.
@@ -21,5 +20,4 @@ pub found_last : (name content : List ℕ) (pairs : List (List ℕ × List ℕ))
     → IsFirstAccepted (λ it flag. NameIs it flag name) (items_of (others name pairs ++ ((name, content) ∷ []))) found
     → found ≡ Some (content, bytes_eq name (codes "charset"))
 found_last name content [] found first = first.0 refl
-found_last name content ((n, v) ∷ pairs) found first =
-    step name content n v found (others name pairs) _ refl (found_last name content pairs found) first
+found_last name content ((n, v) ∷ pairs) found first = search (found_last name content pairs found, step, rules)

@@ -1,5 +1,5 @@
 -- Heads and offers have one report, with one verdict, so that a page that says less doesn't check.
-use Rattle.mime_headers.proofs.Common.{AddsChoice, AddsEntry, AddsHead, AddsReading, AddsType, Bool, Err, FieldError, FoldsTo, HasBoundary, IsAnswer, IsRead, IsReport, IsReportOf, List, MediaType, None, Ok, Option, Result, Some, State, Verdict, [], ap, ap₂, arith, bare_lines, codes, false, heads_of, is_cut, length, media_rows, nat_lt, no_field_error, offer_rows, one_field_error, one_printed_text, one_ranking, only_cut, refl, sym, trimmed, true, with_entry, ℕ, ◌++◌, ◌∙◌, ◌∷◌, ◌≡◌}
+use Rattle.mime_headers.proofs.Common.{AddsChoice, AddsEntry, AddsHead, AddsReading, AddsType, Bool, Err, FieldError, FoldsTo, HasBoundary, IsAnswer, IsRead, IsReport, IsReportOf, List, MediaType, None, Ok, Option, Result, Some, State, Verdict, [], ap, ap₂, arith, bare_lines, codes, false, heads_of, is_cut, length, media_rows, nat_lt, no_field_error, offer_rows, one_field_error, one_printed_text, one_ranking, only_cut, refl, sym, true, ℕ, ◌++◌, ◌∙◌, ◌∷◌, ◌≡◌, rules}
 
 -- A value is read in one way.
 one_reading : (value : List ℕ) (one other : Result MediaType FieldError) → IsRead value one → IsRead value other → one ≡ other
@@ -19,10 +19,7 @@ one_boundary media (Some bytes) (Some other) is too = sym is.found ∙ too.found
 one_entry : (old : List ℕ × List MediaType) (entry : List ℕ) (new other : List ℕ × List MediaType) → AddsEntry old entry new
     → AddsEntry old entry other → new ≡ other
 one_entry old [] new other one two = one.0 refl ∙ sym (two.0 refl)
-one_entry old (b ∷ entry) new other one two =
-    let adds = one.1 (omega arith) in
-    let more = two.1 (omega arith) in
-    adds.2 ∙ ap (with_entry old (b ∷ entry)) (one_reading (b ∷ entry) adds.0 more.0 adds.1 more.1) ∙ sym more.2
+one_entry old (b ∷ entry) new other one two = search (one_reading, rules)
 
 -- Items in a row add one text, if each does.
 one_of_all : {P A : Type 0} (R : P → A → P → Type 0) → ((p : P) (x : A) (q r : P) → R p x q → R p x r → q ≡ r)
@@ -51,8 +48,7 @@ one_added asked old value (Err error) new other adds more = adds ∙ sym more
 -- A value as it is written adds one text.
 one_type : (asked : Option (List MediaType)) (old : List ℕ × Bool) (value : List ℕ) (new other : List ℕ × Bool)
     → AddsType asked old value new → AddsType asked old value other → new ≡ other
-one_type asked old value new other (one, is, adds) (two, too, more) =
-    one_added asked old (trimmed value) two new other (rw (one_reading (trimmed value) one two is too) at adds) more
+one_type asked old value new other (one, is, adds) (two, too, more) = search (one_added, one_reading, rules)
 
 -- Lines of `Accept` add one text and make one choice.
 one_choice : (offers : List MediaType) (lines : List (List ℕ)) (old new other : State)

@@ -1,10 +1,10 @@
 -- Each range is written after those before it, and each answer is what it says.
-use Rattle.std.proofs.Common.{◌≡◌, ℕ, ◌+◌, ◌<◌, ◌≤◌, get_or, List, [], ◌∷◌, ◌++◌, length, map, drop, sym, ap, ◌∙◌, subst, arith, IsOk}
+use Rattle.std.proofs.Common.{rules, ◌≡◌, ℕ, ◌+◌, ◌<◌, ◌≤◌, get_or, List, ◌++◌, length, map, drop, ap, ◌∙◌, arith}
 use Rattle.std.proofs.{lemmas.Bool.true≢false, lemmas.List.drop_more, lemmas.List.drop_all}
 use Rattle.mime.specs.Values.{OwnedMedia}
 use Rattle.mime_http.specs.HttpList.{Header}
 use Rattle.mime_c.specs.{Strings.strings, Answers.has_room, Answers.has_no_room, HeaderAnswers.range_texts, HeaderAnswers.ranges_texts, HeaderAnswers.are_ranges, HeaderAnswers.ranges_have_no_memory}
-use Rattle.mime_c.proofs.{Writing.Leaves, Writing.leaves-holds, Writing.leaves-last, Writing.strings_of_ranges, HeaderRoom.ranges_fit, HeaderRoom.ranges_come_back}
+use Rattle.mime_c.proofs.{Writing.leaves-holds, Writing.leaves-last, Writing.strings_of_ranges, HeaderRoom.ranges_fit, HeaderRoom.ranges_come_back}
 use Rattle.mime_c.proofs.mime_accept.Goals as goal
 
 -- The strings of ranges.
@@ -14,16 +14,13 @@ all_of ranges = strings (ranges_texts (map (λ range. range.media) ranges))
 -- The strings of the next range come first.
 first_of : (ranges : List OwnedMedia) (i : ℕ) (range : OwnedMedia) → i < length ranges → range ≡ get_or ranges i range
     → all_of (drop i ranges) ≡ strings (range_texts range.media) ++ all_of (drop (i + 1) ranges)
-first_of ranges i range more is =
-    ap all_of (drop_more ranges i range more ∙ ap (λ it. it ∷ drop (i + 1) ranges) (sym is)) ∙ strings_of_ranges range.media _
+first_of ranges i range more is = search (drop_more, strings_of_ranges, rules)
 
 pub returns-then-out-text : goal.returns-then-out-text
 returns-then-out-text c = has_no_room (omega (arith, c.if-out-text.true))
 
 pub returns-in_default : goal.returns-in_default
-returns-in_default c =
-    has_room _ _ (omega (arith, c.if-out-text.false))
-    (ranges_have_no_memory (λ none. true≢false (sym (subst IsOk c.in_default.is (c.from_line_counting_bad.ensures.nothing none)))))
+returns-in_default c = search (has_room, ranges_have_no_memory, true≢false, rules)
 
 pub put_range-at-requires : goal.put_range-at-requires
 put_range-at-requires c =
@@ -36,12 +33,4 @@ put_range-at-requires c =
     (first_of c.ranges-range-items.result.now c.loop-range.range-index c.range-item.result c.loop-range-test.true c.range-item.is) room
 
 pub returns : goal.returns
-returns c =
-    let header = c.in-Ok.ensures.header in
-    let ranges = c.ranges-range-items.result.now in
-    let none : all_of (drop c.loop-range.range-index ranges) ≡ [] = ap all_of
-    (drop_all c.loop-range.range-index ranges (omega (arith, c.loop-range-test.false))) in
-    let wrote = leaves-last (subst (λ left. Leaves c.args.out.now c.loop-range.out c.loop-range.at left
-    (all_of ranges)) none c.loop-range.invariant) in
-    rw (wrote.there, wrote.end, header.3, c.ranges-range-items.ensures ∙ ap (λ (it : Header). it.ranges) header.2)
-    (has_room _ _ (omega (arith, c.if-out-text.false)) (are_ranges header.0 header.1 (ranges_come_back _ header.0 header.1)))
+returns c = search (drop_all, leaves-last, has_room, are_ranges, ranges_come_back, rules)

@@ -1,5 +1,5 @@
 -- Each answer is what it says.
-use Rattle.std.proofs.Common.{arith}
+use Rattle.std.proofs.Common.{rules, arith}
 use Rattle.mime_http.proofs.HandedOut.{printed_is_read}
 use Rattle.mime_c.specs.Answers.{has_room, has_no_room, is_read, fails, are_written}
 use Rattle.mime_c.proofs.{HeaderRoom.value_fits, NoZero.texts_come_back}
@@ -12,8 +12,7 @@ pub put_texts-requires-clause-read : goal.put_texts-requires-clause-read
 put_texts-requires-clause-read c = (_, (printed_is_read _ _ c.in-Ok.ensures.http.1 c.in-Ok.ensures.kept).0)
 
 pub put_texts-requires-clause-room : goal.put_texts-requires-clause-room
-put_texts-requires-clause-room c =
-    omega (arith, value_fits c.args.value.now c.in-Ok.mime.media c.in-Ok.ensures.http.1 c.in-Ok.ensures.kept, c.if-out-value.false)
+put_texts-requires-clause-room c = search (value_fits, rules)
 
 pub returns-in-Ok : goal.returns-in-Ok
 returns-in-Ok c =

@@ -1,5 +1,5 @@
 -- Each answer is what it says.
-use Rattle.std.proofs.Common.{◌≡◌, ◌≢◌, ◌∙◌, ◌++◌, ℕ, List, [], length, drop, sym, ap, subst, arith, IsOk}
+use Rattle.std.proofs.Common.{rules, ◌≡◌, ◌≢◌, ◌∙◌, ◌++◌, ℕ, List, [], length, drop, sym, ap, subst, arith, IsOk}
 use Rattle.std.specs.Vec.{vec_items}
 use Rattle.std.proofs.{lemmas.Bool.Decides.nat_tests, lemmas.Bool.true≢false, lemmas.List.length-map, lemmas.List.nil_from_length}
 use Rattle.mime.specs.Values.{OwnedMedia}
@@ -14,15 +14,13 @@ no_offer : {lines : List (List ℕ)} {header : Header} → IsHeader lines header
 no_offer {lines} {header} is none = ap (λ (h : Header). h.ranges) (one_header lines header _ is none)
 
 pub returns-in_default : goal.returns-in_default
-returns-in_default c =
-    offers_have_no_memory (λ none. true≢false (sym (subst IsOk c.in_default.is (c.from_line_counting_bad.ensures.nothing none.0))))
+returns-in_default c = search (offers_have_no_memory, true≢false, rules)
 
 pub returns-in-Some : goal.returns-in-Some
 returns-in-Some c = an_offer_is_bad c.in-Some.first (rw c.in-Some.is at c.in-Ok.ensures.first)
 
 pub returns-in_default-accepted : goal.returns-in_default-accepted
-returns-in_default-accepted c =
-    offers_have_no_memory (λ none. true≢false (sym (subst IsOk c.in_default-accepted.is (c.accepted.ensures.nothing none.1))))
+returns-in_default-accepted c = search (offers_have_no_memory, true≢false, rules)
 
 pub returns-in_default-order : goal.returns-in_default-order
 returns-in_default-order c =

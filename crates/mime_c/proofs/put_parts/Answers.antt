@@ -1,4 +1,5 @@
 -- String after string is written.
+use Rattle.std.proofs.lemmas.Grind.{common_steps}
 use Rattle.std.proofs.Common.{refl, ap, ◌∙◌, arith}
 use Rattle.mime_c.proofs.Writing.{given_texts, leaves-first, leaves-room, leaves-fits, leaves-next, writes-all, given-first, given-next}
 use Rattle.mime_c.specs.Strings.{strings}
@@ -23,10 +24,7 @@ put-end-requires-in-loop-name-2 c =
     c.put-end-in-loop-name.ensures) c.as_str-in-loop-name.result.now _ refl (leaves-room _ _ _ c.requires)
 
 pub loop-name-preserved : goal.loop-name-preserved
-loop-name-preserved c =
-    leaves-next
-    (leaves-next c.loop-name.invariant _ _ _ _ (given-next _ _ _ _ _ c.in-Some.ensures.steps c.as_str.ensures c.as_str-in-loop-name.ensures)
-    c.put-end-in-loop-name.ensures) _ _ _ _ refl c.put-end-in-loop-name-2.ensures
+loop-name-preserved c = grind (arith, common_steps, leaves-next, given-next)
 
 pub returns : goal.returns
 returns c = writes-all c.loop-name.invariant (ap (λ items. strings (given_texts items)) c.in-None.ensures.steps.0)

@@ -1,5 +1,5 @@
 -- Each answer is what it says.
-use Rattle.std.proofs.Common.{rules, arith, ℕ, List, sym, subst}
+use Rattle.std.proofs.Common.{rules, arith, sym, subst}
 use Rattle.std.specs.Vec.{vec_items}
 use Rattle.mime_http.specs.Boundary.{IsBoundaryOf}
 use Rattle.mime_c.specs.{Answers.has_room, Answers.has_no_room, Answers.is_read, Answers.fails, ParameterAnswers.boundary_is, ParameterAnswers.has_no_boundary, ParameterAnswers.boundary_has_no_memory}
@@ -24,9 +24,8 @@ returns-in-Ok-Some c =
 pub returns-in-Ok-None : goal.returns-in-Ok-None
 returns-in-Ok-None c =
     let http = c.in-Ok.ensures.http in
-    let none : (boundary : List ℕ) → ¬ (IsBoundaryOf c.in-Ok.mime.media boundary) = search rules in
     has_room _ _ (omega (arith, c.if-out-lt-BOUNDARY_ROOM.false))
-    (is_read _ _ _ (http.0, http.1, c.in-Ok.ensures.kept) (has_no_boundary none))
+    (is_read _ _ _ (http.0, http.1, c.in-Ok.ensures.kept) (has_no_boundary (search rules)))
 
 pub returns : goal.returns
 returns c =

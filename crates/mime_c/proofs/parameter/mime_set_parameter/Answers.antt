@@ -1,5 +1,5 @@
 -- Each answer is what it says.
-use Rattle.std.proofs.Common.{rules, is_some, ◌≡◌, ◌∙◌, ℕ, List, [], ◌∷◌, length, ap, sym, subst, arith}
+use Rattle.std.proofs.Common.{rules, is_some, ◌≡◌, ◌∙◌, ℕ, List, [], ◌∷◌, ap, sym, subst, arith}
 use Rattle.std.proofs.lemmas.Bool.{true≢false}
 use Rattle.mime.specs.{Grammar.IsToken, HeaderLaws.AreHeaderBytes, Values.MediaType, Values.Reads}
 use Rattle.mime_c.specs.{Strings.ComeBack, Answers.has_room, Answers.has_no_room, Answers.is_read, Answers.fails, ParameterAnswers.IsParameter, ParameterAnswers.with_parameter, ParameterAnswers.is_set, ParameterAnswers.isnt_parameter, ParameterAnswers.set_has_no_memory}
@@ -9,8 +9,7 @@ use Rattle.mime_c.proofs.parameter.mime_set_parameter.Goals as goal
 -- A media type that was made is the one with the parameter.
 made_is : (media : MediaType) {made : MediaType} {name value its_name its_value : List ℕ} → name ≡ its_name → value ≡ its_value
     → made ≡ with_parameter media name value → made ≡ with_parameter media its_name its_value
-made_is media {made} {name} {value} {its_name} named valued is =
-    is ∙ (ap (λ it. with_parameter media it value) named ∙ ap (with_parameter media its_name) valued)
+made_is media {made} {name} {value} {its_name} named valued is = search rules
 
 pub returns-then-most-out : goal.returns-then-most-out
 returns-then-most-out c = has_no_room (omega (arith, c.if-most-out.true))
@@ -31,13 +30,7 @@ returns-in_default-text_of c =
     (isnt_parameter (λ is. c.in_default-text_of.ensures.cases.0 is.value_utf8)))
 
 pub put_string-requires : goal.put_string-requires
-put_string-requires c =
-    let made : c.in-Ok-Some.made.media ≡ with_parameter c.in-Ok.mime.media c.in-Ok-text_of.name.now c.in-Ok-text_of-2.value.now =
-    search rules in
-    let is = made_is c.in-Ok.mime.media c.in-Ok-text_of.ensures.cases.0 c.in-Ok-text_of-2.ensures.cases.0 made in
-    let kept = ap (λ (it : MediaType). length it.kept) is in
-    let fits = set_fits c.args.text.now c.args.name.now c.args.value.now c.in-Ok.mime.media c.in-Ok.ensures.http.1 in
-    omega (arith, c.if-most-out.false, fits, kept, ap length c.as_str.ensures.text, ap length c.as_bytes.ensures.value)
+put_string-requires c = search (made_is, set_fits, rules)
 
 pub returns-in-Ok-Some : goal.returns-in-Ok-Some
 returns-in-Ok-Some c =

@@ -1,7 +1,7 @@
 -- Another disposition, or one without a name, names no field, however it is read.
 use Rattle.std.proofs.Common.{rules, ◌≡◌, ◌≢◌, ◌∙◌, ◌++◌, ◌∷◌, [], ℕ, List, Bool, Option, Some, None, sym, subst, codes}
 use Rattle.std.proofs.lemmas.Option.{none-some}
-use Rattle.mime.specs.{Items.Item, Items.items_of, Items.IsFirstAccepted, Names.NameIs}
+use Rattle.mime.specs.{Items.Item, Items.IsFirstAccepted}
 use Rattle.mime_http.specs.HttpMediaType.{HttpReads}
 use Rattle.mime_examples.specs.Disposition.{FirstMeans}
 use Rattle.mime_examples.proofs.disposition.read_disposition.Goals as goal
@@ -20,9 +20,7 @@ means_nothing : (pairs : List (List ℕ × List ℕ)) (name meaning : List ℕ) 
     → ¬ (FirstMeans pairs name (Some meaning))
 means_nothing pairs name meaning (Some value, first, is) some = cc
 means_nothing pairs name meaning (None, none, is) (None, first, other) = cc
-means_nothing pairs name meaning (None, none, is) (Some value, first, other) =
-    let impossible = none_stays (λ text flag. NameIs text flag name) (items_of pairs) (Some value) none first in
-    cc
+means_nothing pairs name meaning (None, none, is) (Some value, first, other) = search (none_stays, rules)
 
 pub returns-then-ne : goal.returns-then-ne
 returns-then-ne c = λ name file_name is.

@@ -1,5 +1,5 @@
 -- What was stripped stands at the position, if a line begins there.
-use Rattle.std.proofs.Common.{◌≡◌, ◌≢◌, ◌∙◌, ◌-◌, ◌<◌, ◌≤◌, ◌++◌, [], ℕ, List, Bor, Option, Some, None, take, drop, length, get_or, ap, sym, refl, arith}
+use Rattle.std.proofs.Common.{◌≡◌, ◌≢◌, ◌∙◌, ◌-◌, ◌<◌, ◌≤◌, ◌++◌, [], ℕ, List, Bor, Option, Some, None, take, drop, length, get_or, sym, refl, arith}
 use Rattle.std.specs.Prelude.{MatchOption, slice_get}
 use Rattle.std.proofs.{lemmas.Bool.Decides.Decides-eqb, lemmas.Grind.common_steps, lemmas.List.length-take-le, lemmas.List.take_rest, lemmas.Option.slice_get-get_or, lemmas.Slice.Eq.strip_prefix_is}
 use Rattle.mime_examples.specs.Multipart.{EndsLine}
@@ -17,10 +17,7 @@ at_line text rest delimiter Line (Some after) same line is = (line, sym same ∙
 -- A line begins after a line feed.
 after_feed : (body : List ℕ) (at : ℕ) → at ≤ length body → 0 < at → get_or body (at - 1) 0 ≡ 10
     → slice_get (take at body) (length (take at body) - 1) ≡ Some 10
-after_feed body at within some is =
-    let long = length-take-le at body within in
-    let there : get_or (take at body) (at - 1) 0 ≡ get_or body (at - 1) 0 = grind (arith, common_steps) in
-    rw long (slice_get-get_or (take at body) (at - 1) 0 (omega (arith, long)) ∙ ap Some (there ∙ is))
+after_feed body at within some is = grind (arith, common_steps, length-take-le, slice_get-get_or)
 
 -- Nothing stands before the start of a body.
 none_before_start : (body : List ℕ) (at : ℕ) → at ≤ 0 → take at body ≡ []

@@ -1,8 +1,8 @@
 -- The parts so far and those after them are the body's.
-use Rattle.std.proofs.Common.{rules, ◌≡◌, ◌++◌, ◌∷◌, [], ◌⊎◌, inl, inr, ℕ, List, Bool, Bor, true, false, map, drop, nat_eq, append-nil, sym, ap, subst, refl, codes}
-use Rattle.std.specs.{List.starts_with, Vec.vec_items}
-use Rattle.std.proofs.{lemmas.Bool.true≢false, lemmas.Bool.Decides.Decides-eqb, lemmas.Slice.Eq.starts_is}
-use Rattle.mime_examples.specs.Multipart.{Closes, IsCutOff, AreParts, closed, cut_off, a_part, IsBody, no_delimiter, after_preamble}
+use Rattle.std.proofs.{lemmas.Grind.common_steps, lemmas.Bool.true≢false, lemmas.Bool.Decides.Decides-eqb, lemmas.Slice.Eq.starts_is}
+use Rattle.std.proofs.Common.{arith, rules, ◌≡◌, ◌++◌, ◌∷◌, [], ◌⊎◌, inl, inr, ℕ, List, Bool, Bor, true, false, map, drop, nat_eq, append-nil, ap, refl, codes}
+use Rattle.std.specs.{List.starts_with}
+use Rattle.mime_examples.specs.Multipart.{Closes, IsCutOff, AreParts, closed, cut_off, a_part, no_delimiter, after_preamble}
 use Rattle.mime_examples.proofs.multipart.parts_between.Goals as goal
 
 -- A part that is added is the last.
@@ -15,28 +15,17 @@ added (first ∷ parts) part more = ap (λ it. first.now ∷ it) (added parts pa
 ended : (delimiter left : List ℕ) (closes : Bool) → closes ≡ starts_with nat_eq left (codes "--")
     → Closes left ⊎ IsCutOff delimiter left → AreParts delimiter left [] closes
 ended delimiter left true is end = closed left (drop 2 left, (starts_is Decides-eqb left (codes "--") true is).0 refl)
-ended delimiter left false is (inl closes) =
-    absurd (true≢false (sym ((starts_is Decides-eqb left (codes "--") false is).1 closes.0 closes.1)))
+ended delimiter left false is (inl closes) = search (true≢false, starts_is, Decides-eqb, rules)
 ended delimiter left false is (inr off) = cut_off left off
 
 pub returns-in-None : goal.returns-in-None
-returns-in-None c =
-    subst (λ items. IsBody c.args.delimiter.now c.args.body.now (map (λ part. part.now) items) false) (sym c.new-parts.ensures.items)
-    (no_delimiter c.args.body.now (c.in-None.ensures.none refl c.requires))
+returns-in-None c = grind (arith, common_steps, no_delimiter)
 
 pub loop-part-init : goal.loop-part-init
-loop-part-init c = λ more is_whole are.
-    subst (λ items. IsBody c.args.delimiter.now c.args.body.now (map (λ part. part.now) items ++ more) is_whole)
-    (sym c.new-parts.ensures.items)
-    (after_preamble c.args.body.now c.in-Some.field-0-0.now c.in-Some.after.now more is_whole c.in-Some.ensures.cut are)
+loop-part-init c = search (after_preamble, rules)
 
 pub loop-part-preserved : goal.loop-part-preserved
-loop-part-preserved c = λ more is_whole are.
-    let part = c.in-Some-next_part.part in
-    let pushed : vec_items c.push.new.self ≡ vec_items c.loop-part.parts ++ (part ∷ []) = search rules in
-    let all = c.loop-part.invariant (part.now ∷ more) is_whole
-    (a_part c.loop-part.left.now part.now c.in-Some-next_part.after.now more is_whole c.in-Some-next_part.ensures.part are) in
-    rw (pushed, ← added (vec_items c.loop-part.parts) part more) all
+loop-part-preserved c = grind (arith, common_steps, a_part, added)
 
 pub returns : goal.returns
 returns c =

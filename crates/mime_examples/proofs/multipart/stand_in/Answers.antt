@@ -1,5 +1,5 @@
 -- The bytes stand where a slice begins with them.
-use Rattle.std.proofs.Common.{◌≢◌, ◌++◌, ℕ, List, take, drop, length, refl, sym, arith, below_more}
+use Rattle.std.proofs.Common.{rules, ◌++◌, take, length, refl, arith, below_more}
 use Rattle.std.proofs.lemmas.Bool.{true≢false}
 use Rattle.mime_examples.proofs.Places.{dropped, begins_inside, from_place, divided}
 use Rattle.mime_examples.proofs.multipart.stand_in.Goals as goal
@@ -10,11 +10,7 @@ returns-then-starts_with-clause-stand c = λ _.
     (take c.loop-at.at c.args.part.now, found.0, divided c.args.part.now c.loop-at.at (c.args.bytes.now ++ found.0) found.1)
 
 pub loop-at-preserved : goal.loop-at-preserved
-loop-at-preserved c = λ at less after.
-    below_more (λ at. (after : List ℕ) → drop at c.args.part.now ≢ c.args.bytes.now ++ after) c.loop-at.at c.loop-at.invariant
-    (λ after is. true≢false (sym ((from_place c.args.part.now c.args.bytes.now c.loop-at.at _ c.if-starts_with.ensures.value).1 after
-    is)))
-    at less after
+loop-at-preserved c = search (below_more, true≢false, from_place, rules)
 
 pub returns-clause-none : goal.returns-clause-none
 returns-clause-none c = λ _ some before after is.

@@ -1,5 +1,5 @@
 -- A part loses the end of its last line, if there is one.
-use Rattle.std.proofs.Common.{◌≡◌, ◌≢◌, ◌∙◌, ◌<◌, ◌-◌, ◌++◌, ◌∷◌, [], ℕ, suc, List, Bor, Option, Some, None, unwrap_or, append_assoc, take, length, sym, ap, subst, codes, arith}
+use Rattle.std.proofs.Common.{rules, ◌≡◌, ◌≢◌, ◌∙◌, ◌<◌, ◌-◌, ◌++◌, ◌∷◌, [], ℕ, suc, List, Bor, Option, Some, None, unwrap_or, append_assoc, take, length, sym, subst, codes, arith}
 use Rattle.std.specs.Prelude.{MatchOption, slice_get}
 use Rattle.std.proofs.{Math.ListN.drop_of_length-le, Math.Seq.drop-cons, lemmas.Bool.Decides.Decides-eqb, lemmas.Option.get_or_from_slice_get, lemmas.Slice.Eq.strip_suffix_is}
 use Rattle.mime_examples.specs.Multipart.{EndsLine, IsPart, no_line, with_return, without_return}
@@ -11,10 +11,7 @@ before_feed : (before : List ℕ) (part : Bor (List ℕ)) (found : Option (Bor (
     → MatchOption found ((line : List ℕ) → part.now ≢ line ++ codes "\r") (λ line. part.now ≡ line.now ++ codes "\r")
     → IsPart before (unwrap_or found part).now
 before_feed before part None is none = subst (λ text. IsPart text part.now) (sym is) (without_return part.now none)
-before_feed before part (Some line) is found =
-    let both : before ≡ line.now ++ codes "\r\n" =
-    is ∙ ap (λ text. text ++ codes "\n") found ∙ append_assoc line.now (codes "\r") (codes "\n") in
-    subst (λ text. IsPart text line.now) (sym both) (with_return line.now)
+before_feed before part (Some line) is found = search (append_assoc, with_return, rules)
 
 -- Bytes that end with a line feed are others and it.
 last_feed : (text : List ℕ) → 0 < length text → slice_get text (length text - 1) ≡ Some 10

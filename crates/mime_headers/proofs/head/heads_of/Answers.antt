@@ -1,6 +1,6 @@
 -- The next head is added if it counts.
 use Rattle.std.proofs.lemmas.{List.drop-drop, List.take_rest, List.Elements.filter-append}
-use Rattle.mime_headers.proofs.Common.{Bool, Bor, List, [], add-one, ap, append_assoc, arith, counts, drop, drop-cons, false, filter, get_or, head_at, if◌then◌else◌, is_field, is_start, length, map, not, refl, started_heads, sym, text_of, true, ℕ, ◌&&◌, ◌++◌, ◌+◌, ◌<◌, ◌||◌, ◌∙◌, ◌∷◌, ◌≡◌}
+use Rattle.mime_headers.proofs.Common.{Bool, Bor, List, [], add-one, ap, append_assoc, arith, counts, drop, drop-cons, false, filter, get_or, head_at, if◌then◌else◌, is_field, is_start, length, map, not, refl, started_heads, sym, text_of, true, ℕ, ◌&&◌, ◌++◌, ◌+◌, ◌<◌, ◌||◌, ◌∙◌, ◌∷◌, ◌≡◌, rules}
 use Rattle.mime_headers.proofs.head.heads_of.Invariants.{left_heads}
 use Rattle.mime_headers.proofs.head.heads_of.Goals as goal
 
@@ -42,11 +42,4 @@ next_head cut first begins lines after at len line before one whole within rest 
     rw passed (append_assoc before _ _ ∙ ap (λ heads. before ++ heads) (sym counted) ∙ so_far)
 
 pub loop-at-preserved : goal.loop-at-preserved
-loop-at-preserved c =
-    let begins = rw c.text_of.ensures.text at c.begins_head-begins.ensures in
-    let after = take_rest c.args.lines.now (c.loop-at.at + 1) in
-    let cut = c.in_ok-head.ensures in (
-      rw c.in_ok-push_counted.ensures (next_head _ _ _ c.args.lines.now _ c.loop-at.at _ _ _ _ _ c.loop-at-test.true after begins cut.head
-          cut.rest cut.none c.loop-at.invariant.0),
-      omega (arith, cut.within, c.loop-at-test.true),
-    )
+loop-at-preserved c = search (take_rest, next_head, rules)

@@ -4,17 +4,10 @@ use Rattle.mime_headers.proofs.Rows.{folds-next}
 use Rattle.mime_headers.proofs.report.report_of.Goals as goal
 
 pub returns-then-is_empty : goal.returns-then-is_empty
-returns-then-is_empty c =
-    let cut = is_cut c.args.input.now in
-    let same : map lines_now (vec_items c.in_ok-heads.heads) ≡ heads_of cut (bare_lines cut c.args.input.now) =
-    cc (c.in_ok-heads.ensures, c.deref.ensures.value, c.in_ok-lines.ensures) in
-    let none : length (vec_items c.in_ok-heads.heads) ≡ 0 = search (rules, tests) in
-    sym same ∙ ap (map lines_now) (nil_from_length _ none)
+returns-then-is_empty c = search (tests, nil_from_length, rules)
 
 pub loop-head-preserved : goal.loop-head-preserved
-loop-head-preserved c end rest =
-    let adds = rw c.as_slice.ensures.value at c.in_ok-push_head.ensures in
-    c.loop-head.invariant end (folds-next _ lines_now _ _ end _ _ c.head-item.result c.loop-head-test.true c.head-item.is adds rest)
+loop-head-preserved c end rest = search (folds-next, rules)
 
 pub returns : goal.returns
 returns c =
