@@ -73,14 +73,7 @@ next-out_of_memory old now new piece positions found (value, reads, long) is =
     next-some old now new (piece, Some positions) (Err NoMemory) found
     (subst IsSound (sym is) (record { few = omega (arith, found.sound.few); exact = λ fed n takes. absurd (true≢false fed) }))
     (ap (λ (i : Iteration). i.text) is) (ap (λ (i : Iteration). i.steps) is) (
-      record {
-        piece = piece.now;
-        value = value;
-        items = others.items;
-        rest = others.rest;
-        cut = found.gives.0.1 value reads others.items others.rest others.cut;
-        long = long;
-      },
+      (piece.now, value, others.items, others.rest, found.gives.0.1 value reads others.items others.rest others.cut, long),
       ap (λ (i : Iteration). i.left) is,
       ap (λ (i : Iteration). i.out_of_memory) is,
     )
@@ -103,10 +96,10 @@ run_items first (Err (Piece p) ∷ given) (end, (last, (next, step, others), non
     let (items, rest, cut, are) = run_items next given (end, (last, others, none)) in
     (_, rest, step.item.0 items rest cut, a_piece p given items are)
 run_items first (Err NoMemory ∷ given) (end, (last, (next, step, others), none)) =
-    let needs = step.item.0 in
-    let are = no_memory needs.piece needs.value needs.items needs.long in
+    let (piece, value, items, rest, cut, long) = step.item.0 in
     let ended = given_ended next given step.item.1 (end, (last, others, none)) in
-    (_, needs.rest, needs.cut, subst (λ g. AreGiven (Err NoMemory ∷ g) (good needs.piece needs.value ∷ needs.items)) (sym ended) are)
+    let are = no_memory piece value items long in
+    (_, rest, cut, subst (λ g. AreGiven (Err NoMemory ∷ g) (good piece value ∷ items)) (sym ended) are)
 
 -- a whole run yields the items of the cut
 pub run_gives_cut : RunGivesCut

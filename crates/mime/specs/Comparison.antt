@@ -28,8 +28,7 @@ IsPairBefore (name, value) (other, content) = IsTextBefore name other ⊎ ((name
 
 -- a value is before another: by its essence, and among values of one essence by its list of pairs
 abbrev pub Before : MediaType → MediaType → Type 0
-Before first second =
-    IsTextBefore first.essence second.essence
+Before first second = IsTextBefore first.essence second.essence
     ⊎ ((first.essence ≡ second.essence) × IsListBefore IsPairBefore first.pairs second.pairs)
 
 -- an answer says how two values compare: the first is before the second, they are equal, or the second is before the first

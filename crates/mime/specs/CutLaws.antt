@@ -10,15 +10,14 @@ use Rattle.mime.specs.Grammar.{is_space}
 use Rattle.mime.specs.Cut.{IsSplit, CutItem, good, bad, Cut, Pieces, TakesSteps}
 use Rattle.std.specs.Borrow.{Bor}
 use Rattle.std.specs.Iterator.{Drains}
+use Rattle.mime.specs.Laws.{ExactlyOne}
 use Rattle.mime.specs.Runs.{Iteration, IsNext}
 use Rattle.mime.specs.declared.iter.Bad.{Bad}
 use Rattle.mime.specs.declared.iter.Bad.TheVariants.{Piece, NoMemory}
 
 -- A text has exactly one cut.
 abbrev pub OneCut : Type 0
-OneCut =
-    (text : List ℕ)
-    → (items : List CutItem) × (rest : List ℕ) × Cut text items rest
+OneCut = (text : List ℕ) → (items : List CutItem) × (rest : List ℕ) × Cut text items rest
     × ((others : List CutItem) (left : List ℕ) → Cut text others left → (others ≡ items) × (left ≡ rest))
 
 -- what an item is: a good piece is read as its value, and a bad one is viable, rejected and not empty
@@ -28,8 +27,7 @@ IsItem (bad piece) = IsViable piece × IsRejected piece × (piece ≢ [])
 
 -- Each item of a cut is a piece that is read as its value, or a viable rejected one that isn't empty. The rest is viable and rejected.
 abbrev pub CutHasItems : Type 0
-CutHasItems =
-    (text : List ℕ) (items : List CutItem) (rest : List ℕ) → Cut text items rest
+CutHasItems = (text : List ℕ) (items : List CutItem) (rest : List ℕ) → Cut text items rest
     → AllByRecursion IsItem items × IsViable rest × IsRejected rest
 
 -- the text of the pieces, with the character after each, and of the last piece
@@ -39,14 +37,13 @@ text_of_pieces ((piece, character) ∷ pieces) end = piece ++ (character ++ text
 
 -- A text is pieces, a character after each, and a last piece, which is accepted or is the rest of the text's cut.
 abbrev pub CutWritesText : Type 0
-CutWritesText =
-    (text : List ℕ) (items : List CutItem) (rest : List ℕ) → Cut text items rest
+CutWritesText = (text : List ℕ) (items : List CutItem) (rest : List ℕ) → Cut text items rest
     → (pieces : List (List ℕ × List ℕ)) × (end : List ℕ) × Pieces text pieces end
     × (text_of_pieces pieces end ≡ text) × (IsAccepted end ⊎ (end ≡ rest))
 
 -- A text is cut in exactly one number of steps.
 abbrev pub OneCount : Type 0
-OneCount = (text : List ℕ) → (steps : ℕ) × TakesSteps text steps × ((other : ℕ) → TakesSteps text other → other ≡ steps)
+OneCount = (text : List ℕ) → ExactlyOne (TakesSteps text)
 
 -- the items of a rest that a comma follows: the rest as a bad piece, or none if it is empty
 abbrev pub items_of_rest : List ℕ → List CutItem
@@ -55,8 +52,7 @@ items_of_rest (b ∷ rest) = bad (b ∷ rest) ∷ []
 
 -- A comma ends what precedes it, unless that is an open quoted string. What follows the comma is cut like a text of its own.
 abbrev pub CommaContains : Type 0
-CommaContains =
-    (before after : List ℕ) (items others : List CutItem) (rest end : List ℕ) → Cut before items rest → ¬ (IsUnclosed rest)
+CommaContains = (before after : List ℕ) (items others : List CutItem) (rest end : List ℕ) → Cut before items rest → ¬ (IsUnclosed rest)
     → Cut after others end → Cut (before ++ (comma_byte ∷ after)) (items ++ (items_of_rest rest ++ others)) end
 
 -- the kept texts of the values, with a comma and a space between each and the next
@@ -101,8 +97,7 @@ HttpListIsCut = (text : List ℕ) (elements : List CutItem) → IsHttpList text 
 -- In a text of valid UTF-8 what is passed after a piece is one character, a scalar value, and the texts before and after it are
 -- valid UTF-8.
 abbrev pub PassesOneCharacter : Type 0
-PassesOneCharacter =
-    (text piece character left : List ℕ) → IsUtf8 text → IsSplit text piece character left
+PassesOneCharacter = (text piece character left : List ℕ) → IsUtf8 text → IsSplit text piece character left
     → (char : ℕ) × IsScalar char × (character ≡ encode_utf8 char) × IsUtf8 piece × IsUtf8 left
 
 -- what a run yielded is the items in order, or the first of them and then out of memory:
@@ -120,22 +115,17 @@ pub data AreGiven : List (Result OwnedMedia Bad) → List CutItem → Type 0 whe
 
 -- A run yields the items of the cut of what was left.
 abbrev pub RunGivesCut : Type 0
-RunGivesCut =
-    (first : Iteration) (given : List (Result OwnedMedia Bad)) → Drains IsNext first given
+RunGivesCut = (first : Iteration) (given : List (Result OwnedMedia Bad)) → Drains IsNext first given
     → (items : List CutItem) (rest : List ℕ) → Cut first.left items rest → AreGiven given items
 
 -- A run over a text with a comma yields the items of the text before it, the rest of that, and then the items of the text
 -- after it, unless the rest is an open quoted string.
 abbrev pub CommaContainsOnRuns : Type 0
-CommaContainsOnRuns =
-    (before after : List ℕ) (items others : List CutItem) (rest end : List ℕ) → Cut before items rest → ¬ (IsUnclosed rest)
-    → Cut after others end
-    → (first : Iteration) (given : List (Result OwnedMedia Bad)) → first.left ≡ before ++ (comma_byte ∷ after)
-    → Drains IsNext first given → AreGiven given (items ++ (items_of_rest rest ++ others))
+CommaContainsOnRuns = (before after : List ℕ) (items others : List CutItem) (rest end : List ℕ) → Cut before items rest
+    → ¬ (IsUnclosed rest) → Cut after others end → (first : Iteration) (given : List (Result OwnedMedia Bad))
+    → first.left ≡ before ++ (comma_byte ∷ after) → Drains IsNext first given → AreGiven given (items ++ (items_of_rest rest ++ others))
 
 -- A run over the joined kept texts of values that were read yields these values.
 abbrev pub PrintedListComesBack : Type 0
-PrintedListComesBack =
-    (values : List MediaType) → AllByRecursion IsRead values
-    → (first : Iteration) (given : List (Result OwnedMedia Bad)) → first.left ≡ joined values
-    → Drains IsNext first given → AreGiven given (map kept_item values)
+PrintedListComesBack = (values : List MediaType) → AllByRecursion IsRead values → (first : Iteration)
+    (given : List (Result OwnedMedia Bad)) → first.left ≡ joined values → Drains IsNext first given → AreGiven given (map kept_item values)

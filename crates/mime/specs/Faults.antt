@@ -9,11 +9,14 @@ use Rattle.mime.specs.declared.scan.fault.ParseError.TheVariants.{MissingSlash, 
 abbrev pub IsViable : List ℕ → Type 0
 IsViable prefix = (more : List ℕ) × IsAccepted (prefix ++ more)
 
--- the longest prefix of the text that is viable has this many bytes
-pub record IsLongestPrefix (text : List ℕ) (count : ℕ) : Type 0 where
+-- the longest prefix of the text that is viable, in this sense of the word, has this many bytes
+pub record IsLongest (Viable : List ℕ → Type 0) (text : List ℕ) (count : ℕ) : Type 0 where
   pub within : count ≤ length text
-  pub viable : IsViable (take count text)
-  pub longest : (n : ℕ) → count < n → n ≤ length text → ¬ (IsViable (take n text))
+  pub viable : Viable (take count text)
+  pub longest : (n : ℕ) → count < n → n ≤ length text → ¬ (Viable (take n text))
+
+abbrev pub IsLongestPrefix : List ℕ → ℕ → Type 0
+IsLongestPrefix text count = IsLongest IsViable text count
 
 -- the bytes that complete a text with this fault, which lacks at its end a slash, a subtype, a parameter's equals sign, its
 -- value, or its closing quote
@@ -35,12 +38,14 @@ last_byte_of other = None
 abbrev pub EndsIn : List ℕ → ℕ → Type 0
 EndsIn text byte = (prefix : List ℕ) × (text ≡ prefix ++ (byte ∷ []))
 
--- the text lacks what the fault says: with the fault's completion after it, it is accepted, and it ends in the fault's
--- byte, if the fault has one. An accepted text lacks nothing
-abbrev pub Lacks : List ℕ → ParseError → Type 0
-Lacks text fault =
-    MatchOption (completion_of fault) ⊥ (λ more. IsAccepted (text ++ more))
+-- the text lacks what the fault says: with the fault's completion after it, it is accepted, in this sense of the word, and it ends in
+-- the fault's byte, if the fault has one. An accepted text lacks nothing
+abbrev pub LacksTo : (List ℕ → Type 0) → List ℕ → ParseError → Type 0
+LacksTo Accepted text fault = MatchOption (completion_of fault) ⊥ (λ more. Accepted (text ++ more))
     × MatchOption (last_byte_of fault) ⊤ (EndsIn text)
+
+abbrev pub Lacks : List ℕ → ParseError → Type 0
+Lacks text fault = LacksTo IsAccepted text fault
 
 -- the text ends in an open quoted string
 abbrev pub IsUnclosed : List ℕ → Type 0

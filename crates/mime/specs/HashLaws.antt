@@ -16,6 +16,5 @@ RespectsEquality input = (first second : OwnedMedia) → Same first.media second
 
 -- What values feed a hasher is prefix-free: if the bytes of one begin those of another, or are the same, then the two are equal.
 abbrev pub IsPrefixFree : (OwnedMedia → HashWrites) → Type 0
-IsPrefixFree input =
-    (first second : OwnedMedia) (more : List ℕ) → IsReadInUtf8 first.media → IsReadInUtf8 second.media
+IsPrefixFree input = (first second : OwnedMedia) (more : List ℕ) → IsReadInUtf8 first.media → IsReadInUtf8 second.media
     → concat (input first) ++ more ≡ concat (input second) → Same first.media second.media

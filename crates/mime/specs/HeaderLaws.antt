@@ -34,12 +34,10 @@ text_with_parameter essence name content = essence ++ (codes "; " ++ (name ++ (c
 
 -- the value with this pair in place of its parameters
 abbrev pub with_parameter : MediaType → List ℕ → List ℕ → MediaType
-with_parameter value name content =
-    record value { pairs = (name, content) ∷ []; kept = text_with_parameter value.essence name content }
+with_parameter value name content = record value { pairs = (name, content) ∷ []; kept = text_with_parameter value.essence name content }
 
 -- The essence of a value that was read, with a token and quoted content after it as a parameter, is read as the value with that
 -- parameter and no other, lowercased as reading lowercases.
 abbrev pub ParameterIsRead : Type 0
-ParameterIsRead =
-    (text : List ℕ) (value : MediaType) (name content : List ℕ) → Reads text value → IsToken name → IsContent content
+ParameterIsRead = (text : List ℕ) (value : MediaType) (name content : List ℕ) → Reads text value → IsToken name → IsContent content
     → Reads (text_with_parameter value.essence name content) (with_parameter value (lowered name) (lowered_value name content))

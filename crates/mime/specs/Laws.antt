@@ -1,14 +1,18 @@
 -- The laws: what follows from only the definitions.
-use Rattle.std.specs.Prelude.{◌≡◌, ◌≢◌, ℕ, ◌+◌, ◌<◌, ◌≤◌, ◌⊎◌, Bool, List, [], ◌∷◌, ◌++◌, length, take, slice_get, Option, Some, None, MatchOption, ◌↔◌}
+use Rattle.std.specs.Prelude.{◌≡◌, ◌≢◌, ℕ, ◌+◌, ◌<◌, ◌≤◌, ◌⊎◌, Bool, List, [], ◌∷◌, ◌++◌, slice_get, Option, Some, None, MatchOption, ◌↔◌}
 use Rattle.std.specs.Str.{IsUtf8, IsCharBoundary}
 use Rattle.mime.specs.Bytes.{slash_byte, plus_byte}
 use Rattle.mime.specs.Grammar.{SyntaxTree, text_of, IsWellFormed}
 use Rattle.mime.specs.Values.{MediaType, Reads, IsAccepted, IsRejected, lowered, type_of, subtype_of, suffix_of}
-use Rattle.mime.specs.Comparison.{Same, Before, TextIs}
+use Rattle.mime.specs.Comparison.{Same, Before, IsOrderOf, TextIs}
 use Rattle.mime.specs.Difference.{DifferInValue}
-use Rattle.mime.specs.Faults.{IsViable, IsLongestPrefix, Lacks, IsFault}
+use Rattle.mime.specs.Faults.{IsViable, IsLongest, IsLongestPrefix, Lacks, IsFault}
 use Rattle.mime.specs.Items.{Item, IsFirstAccepted}
 use Rattle.mime.specs.declared.scan.fault.ParseError.{ParseError}
+
+-- exactly one thing has a property
+abbrev pub ExactlyOne : {X : Type 0} → (X → Type 0) → Type 0
+ExactlyOne {X} Is = (one : X) × Is one × ((other : X) → Is other → other ≡ one)
 
 -- A text is spelled by at most one well-formed tree.
 abbrev pub OneTree : Type 0
@@ -36,9 +40,7 @@ AcceptedIsViable = (text : List ℕ) → IsAccepted text → IsViable text
 
 -- A viable rejected text has exactly one of five faults: the fault's completion makes it an accepted text.
 abbrev pub OneCompletion : Type 0
-OneCompletion =
-    (text : List ℕ) → IsViable text → IsRejected text
-    → (fault : ParseError) × Lacks text fault × ((other : ParseError) → Lacks text other → other ≡ fault)
+OneCompletion = (text : List ℕ) → IsViable text → IsRejected text → ExactlyOne (Lacks text)
 
 -- A text that lacks something is rejected.
 abbrev pub CompletedIsRejected : Type 0
@@ -50,13 +52,11 @@ NoCompletion = (text more : List ℕ) → ¬ (IsViable text) → IsRejected (tex
 
 -- A rejected text has exactly one fault.
 abbrev pub OneFault : Type 0
-OneFault =
-    (text : List ℕ) → IsRejected text
-    → (fault : ParseError) × IsFault text fault × ((other : ParseError) → IsFault text other → other ≡ fault)
+OneFault = (text : List ℕ) → IsRejected text → ExactlyOne (IsFault text)
 
 -- A text has exactly one longest viable prefix.
 abbrev pub OneLongestPrefix : Type 0
-OneLongestPrefix = (text : List ℕ) → (count : ℕ) × IsLongestPrefix text count × ((other : ℕ) → IsLongestPrefix text other → other ≡ count)
+OneLongestPrefix = (text : List ℕ) → ExactlyOne (IsLongestPrefix text)
 
 -- The longest viable prefix of a text of valid UTF-8 ends between characters.
 abbrev pub PrefixEndsBetweenCharacters : Type 0
@@ -66,16 +66,10 @@ PrefixEndsBetweenCharacters = (text : List ℕ) (count : ℕ) → IsUtf8 text �
 abbrev pub IsViableInUtf8 : List ℕ → Type 0
 IsViableInUtf8 prefix = (more : List ℕ) × IsUtf8 (prefix ++ more) × IsAccepted (prefix ++ more)
 
--- the longest prefix of the text with which some accepted text of valid UTF-8 begins has this many bytes
-pub record IsLongestPrefixInUtf8 (text : List ℕ) (count : ℕ) : Type 0 where
-  pub within : count ≤ length text
-  pub viable : IsViableInUtf8 (take count text)
-  pub longest : (n : ℕ) → count < n → n ≤ length text → ¬ (IsViableInUtf8 (take n text))
-
 -- In a text of valid UTF-8 the longest viable prefix is the same whether it may be completed by any bytes or only to a text of
 -- valid UTF-8.
 abbrev pub PrefixIsInUtf8 : Type 0
-PrefixIsInUtf8 = (text : List ℕ) (count : ℕ) → IsUtf8 text → IsLongestPrefix text count ↔ IsLongestPrefixInUtf8 text count
+PrefixIsInUtf8 = (text : List ℕ) (count : ℕ) → IsUtf8 text → IsLongestPrefix text count ↔ IsLongest IsViableInUtf8 text count
 
 -- the text has no plus at position `from` or later, in bytes from 0
 abbrev pub HasNoPlusFrom : List ℕ → ℕ → Type 0
@@ -83,11 +77,9 @@ HasNoPlusFrom text from = (position : ℕ) → from ≤ position → slice_get t
 
 -- The plus of a value is the last one of its essence after the subtype's first byte, if there is one.
 abbrev pub PlusIsLast : Type 0
-PlusIsLast =
-    (text : List ℕ) (value : MediaType) → Reads text value
-    → MatchOption value.plus (HasNoPlusFrom value.essence (value.slash + 2))
-    (λ position. (value.slash + 1 < position) × (slice_get value.essence position ≡ Some plus_byte)
-    × HasNoPlusFrom value.essence (position + 1))
+PlusIsLast = (text : List ℕ) (value : MediaType) → Reads text value
+    → MatchOption value.plus (HasNoPlusFrom value.essence (value.slash + 2)) (λ position. (value.slash + 1 < position)
+    × (slice_get value.essence position ≡ Some plus_byte) × HasNoPlusFrom value.essence (position + 1))
 
 -- The kept text of a value that was read is read as the value.
 abbrev pub KeptIsRead : Type 0
@@ -108,8 +100,7 @@ suffix_text (Some suffix) = plus_byte ∷ suffix
 
 -- The essence of a value that was read is its type, a slash, its subtype, and a plus with its suffix if there is one.
 abbrev pub EssenceIsParts : Type 0
-EssenceIsParts =
-    (text : List ℕ) (value : MediaType) → Reads text value
+EssenceIsParts = (text : List ℕ) (value : MediaType) → Reads text value
     → value.essence ≡ type_of value ++ (slash_byte ∷ (subtype_of value ++ suffix_text (suffix_of value)))
 
 -- the same type, subtype and suffix
@@ -119,20 +110,12 @@ HaveSameParts first second =
 
 -- Two values that were read have the same essence exactly if they have the same type, subtype and suffix.
 abbrev pub SameEssence : Type 0
-SameEssence =
-    (one other : List ℕ) (first second : MediaType) → Reads one first → Reads other second
+SameEssence = (one other : List ℕ) (first second : MediaType) → Reads one first → Reads other second
     → (first.essence ≡ second.essence) ↔ HaveSameParts first second
 
--- exactly one of the three: the first is before the second, they are equal, the second is before the first
-abbrev pub OneOf : MediaType → MediaType → Type 0
-OneOf first second =
-    (Before first second × ¬ (Same first second) × ¬ (Before second first))
-    ⊎ ((Same first second × ¬ (Before first second) × ¬ (Before second first))
-    ⊎ (Before second first × ¬ (Same first second) × ¬ (Before first second)))
-
--- Two values are equal, or exactly one of them is before the other.
+-- Exactly one of the three is so: a value is before another, they are equal, or it is after the other.
 abbrev pub OneOrder : Type 0
-OneOrder = (first second : MediaType) → OneOf first second
+OneOrder = (first second : MediaType) → ExactlyOne (IsOrderOf first second)
 
 -- If a value is before a second one, and that is before a third, the first is before the third.
 abbrev pub BeforeIsTransitive : Type 0
@@ -140,9 +123,8 @@ BeforeIsTransitive = (first second third : MediaType) → Before first second �
 
 -- A text is equal to a value without parameters exactly if the text, lowercased, is the kept text.
 abbrev pub BareTextIs : Type 0
-BareTextIs =
-    (text : List ℕ) (value : MediaType) → Reads text value → value.pairs ≡ []
-    → (other : List ℕ) → TextIs value other ↔ (lowered other ≡ value.kept)
+BareTextIs = (text : List ℕ) (value : MediaType) → Reads text value → value.pairs ≡ [] → (other : List ℕ)
+    → TextIs value other ↔ (lowered other ≡ value.kept)
 
 -- A value is equal to the kept text of a value that was read exactly if the two values are equal.
 abbrev pub KeptTextIs : Type 0
@@ -154,17 +136,14 @@ IsDecided Accepts = (name : List ℕ) (ignores_case : Bool) → Accepts name ign
 
 -- A key finds at most one answer in a list of items.
 abbrev pub OneAnswer : (List ℕ → Bool → Type 0) → Type 0
-OneAnswer Accepts =
-    (items : List Item) (found other : Option (List ℕ × Bool)) → IsFirstAccepted Accepts items found
+OneAnswer Accepts = (items : List Item) (found other : Option (List ℕ × Bool)) → IsFirstAccepted Accepts items found
     → IsFirstAccepted Accepts items other → other ≡ found
 
 -- A key that accepts each name or doesn't finds an answer in a list of items.
 abbrev pub HasAnswer : (List ℕ → Bool → Type 0) → Type 0
-HasAnswer Accepts =
-    IsDecided Accepts → (items : List Item) → (found : Option (List ℕ × Bool)) × IsFirstAccepted Accepts items found
+HasAnswer Accepts = IsDecided Accepts → (items : List Item) → (found : Option (List ℕ × Bool)) × IsFirstAccepted Accepts items found
 
 -- Texts whose first difference reaches the value are not read as equal values.
 abbrev pub FirstDifferenceDecides : Type 0
-FirstDifferenceDecides =
-    (one other : List ℕ) (first second : MediaType) → Reads one first → Reads other second → DifferInValue one other
-    → ¬ (Same first second)
+FirstDifferenceDecides = (one other : List ℕ) (first second : MediaType) → Reads one first → Reads other second
+    → DifferInValue one other → ¬ (Same first second)

@@ -9,12 +9,9 @@ NameIs name false text = name ≡ text
 
 -- the texts of the constants, in the order of `name_constants`; each ignores case
 abbrev pub name_table : List (List ℕ)
-name_table =
-    codes "*" ∷ codes "text" ∷ codes "image" ∷ codes "audio" ∷ codes "video"
-    ∷ codes "application" ∷ codes "multipart" ∷ codes "message" ∷ codes "model" ∷ codes "font"
-    ∷ codes "plain" ∷ codes "html" ∷ codes "xml" ∷ codes "javascript" ∷ codes "css" ∷ codes "csv"
-    ∷ codes "event-stream" ∷ codes "vcard" ∷ codes "json" ∷ codes "x-www-form-urlencoded"
-    ∷ codes "msgpack" ∷ codes "octet-stream" ∷ codes "pdf" ∷ codes "woff" ∷ codes "woff2"
-    ∷ codes "form-data" ∷ codes "bmp" ∷ codes "gif" ∷ codes "jpeg" ∷ codes "png" ∷ codes "svg"
-    ∷ codes "basic" ∷ codes "mpeg" ∷ codes "mp4" ∷ codes "ogg"
-    ∷ codes "charset" ∷ codes "boundary" ∷ codes "utf-8" ∷ []
+name_table = codes "*" ∷ codes "text" ∷ codes "image" ∷ codes "audio" ∷ codes "video" ∷ codes "application" ∷ codes "multipart"
+    ∷ codes "message" ∷ codes "model" ∷ codes "font" ∷ codes "plain" ∷ codes "html" ∷ codes "xml" ∷ codes "javascript" ∷ codes "css"
+    ∷ codes "csv" ∷ codes "event-stream" ∷ codes "vcard" ∷ codes "json" ∷ codes "x-www-form-urlencoded" ∷ codes "msgpack"
+    ∷ codes "octet-stream" ∷ codes "pdf" ∷ codes "woff" ∷ codes "woff2" ∷ codes "form-data" ∷ codes "bmp" ∷ codes "gif" ∷ codes "jpeg"
+    ∷ codes "png" ∷ codes "svg" ∷ codes "basic" ∷ codes "mpeg" ∷ codes "mp4" ∷ codes "ogg" ∷ codes "charset" ∷ codes "boundary"
+    ∷ codes "utf-8" ∷ []

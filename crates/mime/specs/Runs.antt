@@ -12,22 +12,14 @@ pub record Iteration : Type 0 where
   pub out_of_memory : Bool
   pub steps : ℕ
 
--- it has ended: nothing is left
-abbrev pub HasEnded : Iteration → Type 0
-HasEnded i = i.left ≡ []
-
 -- the first item of the text's cut is this one, and the others are those of the cut of what is left
 abbrev pub IsFirstItem : List ℕ → CutItem → List ℕ → Type 0
 IsFirstItem text item left = (items : List CutItem) (rest : List ℕ) → Cut left items rest → Cut text (item ∷ items) rest
 
 -- the first item of the text's cut is a media type of which more than 40 bytes are kept, which needs memory
-pub record FirstNeedsMemory (text : List ℕ) : Type 0 where
-  pub piece : List ℕ
-  pub value : MediaType
-  pub items : List CutItem
-  pub rest : List ℕ
-  pub cut : Cut text (good piece value ∷ items) rest
-  pub long : 40 < length value.kept
+abbrev pub FirstNeedsMemory : List ℕ → Type 0
+FirstNeedsMemory text = (piece : List ℕ) × (value : MediaType) × (items : List CutItem) × (rest : List ℕ)
+    × Cut text (good piece value ∷ items) rest × (40 < length value.kept)
 
 -- the text's cut has no item
 abbrev pub HasNoItem : List ℕ → Type 0
@@ -35,12 +27,11 @@ HasNoItem text = (rest : List ℕ) × Cut text [] rest
 
 -- what a call returns: none, a media type, which is fixed if its piece is `*/*`, a bad piece, or out of memory
 abbrev pub GivesItem : Iteration → Option (Result OwnedMedia Bad) → Iteration → Type 0
-GivesItem old None new = HasNoItem old.left × HasEnded new × (new.out_of_memory ≡ old.out_of_memory)
-GivesItem old (Some (Ok mime)) new =
-    (piece : List ℕ) × IsFirstItem old.left (good piece mime.media) new.left
+GivesItem old None new = HasNoItem old.left × (new.left ≡ []) × (new.out_of_memory ≡ old.out_of_memory)
+GivesItem old (Some (Ok mime)) new = (piece : List ℕ) × IsFirstItem old.left (good piece mime.media) new.left
     × (piece ≡ codes "*/*" → mime.fixed ≡ true) × (new.out_of_memory ≡ old.out_of_memory)
 GivesItem old (Some (Err (Piece piece))) new = IsFirstItem old.left (bad piece.now) new.left × (new.out_of_memory ≡ old.out_of_memory)
-GivesItem old (Some (Err NoMemory)) new = FirstNeedsMemory old.left × HasEnded new × (new.out_of_memory ≡ true)
+GivesItem old (Some (Err NoMemory)) new = FirstNeedsMemory old.left × (new.left ≡ []) × (new.out_of_memory ≡ true)
 
 -- one call of `next` makes the old iterator the new one, and returns the result
 pub record IsNext (old : Iteration) (result : Option (Result OwnedMedia Bad)) (new : Iteration) : Type 0 where
@@ -52,6 +43,6 @@ pub record IsNext (old : Iteration) (result : Option (Result OwnedMedia Bad)) (n
   pub more : old.steps ≤ new.steps
   pub few : new.steps ≤ length new.text
   -- at the end, unless memory ran out, they are exactly those of the text's cut
-  pub exact : HasEnded new → new.out_of_memory ≡ false → TakesSteps new.text new.steps
-  -- an iterator that has ended returns none, and stays as it is
-  pub stays : HasEnded old → (result ≡ None) × (new ≡ old)
+  pub exact : new.left ≡ [] → new.out_of_memory ≡ false → TakesSteps new.text new.steps
+  -- an iterator of which nothing is left returns none, and stays as it is
+  pub stays : old.left ≡ [] → (result ≡ None) × (new ≡ old)

@@ -29,8 +29,7 @@ use std::fmt;
 /// }
 /// ```
 ///
-/// IANA's registry of media types (RFC 6838) lists most of the constants. Constants with a `*` are media ranges (RFC
-/// 7231, 5.3.2).
+/// IANA's registry of media types (RFC 6838) lists most of the constants. Constants with a `*` are media ranges (RFC 7231, 5.3.2).
 #[derive(Clone, Copy, PartialEq, Eq, Hash)]
 #[allow(non_camel_case_types)]
 pub enum Atom {
@@ -183,8 +182,7 @@ impl Atom {
     }
 }
 
-/// Prints the constant as a `str` is printed, padded to a width and truncated to a precision: `TEXT_PLAIN` prints
-/// `text/plain`.
+/// Prints the constant as a `str` is printed, padded to a width and truncated to a precision: `TEXT_PLAIN` prints `text/plain`.
 impl fmt::Display for Atom {
     ghost output = { λ atom. Some (atom_text atom) };
 

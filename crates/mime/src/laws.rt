@@ -1,6 +1,6 @@
-//! The laws of the definitions, as functions. A caller of such a function can use its law in a proof. `name_constants`
-//! returns the constant names. The other functions do nothing. docs/LAWS.md lists all claims, and docs/RULES.md defines
-//! viable, accepted and cut.
+//! The laws of the definitions, as functions. A caller of such a function can use its law in a proof. `name_constants` returns the constant
+//! names. The other functions do nothing. docs/LAWS.md lists all claims, and docs/RULES.md defines viable, accepted and cut.
+#![tactic(auto, using(crate::proofs::LawsLemmas::laws))]
 
 ghost use Rattle.std.specs.Borrow.{Bor};
 ghost use Rattle.std.specs.Prelude.{◌≡◌, ◌↔◌, IsTrue, List, ℕ, map};
@@ -30,7 +30,6 @@ use std::hash::Hash;
 
 /// At most one well-formed syntax tree spells a string: only the tree with type `a`, subtype `b` and a parameter
 /// without quotes spells `a/b;p=x` (RFC 7231, 3.1.1.1).
-#[tactic(auto, using(crate::proofs::GrammarLemmas::Readings::one_tree))]
 pub fn one_tree()
     ensures { OneTree }
 {}
@@ -46,33 +45,28 @@ pub fn accepted_or_rejected()
 {}
 
 /// The empty string is viable: `a/b` begins with it.
-#[tactic(auto, using(crate::proofs::GrammarLemmas::Viability::empty_is_viable))]
 pub fn empty_is_viable()
     ensures { EmptyIsViable }
 {}
 
 /// A prefix of a viable string is viable: `a/b;p` is viable, since `a/b;p="` is.
-#[tactic(auto, using(crate::proofs::GrammarLemmas::Viability::prefix_of_viable_is_viable))]
 pub fn prefix_of_viable_is_viable()
     ensures { PrefixOfViableIsViable }
 {}
 
 /// An accepted string is viable, as `a/b` is.
-#[tactic(auto, using(crate::proofs::GrammarLemmas::Viability::accepted_is_viable))]
 pub fn accepted_is_viable()
     ensures { AcceptedIsViable }
 {}
 
 /// A viable string that is rejected has exactly one of five faults: a missing slash, subtype, equals sign, value or
 /// closing quote. Followed by the fault's completion, the string is accepted, as `a/b;p` followed by `=x` is.
-#[tactic(auto, using(crate::proofs::GrammarLemmas::Faults::one_completion))]
 pub fn one_completion()
     ensures { OneCompletion }
 {}
 
 /// A string is rejected if a slash, a subtype, an equals sign, a value or a closing quote is missing from it: `text/`
 /// is rejected, since a subtype is missing.
-#[tactic(auto, using(crate::proofs::GrammarLemmas::Faults::completed_is_rejected))]
 pub fn completed_is_rejected()
     ensures { CompletedIsRejected }
 {}
@@ -83,19 +77,16 @@ pub fn no_completion()
 {}
 
 /// A rejected string has exactly one fault: the fault of `text/;` is its byte at position 5, counted from 0.
-#[tactic(auto, using(crate::proofs::GrammarLemmas::Faults::one_fault))]
 pub fn one_fault()
     ensures { OneFault }
 {}
 
 /// A string has exactly one longest viable prefix: `a/b` for `a/b c`.
-#[tactic(auto, using(crate::proofs::GrammarLemmas::Faults::one_longest_prefix))]
 pub fn one_longest_prefix()
     ensures { OneLongestPrefix }
 {}
 
 /// The longest viable prefix of a string of valid UTF-8 ends between characters: for `a/bé` it ends before the `é`.
-#[tactic(auto, using(crate::proofs::GrammarLemmas::Characters::prefix_ends_between_characters))]
 pub fn prefix_ends_between_characters()
     ensures { PrefixEndsBetweenCharacters }
 {}
@@ -114,14 +105,12 @@ pub fn plus_is_last()
 
 /// The kept text of a value that was read is read as the same value: `a/b;p=X`, the kept text of `A/B;P=X`, is read as
 /// the value of `A/B;P=X`.
-#[tactic(auto, using(crate::proofs::ValueLemmas::KeptText::kept_is_read))]
 pub fn kept_is_read()
     ensures { KeptIsRead }
 {}
 
 /// The essence of a value that was read is read as this value without its parameters: `text/html` is read as the value
 /// of `text/html; charset=utf-8` without its charset.
-#[tactic(auto, using(crate::proofs::LawsLemmas::Written::essence_is_read))]
 pub fn essence_is_read()
     ensures { EssenceIsRead }
 {}
@@ -132,8 +121,7 @@ pub fn essence_is_parts()
     ensures { EssenceIsParts }
 {}
 
-/// Two values that were read have the same essence exactly if they have the same type, subtype and suffix, as
-/// `a/b+c;p=x` and `A/B+C` have.
+/// Two values that were read have the same essence exactly if they have the same type, subtype and suffix, as `a/b+c;p=x` and `A/B+C` have.
 pub fn same_essence()
     ensures { SameEssence }
 {}
@@ -145,16 +133,13 @@ pub fn kept_is_safe()
     ensures { KeptIsSafe }
 {}
 
-/// The essence of a value that was read, followed by `; ` and a parameter with a quoted string, is read as this essence
-/// with only this parameter: `a/b; P="X"` is read as `a/b` with the parameter `p`, whose value is `X` (RFC 7231,
-/// 3.1.1.1).
-#[tactic(auto, using(crate::proofs::LawsLemmas::Written::parameter_is_read))]
+/// The essence of a value that was read, followed by `; ` and a parameter with a quoted string, is read as this essence with only this
+/// parameter: `a/b; P="X"` is read as `a/b` with the parameter `p`, whose value is `X` (RFC 7231, 3.1.1.1).
 pub fn parameter_is_read()
     ensures { ParameterIsRead }
 {}
 
 /// Two values are equal, or exactly one of them is before the other: `a/b` is before `a/b;p=1`, which is before `a/c`.
-#[tactic(auto, using(crate::proofs::ValueLemmas::Traits::one_order))]
 pub fn one_order()
     ensures { OneOrder }
 {}
@@ -179,15 +164,12 @@ pub fn kept_text_is()
 
 /// A look-up in a list of parameters has at most one result: a value, or `None`. It has a result if the key either
 /// accepts or rejects each name: `TextKey("P")` finds `1` in `a/b;p=1;p=2`, and nothing else.
-#[tactic(auto, using(crate::proofs::LawsLemmas::Keys::one_answer, crate::proofs::LawsLemmas::Keys::has_answer))]
 pub fn one_answer<K: ParamKey>(key: &K)
     ensures most { OneAnswer (K.Accepts key.now) }
     ensures least { HasAnswer (K.Accepts key.now) }
 {}
 
-/// A key that is a string, a `TextKey` or a `Name` either accepts or rejects each name: `"P"` accepts `p` and rejects
-/// `q`.
-#[tactic(auto, using(crate::proofs::LawsLemmas::Keys::text_decides))]
+/// A key that is a string, a `TextKey` or a `Name` either accepts or rejects each name: `"P"` accepts `p` and rejects `q`.
 pub fn keys_decide()
     ensures string { (key : Bor (List ℕ)) → IsDecided (⟦<&'static str as ParamKey>⟧.Accepts key) }
     ensures text { (key : TextKey) → IsDecided (⟦<TextKey<'static> as ParamKey>⟧.Accepts key) }
@@ -200,7 +182,6 @@ pub fn mime_equality()
 {}
 
 /// The `Ordering` of two values says which is before the other, or that they are equal: `a/b` is less than `a/c`.
-#[tactic(auto, using(crate::proofs::ValueLemmas::Traits::tells_media))]
 pub fn mime_order()
     ensures { (first second : OwnedMedia) → IsOrderOf first.media second.media (⟦<Mime as Ord>⟧.cmp first second) }
 {}
@@ -210,80 +191,65 @@ pub fn equal_values_feed_the_same()
     ensures { RespectsEquality ⟦<Mime as Hash>⟧.hash_input }
 {}
 
-/// The bytes that values feed a hasher are prefix-free: the bytes of a value are never a prefix of the bytes of an
-/// unequal value. So a tuple of a value and a string feeds bytes that no unequal tuple feeds: `a/bx` with `c` and `a/b`
-/// with `xc` feed different bytes.
-#[tactic(auto, using(crate::proofs::ValueLemmas::Hash::hash_is_prefix_free))]
+/// The bytes that values feed a hasher are prefix-free: the bytes of a value are never a prefix of the bytes of an unequal value. So a
+/// tuple of a value and a string feeds bytes that no unequal tuple feeds: `a/bx` with `c` and `a/b` with `xc` feed different bytes.
 pub fn hash_is_prefix_free()
     ensures { IsPrefixFree ⟦<Mime as Hash>⟧.hash_input }
 {}
 
-/// If two strings first differ, ignoring ASCII case, at two bytes other than space, tab and quote, they aren't read as
-/// equal values: `a/b;p=x` and `A/B;P=y` aren't. Strings that first differ at a quote may be read as equal values, as
-/// `a/b;p=x` and `a/b;p="x"` are.
+/// If two strings first differ, ignoring ASCII case, at two bytes other than space, tab and quote, they aren't read as equal values:
+/// `a/b;p=x` and `A/B;P=y` aren't. Strings that first differ at a quote may be read as equal values, as `a/b;p=x` and `a/b;p="x"` are.
 pub fn first_difference_decides()
     ensures { FirstDifferenceDecides }
 {}
 
 /// A string has exactly one cut: the cut of `a/b, e, c/d` has the items `a/b`, the bad piece `e`, and `c/d`.
-#[tactic(auto, using(crate::proofs::CutLemmas::Containment::one_cut))]
 pub fn one_cut()
     ensures { OneCut }
 {}
 
-/// Each item of a cut is the media type that its piece is read as, or a bad piece, which is viable, rejected and not
-/// empty. The rest after the items is viable and rejected: the cut of `a/b, e, c` has the items `a/b` and the bad piece
-/// `e`, and the rest `c`.
-#[tactic(auto, using(crate::proofs::CutLemmas::Containment::cut_has_items))]
+/// Each item of a cut is the media type that its piece is read as, or a bad piece, which is viable, rejected and not empty. The rest after
+/// the items is viable and rejected: the cut of `a/b, e, c` has the items `a/b` and the bad piece `e`, and the rest `c`.
 pub fn cut_has_items()
     ensures { CutHasItems }
 {}
 
 /// A string consists of pieces, a character after each, and a last piece, which is accepted or the rest of the cut:
 /// `e,a/b` consists of the piece `e`, a comma, and the last piece `a/b`.
-#[tactic(auto, using(crate::proofs::CutLemmas::Containment::cut_writes_text))]
 pub fn cut_writes_text()
     ensures { CutWritesText }
 {}
 
-/// In a string of valid UTF-8, exactly one character is skipped after a piece: after `a/b` in `a/bé`, both bytes of `é`
-/// are skipped.
-#[tactic(auto, using(crate::proofs::GrammarLemmas::Characters::passes_one_character))]
+/// In a string of valid UTF-8, exactly one character is skipped after a piece: after `a/b` in `a/bé`, both bytes of `é` are skipped.
 pub fn passes_one_character()
     ensures { PassesOneCharacter }
 {}
 
 /// The number of steps in which a string is cut is unique: `a/b,c/d` is cut in 7 steps, one per byte.
-#[tactic(auto, using(crate::proofs::CutLemmas::Containment::one_count))]
 pub fn one_count()
     ensures { OneCount }
 {}
 
 /// Unless the text before a comma ends in an open quoted string, the comma ends a piece, and the text after the comma is
 /// cut as a whole string: the cut of `e f, a/b` has the item `a/b`, as the cut of `a/b` has.
-#[tactic(auto, using(crate::proofs::CutLemmas::Containment::comma_contains))]
 pub fn comma_contains()
     ensures { CommaContains }
 {}
 
 /// If the kept texts of values that were read are joined by a comma and a space, the cut of the joined text has exactly
 /// these values: the cut of `a/b, c/d` has `a/b` and `c/d`.
-#[tactic(auto, using(crate::proofs::CutLemmas::Containment::joined_comes_back))]
 pub fn joined_comes_back()
     ensures { JoinedComesBack }
 {}
 
-/// A list of accepted texts (RFC 7230, 7), without white space between an entry and the comma after it, is cut into
-/// exactly its entries. Spaces, tabs and commas may precede the first entry and follow each comma: `a/b, ,\tc/d` is cut
-/// into `a/b` and `c/d`.
-#[tactic(auto, using(crate::proofs::CutLemmas::Containment::http_list_is_cut))]
+/// A list of accepted texts (RFC 7230, 7), without white space between an entry and the comma after it, is cut into exactly its entries.
+/// Spaces, tabs and commas may precede the first entry and follow each comma: `a/b, ,\tc/d` is cut into `a/b` and `c/d`.
 pub fn http_list_is_cut()
     ensures { HttpListIsCut }
 {}
 
 /// A run of a `MimeIter` yields the items of the remaining string's cut: over `a/b, e, c/d` it yields `a/b`, the bad piece
 /// `e`, and `c/d`. In place of a media type whose kept text has more than 40 bytes, it may yield `NoMemory`, which ends the run.
-#[tactic(auto, using(crate::proofs::IterLemmas::run_gives_cut))]
 pub fn run_gives_cut()
     ensures { RunGivesCut }
 {}
@@ -301,8 +267,7 @@ pub fn printed_list_comes_back()
     ensures { PrintedListComesBack }
 {}
 
-/// Returns the constant names, in the order of `name_table`, with `*` first. Each name ignores case, and its text has
-/// no ASCII capital.
+/// Returns the constant names, in the order of `name_table`, with `*` first. Each name ignores case, and its text has no ASCII capital.
 pub fn name_constants() -> [Name<'static>; 38]
     ensures texts { map name_text result ≡ name_table }
     ensures flags { IsTrue (list_all (λ name. name.ignores_case) result) }
@@ -311,8 +276,7 @@ pub fn name_constants() -> [Name<'static>; 38]
     *&NAMES
 }
 
-/// Two names are equal exactly if their texts and their flags are: `TEXT` isn't equal to the name `text` whose flag is
-/// `false`.
+/// Two names are equal exactly if their texts and their flags are: `TEXT` isn't equal to the name `text` whose flag is `false`.
 pub fn name_equality()
     ensures { (first second : Name) → IsTrue (⟦<Name<'static> as PartialEq>⟧.eq first second)
         ↔ ((first.text.now ≡ second.text.now) × (first.ignores_case ≡ second.ignores_case)) }

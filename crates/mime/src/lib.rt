@@ -22,11 +22,10 @@
 //! ```
 //!
 //! # Errors
-//! A string that isn't a media type is rejected with its fault, a [`ParseError`]. The fault is what is missing at the
-//! string's end, or else the first byte that can't continue a media type. Positions count bytes from 0.
-//! [`MimeIter`] yields a piece that isn't a media type as [`Bad::Piece`]. A bad entry doesn't affect the entries after
-//! it, unless it ends in an open quoted string. The last entry isn't yielded if it is only the beginning of a media
-//! type, such as `text/`.
+//! A string that isn't a media type is rejected with its fault, a [`ParseError`]. The fault is what is missing at the string's end, or else
+//! the first byte that can't continue a media type. Positions count bytes from 0. [`MimeIter`] yields a piece that isn't a media type as
+//! [`Bad::Piece`]. A bad entry doesn't affect the entries after it, unless it ends in an open quoted string. The last entry isn't yielded
+//! if it is only the beginning of a media type, such as `text/`.
 //!
 //! # Memory
 //! `Mime::from_str`, `MimeIter::new` and `KnownText::into_mime` take the allocator. Reading or making a media type whose

@@ -24,8 +24,7 @@ pub struct Name<'a> {
 }
 
 impl<'a> Name<'a> {
-    /// Returns the name's text: `TEXT.as_str()` is `"text"`. The text has the lifetime `'a`, so it may outlive the
-    /// `Name`.
+    /// Returns the name's text: `TEXT.as_str()` is `"text"`. The text has the lifetime `'a`, so it may outlive the `Name`.
     pub fn as_str(&self) -> &'a str
         ensures { result.now ≡ self.now.text.now }
     {
@@ -33,8 +32,7 @@ impl<'a> Name<'a> {
     }
 }
 
-/// Prints the text as a `str` is printed, padded to a width and truncated to a precision: [`TEXT`](crate::TEXT) prints
-/// `text`.
+/// Prints the text as a `str` is printed, padded to a width and truncated to a precision: [`TEXT`](crate::TEXT) prints `text`.
 impl fmt::Display for Name<'_> {
     ghost output = { λ name. Some name.text.now };
 
@@ -54,9 +52,8 @@ impl fmt::Debug for Name<'_> {
     }
 }
 
-/// Returns `true` if a name is equal to the string `s`: ignoring ASCII case if the name ignores case, otherwise byte
-/// for byte (RFC 7231, 3.1.1.1). `name_eq_str(&TEXT, "Text")` is true, but the boundary `ABC` isn't equal to `abc`. The
-/// comparison doesn't allocate.
+/// Returns `true` if a name is equal to the string `s`: ignoring ASCII case if the name ignores case, otherwise byte for byte (RFC 7231,
+/// 3.1.1.1). `name_eq_str(&TEXT, "Text")` is true, but the boundary `ABC` isn't equal to `abc`. The comparison doesn't allocate.
 #[inline]
 pub fn name_eq_str(name: &Name<'_>, s: &str) -> bool
     ensures { IsTrue result ↔ NameIs name.now.text.now name.now.ignores_case s.now }
@@ -75,9 +72,8 @@ pub trait ParamKey: Drop {
     fn accepts(&self, name: Name<'_>) -> bool
         ensures { IsTrue result ↔ Accepts self.now name.entry.text.now name.entry.ignores_case };
 
-    /// Returns a text that every accepted name equals, ignoring ASCII case, such as `P` for `TextKey("P")`, or else
-    /// `None`. The text makes a look-up faster, and doesn't change its result. The default implementation
-    /// returns `None`.
+    /// Returns a text that every accepted name equals, ignoring ASCII case, such as `P` for `TextKey("P")`, or else `None`. The text makes
+    /// a look-up faster, and doesn't change its result. The default implementation returns `None`.
     #[inline]
     fn text(&self) -> Option<&str>
         ensures { IfSome result (λ text. (name : List ℕ) → Accepts self.now name true → lowered name ≡ lowered text.now) }

@@ -58,7 +58,7 @@ pub extern "C" fn mime_bench(
         9 => eq(&values, &against, rounds),
         10 => eq_str(&values, &others, rounds),
         11 => cmp(&values, &against, rounds),
-        12 => hash(&values, rounds),
+        12 => hash::<FoldHasher>(&values, rounds),
         13 => clone(&values, rounds),
         14 => print(alloc, &values, rounds),
         15 => items(alloc, &texts, rounds),
@@ -69,7 +69,7 @@ pub extern "C" fn mime_bench(
         20 => negotiate(alloc, &texts, &against, rounds),
         21 => weight(&values, rounds),
         22 => cover(&values, &against, rounds),
-        31 => hash_default(&values, rounds),
+        31 => hash::<DefaultHasher>(&values, rounds),
         _ => one(alloc, operation, &texts, &values, &against, rounds),
     }
 }
@@ -97,18 +97,12 @@ fn values_of(alloc: Global, texts: &[&str]) -> Vec<Mime> {
 /// Reads and drops media types. Returns the sum of the lengths of their kept texts, over all rounds.
 #[inline(never)]
 fn read(alloc: Global, texts: &[&str], rounds: usize) -> usize {
-    sum!(rounds, text in texts => match Mime::from_str(alloc, text) {
-        Ok(mime) => mime.as_str().len(),
-        Err(_) => 0,
-    })
+    sum!(rounds, text in texts => Mime::from_str(alloc, text).map_or(0, |mime| mime.as_str().len()))
 }
 
 #[inline(never)]
 fn read_and_look_up(alloc: Global, texts: &[&str], rounds: usize) -> usize {
-    sum!(rounds, text in texts => match Mime::from_str(alloc, text) {
-        Ok(mime) => length_found(&mime, TextKey("charset")),
-        Err(_) => 0,
-    })
+    sum!(rounds, text in texts => Mime::from_str(alloc, text).map_or(0, |mime| length_found(&mime, TextKey("charset"))))
 }
 
 #[inline(never)]
@@ -134,10 +128,7 @@ fn look_up_missing(values: &[Mime], rounds: usize) -> usize {
 /// Returns the length of the value that a key finds in a media type, or 0 if there is none.
 #[inline(always)]
 fn length_found<K: ParamKey + Drop>(mime: &Mime, key: K) -> usize {
-    match mime.get_param(key) {
-        Some(value) => value.text.len(),
-        None => 0,
-    }
+    mime.get_param(key).map_or(0, |value| value.text.len())
 }
 
 #[inline(never)]
@@ -156,10 +147,7 @@ fn walk(values: &[Mime], rounds: usize) -> usize {
 #[inline(never)]
 fn parts(values: &[Mime], rounds: usize) -> usize {
     sum!(rounds, mime in values => {
-        let suffix = match mime.suffix() {
-            Some(suffix) => suffix.text.len(),
-            None => 0,
-        };
+        let suffix = mime.suffix().map_or(0, |suffix| suffix.text.len());
         let length = mime.type_().text.len().wrapping_add(suffix);
         length.wrapping_add(mime.subtype().text.len())
     })
@@ -199,22 +187,12 @@ fn cmp(values: &[Mime], others: &[Mime], rounds: usize) -> usize {
     sum!(rounds, (mime, other) in values.iter().zip(others) => mime.cmp(other).is_lt() as usize)
 }
 
-/// Hashes media types with the hasher of `HashMap::new`. Returns how many hashes aren't 1, which must be the same number as the Rust
-/// crate's. The hashes themselves differ.
+/// Hashes media types with the hasher of `HashMap::new`, `FoldHasher`, or with SipHash, the hasher of a map that is seeded at random. Returns
+/// how many hashes aren't 1, which must be the same number as the Rust crate's. The hashes themselves differ.
 #[inline(never)]
-fn hash(values: &[Mime], rounds: usize) -> usize {
+fn hash<H: Hasher + Default + Drop>(values: &[Mime], rounds: usize) -> usize {
     sum!(rounds, mime in values => {
-        let mut hasher = FoldHasher::default();
-        mime.hash(&mut hasher);
-        (hasher.finish() != 1) as usize
-    })
-}
-
-/// Does the same with SipHash, the hasher of a map that is seeded at random.
-#[inline(never)]
-fn hash_default(values: &[Mime], rounds: usize) -> usize {
-    sum!(rounds, mime in values => {
-        let mut hasher = DefaultHasher::new();
+        let mut hasher = H::default();
         mime.hash(&mut hasher);
         (hasher.finish() != 1) as usize
     })
@@ -222,10 +200,7 @@ fn hash_default(values: &[Mime], rounds: usize) -> usize {
 
 #[inline(never)]
 fn clone(values: &[Mime], rounds: usize) -> usize {
-    sum!(rounds, mime in values => match mime.clone() {
-        Ok(copy) => copy.as_str().len(),
-        Err(_) => 0,
-    })
+    sum!(rounds, mime in values => mime.clone().map_or(0, |copy| copy.as_str().len()))
 }
 
 /// Prints each media type into the same string, cleared before.
@@ -256,10 +231,7 @@ fn items(alloc: Global, texts: &[&str], rounds: usize) -> usize {
 /// Reads header values. Returns the sum of the lengths of their kept texts, over all rounds.
 #[inline(never)]
 fn field(alloc: Global, texts: &[&str], rounds: usize) -> usize {
-    sum!(rounds, text in texts => match content_type(alloc, text.as_bytes()) {
-        Ok(mime) => mime.as_str().len(),
-        Err(_) => 0,
-    })
+    sum!(rounds, text in texts => content_type(alloc, text.as_bytes()).map_or(0, |mime| mime.as_str().len()))
 }
 
 /// Reads header values, and looks up the essence, the charset and the boundary, as a server does.
@@ -308,13 +280,13 @@ fn written(made: Result<Option<Mime>, AllocError>) -> usize {
 /// Reads each `Accept` header, and chooses the best offer for it. Returns the sum of these offers' positions, from 1, over all rounds.
 #[inline(never)]
 fn negotiate(alloc: Global, texts: &[&str], offers: &[Mime], rounds: usize) -> usize {
-    sum!(rounds, text in texts => match Accept::from_lines(alloc, &[text.as_bytes()]) {
-        Ok(accept) => match accept.best(offers) {
-            Some(at) => at.wrapping_add(1),
-            None => 0,
-        },
-        Err(_) => 0,
-    })
+    sum!(rounds, text in texts => Accept::from_lines(alloc, &[text.as_bytes()]).map_or(0, |accept| place_of_best(&accept, offers)))
+}
+
+/// Returns the position of the best offer, from 1, or 0 if there is none.
+#[inline(always)]
+fn place_of_best(accept: &Accept, offers: &[Mime]) -> usize {
+    accept.best(offers).map_or(0, |at| at.wrapping_add(1))
 }
 
 #[inline(never)]
@@ -350,18 +322,9 @@ fn one(
             let _ = unescape(text, &mut buffer);
             buffer.len()
         }
-        (24, _, _) => match Accept::from_lines(alloc, &[text.as_bytes()]) {
-            Ok(read) => read.ranges().len(),
-            Err(_) => 0,
-        },
-        (25, _, _) => match accept.best(offers) {
-            Some(at) => at.wrapping_add(1),
-            None => 0,
-        },
-        (26, _, _) => match accept.order(alloc, offers) {
-            Ok(order) => order.len(),
-            Err(_) => 0,
-        },
+        (24, _, _) => Accept::from_lines(alloc, &[text.as_bytes()]).map_or(0, |read| read.ranges().len()),
+        (25, _, _) => place_of_best(&accept, offers),
+        (26, _, _) => accept.order(alloc, offers).map_or(0, |order| order.len()),
         (27, _, Some(offer)) => accept.weight(offer) as usize,
         (28, Some(mime), _) => written(with_charset(alloc, mime, "utf-8")),
         (29, Some(mime), _) => written(with_boundary(alloc, mime, "----WebKitFormBoundary7MA4YWxk")),

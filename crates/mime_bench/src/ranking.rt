@@ -6,8 +6,5 @@ use std::alloc::Global;
 
 /// Returns how many offers are ranked, or 0 if memory runs out.
 pub(crate) fn ranks(alloc: Global, accept: &Accept, offers: &[Mime]) -> usize {
-    match rank_offers(alloc, accept.ranges(), offers) {
-        Ok(ranking) => ranking.len(),
-        Err(_) => 0,
-    }
+    rank_offers(alloc, accept.ranges(), offers).map_or(0, |ranking| ranking.len())
 }

@@ -7,6 +7,7 @@ pub mod OneOutcome
 pub mod HeaderOutcome
 pub mod OrderOutcome
 pub mod ValueOutcome
+pub mod LawLemmas
 mod AnswerFacts
 mod HeaderFacts
 mod ParameterFacts

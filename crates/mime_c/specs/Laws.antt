@@ -7,8 +7,7 @@ use Rattle.mime_c.specs.declared.TheConstants.{MIME_NO_MEMORY}
 
 -- one outcome, and no other unless memory runs out: an answer, and what the caller's buffer and structs hold then
 abbrev pub HasOne : {Held : Type 0} → (ℕ → Held → Type 0) → Type 0
-HasOne {Held} IsOutcome =
-    (answer : ℕ) × (held : Held) × (answer ≢ MIME_NO_MEMORY) × IsOutcome answer held
+HasOne {Held} IsOutcome = (answer : ℕ) × (held : Held) × (answer ≢ MIME_NO_MEMORY) × IsOutcome answer held
     × ((n : ℕ) (other : Held) → n ≢ MIME_NO_MEMORY → IsOutcome n other → (n ≡ answer) × (other ≡ held))
 
 -- Unless memory runs out, `mime_read` of a text into a buffer has exactly one outcome.

@@ -1,4 +1,5 @@
 //! Laws that follow from only the definitions of the calls. Each law is the clause of an empty function.
+#![tactic(auto, using(crate::proofs::LawLemmas::laws))]
 
 ghost use Rattle.mime_c.specs.Laws.{ReadsToOne, ListsToOne, ComparesAsOne, HeaderReadsToOne, AcceptsToOne, BestIsOne, OrderIsOne, BoundaryIsOne, UnescapesToOne, SetsToOne};
 
@@ -8,7 +9,6 @@ pub fn reads_to_one()
 {}
 
 /// Unless memory runs out, `mime_list` of a text into a buffer has exactly one outcome.
-#[tactic(auto, using(crate::proofs::OneOutcome::lists_to_one))]
 pub fn lists_to_one()
     ensures { ListsToOne }
 {}
@@ -24,19 +24,16 @@ pub fn header_reads_to_one()
 {}
 
 /// Unless memory runs out, `mime_accept` of a line into a buffer has exactly one outcome.
-#[tactic(auto, using(crate::proofs::HeaderOutcome::accepts_to_one))]
 pub fn accepts_to_one()
     ensures { AcceptsToOne }
 {}
 
 /// Unless memory runs out, `mime_best` of a header and a list of offers has exactly one outcome.
-#[tactic(auto, using(crate::proofs::HeaderOutcome::best_is_one))]
 pub fn best_is_one()
     ensures { BestIsOne }
 {}
 
 /// Unless memory runs out, `mime_order` of a header and a list of offers has exactly one outcome.
-#[tactic(auto, using(crate::proofs::OrderOutcome::order_is_one))]
 pub fn order_is_one()
     ensures { OrderIsOne }
 {}
@@ -47,7 +44,6 @@ pub fn boundary_is_one()
 {}
 
 /// `mime_unescape` of a value into a buffer has exactly one outcome.
-#[tactic(auto, using(crate::proofs::ValueOutcome::unescapes_to_one))]
 pub fn unescapes_to_one()
     ensures { UnescapesToOne }
 {}

@@ -7,7 +7,7 @@ use Rattle.mime.specs.{Bytes.is_token_byte, Bytes.is_quoted_byte, Grammar.quoted
 use Rattle.mime.proofs.{GrammarLemmas.Content.IsContent-taken, GrammarLemmas.Readings.one_reading}
 use Rattle.mime_facts.proofs.{StandardFacts.media, StandardFacts.reads, ValueFacts.differ, ValueFacts.plain_value, ValueFacts.reads_capitals}
 
--- values with one parameter, two of them equal and kept otherwise
+-- Values with one parameter, two of them equal and kept otherwise.
 abbrev with_pair : List ℕ → List ℕ → List ℕ → MediaType
 with_pair name value kept = media (codes "a/b") 1 None ((name, value) ∷ []) kept
 
@@ -20,16 +20,16 @@ plain_x = with_pair (codes "p") (codes "x") (codes "a/b;p=x")
 abbrev pub plain_y : MediaType
 plain_y = with_pair (codes "p") (codes "y") (codes "a/b;p=y")
 
--- a value with a different essence
+-- A value with a different essence.
 abbrev pub other_value : MediaType
 other_value = record plain_value { essence = codes "a/c" }
 
--- the value of the first of some pairs, if there is one
+-- The value of the first of some pairs, if there is one.
 abbrev value_in : List (List ℕ × List ℕ) → List ℕ
 value_in [] = []
 value_in ((name, value) ∷ pairs) = value
 
--- other essences or other pairs make other values
+-- Other essences or other pairs make other values.
 equal_values : Same quoted_x plain_x × ¬ (Same plain_x plain_y) × ¬ (Same plain_x plain_value) × ¬ (Same plain_value other_value)
 equal_values = (
   (refl, refl),
@@ -46,11 +46,11 @@ lists_before :
     × ¬ (IsListBefore (λ (x y : ℕ). x < y) [] []) × ¬ (IsListBefore (λ (x y : ℕ). x < y) (1 ∷ []) [])
 lists_before = (tt, inr (refl, inl (omega arith)), (λ is. is), λ is. is)
 
--- a text that is a prefix of another is before it; otherwise the first byte in which they differ decides
+-- A text that is a prefix of another is before it; otherwise the first byte in which they differ decides.
 texts_before : IsTextBefore (codes "a") (codes "ab") × IsTextBefore (codes "ab") (codes "b")
 texts_before = (inr (refl, tt), inl (omega arith))
 
--- a longer or greater text isn't before a shorter or lesser one
+-- A longer or greater text isn't before a shorter or lesser one.
 longer_after : ¬ (IsTextBefore (codes "ab") (codes "a"))
 longer_after (inl less) = absurd (omega (arith, less))
 longer_after (inr rest) = rest.1
@@ -60,12 +60,12 @@ greater_after : ¬ (IsTextBefore (codes "b") (codes "ab"))
 greater_after (inl less) = absurd (omega (arith, less))
 greater_after (inr rest) = absurd (omega (arith, rest.0))
 
--- no text is before itself
+-- No text is before itself.
 none_before_itself : ¬ (IsTextBefore (codes "a") (codes "a"))
 none_before_itself (inl less) = absurd (omega (arith, less))
 none_before_itself (inr rest) = rest.1
 
--- pairs are ordered by their names first
+-- Pairs are ordered by their names first.
 pairs_before : IsPairBefore (codes "p", codes "y") (codes "q", codes "x") × IsPairBefore (codes "p", codes "x") (codes "p", codes "y")
 pairs_before = (inl (inl (omega arith)), inr (refl, inl (omega arith)))
 
@@ -75,7 +75,7 @@ lesser_name_first (inl (inl less)) = absurd (omega (arith, less))
 lesser_name_first (inl (inr rest)) = rest.1
 lesser_name_first (inr rest) = differ (codes "q") (codes "p") refl rest.0
 
--- values are ordered by their essences first, and one without parameters is before those with some
+-- Values are ordered by their essences first, and one without parameters is before those with some.
 values_before : Before plain_y other_value × Before plain_value plain_x × Before plain_x plain_y
 values_before = (inl (inr (refl, inr (refl, inl (omega arith)))), inr (refl, tt), inr (refl, inl (inr (refl, inl (omega arith)))))
 
@@ -87,7 +87,7 @@ bare_first (inl (inr (a, inr (slash, inl less)))) = absurd (omega (arith, less))
 bare_first (inl (inr (a, inr (slash, inr rest)))) = rest.1
 bare_first (inr rest) = rest.1
 
--- an answer is the order of two values exactly if it names the one of the three that holds
+-- An answer is the order of two values exactly if it names the one of the three that holds.
 orders : IsOrderOf plain_x plain_y Less × IsOrderOf quoted_x plain_x Equal × IsOrderOf plain_y plain_x Greater
 orders = (values_before.2, (refl, refl), values_before.2)
 
@@ -96,7 +96,7 @@ no_orders : ¬ (IsOrderOf plain_x plain_value Less) × ¬ (IsOrderOf plain_x pla
     × ¬ (IsOrderOf plain_value plain_x Greater)
 no_orders = (bare_first, (λ is. let pairs = is.1 in absurd cc), bare_first)
 
--- the order as a function says the same
+-- The order as a function says the same.
 answers : (pair_cmp (codes "p", codes "y") (codes "q", codes "x") ≡ Less)
     × (pair_cmp (codes "p", codes "y") (codes "p", codes "x") ≡ Greater) × (media_cmp plain_y other_value ≡ Less)
     × (media_cmp quoted_x plain_x ≡ Equal) × (media_cmp plain_x plain_value ≡ Greater)
@@ -108,25 +108,25 @@ answers = (refl, refl, refl, refl, refl)
 no_semicolon : HasNoSemicolon (codes "a/b") × ¬ (HasNoSemicolon (codes "a/b;"))
 no_semicolon = (refl, λ is. false≢true is)
 
--- the reading of `A/B;P="x"`
+-- The reading of `A/B;P="x"`.
 pub reads_quoted : Reads (codes "A/B;P=\"x\"") quoted_x
 unfolding is_token_byte is_quoted_byte
 reads_quoted =
     reads (codes "A") (codes "B") (listed (final [] (quoted (codes "P") (codes "x") [])))
     (refl, refl, (refl, (refl, IsContent-taken (codes "x") refl refl, refl)))
 
--- a text is a value without parameters in any case, and a value with some however they are written
+-- A text is a value without parameters in any case, and a value with some however they are written.
 texts_of_values : TextIs plain_value (codes "A/B") × TextIs plain_x (codes "A/B;P=\"x\"")
 texts_of_values = (
   record { read = plain_value; reads = reads_capitals; same = (refl, refl); bare = λ none. refl },
   record { read = quoted_x; reads = reads_quoted; same = (refl, refl); bare = λ none. absurd cc },
 )
 
--- a text with a semicolon isn't a value without parameters, although it is read as one
+-- A text with a semicolon isn't a value without parameters, although it is read as one.
 semicolon_counts : ¬ (TextIs plain_value (codes "a/b;"))
 semicolon_counts is = false≢true (is.bare refl)
 
--- a text with a different parameter isn't the value
+-- A text with a different parameter isn't the value.
 parameter_counts : ¬ (TextIs plain_y (codes "A/B;P=\"x\""))
 parameter_counts is =
     differ (codes "y") (codes "x") refl
@@ -134,15 +134,15 @@ parameter_counts is =
 
 -- ---- where texts first differ
 
--- two texts that differ ignoring ASCII case at position 2
+-- Two texts that differ ignoring ASCII case at position 2.
 differ_at_end : FirstDifference (codes "a/b") (codes "A/c") 2
 differ_at_end = record { within = omega arith; within_other = omega arith; equal_before = refl; differ = λ is. absurd (omega (arith, is)) }
 
--- a difference only in case is none
+-- A difference only in case is none.
 case_is_none : ¬ (FirstDifference (codes "a/b") (codes "A/c") 0)
 case_is_none is = is.differ refl
 
--- the end of a text is no difference, nor is anything after a difference
+-- The end of a text is no difference, nor is anything after a difference.
 end_is_none : ¬ (FirstDifference (codes "a") (codes "ab") 1)
 end_is_none is = absurd (omega (arith, is.within))
 
@@ -150,11 +150,11 @@ end_is_none is = absurd (omega (arith, is.within))
 later_is_none : ¬ (FirstDifference (codes "ab") (codes "cd") 1)
 later_is_none is = differ (codes "a") (codes "c") refl is.equal_before
 
--- the bytes that don't reach the value are a space, a tab and a quote
+-- The bytes that don't reach the value are a space, a tab and a quote.
 reaching_bytes : map reaches_value (codes "b;= \t\"") ≡ true ∷ true ∷ true ∷ false ∷ false ∷ false ∷ []
 reaching_bytes = refl
 
--- a letter against a letter reaches the value, and neither side of a letter against a quote does
+-- A letter against a letter reaches the value, and neither side of a letter against a quote does.
 pub letters_reach_the_value : DifferInValue (codes "a/b") (codes "A/c")
 letters_reach_the_value = record { at = 2; first = differ_at_end; reaches = refl; other_reaches = refl }
 

@@ -7,11 +7,11 @@ use Rattle.mime_facts.proofs.ValueFacts.{differ, plain_value, reads_capitals, ke
 
 -- ---- characters
 
--- the bytes of UTF-8 that follow a character's first
+-- The bytes of UTF-8 that follow a character's first.
 following_bytes : map is_following_byte (127 ∷ 128 ∷ 191 ∷ 192 ∷ []) ≡ false ∷ true ∷ true ∷ false ∷ []
 following_bytes = refl
 
--- a text may begin a character, or in the middle of one
+-- A text may begin a character, or in the middle of one.
 beginnings : BeginsCharacter [] × BeginsCharacter (195 ∷ 169 ∷ []) × ¬ (BeginsCharacter (169 ∷ []))
 beginnings = (tt, refl, λ is. true≢false is)
 
@@ -23,28 +23,28 @@ characters = ((refl, refl), (λ is. is), (λ is. true≢false is.1), λ is. fals
 
 -- ---- a list
 
--- `e,A/B` is `e`, the comma, and what follows it
+-- `e,A/B` is `e`, the comma, and what follows it.
 pub split_at_comma : IsSplit (codes "e,A/B") (codes "e") (codes ",") (codes "A/B")
 unfolding is_token_byte
 split_at_comma =
     split-from_dead (codes "e") (codes "A/B") 44 (in_type (codes "e"))
     (record { following = []; left = codes "A/B"; spelled = refl; of_class = refl; begins = refl }) refl refl
 
--- `e,A/B` is split nowhere else
+-- `e,A/B` is split nowhere else.
 split_nowhere_else : ¬ (IsSplit (codes "e,A/B") [] (codes "e") (codes ",A/B"))
 split_nowhere_else is = differ [] (codes "e") refl (split_unique _ _ _ _ _ _ _ is split_at_comma).piece
 
--- `e` is rejected
+-- `e` is rejected.
 pub e_is_rejected : IsRejected (codes "e")
 unfolding is_token_byte
 e_is_rejected = rejected-from_walk (codes "e") (in_type (codes "e")) refl refl
 
--- although it may still become a media type
+-- `e` may still become a media type.
 pub e_is_viable : IsViable (codes "e")
 unfolding is_token_byte
 e_is_viable = viable-from_walk (codes "e") (in_type (codes "e")) refl
 
--- a good piece is read as its value, and a bad one is viable, rejected and not empty
+-- A good piece is read as its value, and a bad one is viable, rejected and not empty.
 items_of_cuts : IsItem (good (codes "A/B") plain_value) × IsItem (bad (codes "e")) × ¬ (IsItem (bad (codes "A/B")))
     × ¬ (IsItem (bad []))
 items_of_cuts = (
@@ -54,15 +54,15 @@ items_of_cuts = (
   λ is. is.2 refl,
 )
 
--- a value that keeps capitals isn't read
+-- A value that keeps capitals isn't read.
 not_read_so : ¬ (IsItem (good (codes "A/B") (record plain_value { kept = codes "A/B" })))
 not_read_so is = keeps_no_capitals is
 
--- a bad piece is its own item, and not an empty one
+-- A bad piece is its own item, and not an empty one.
 pub item_of_e : ItemsOf (codes "e") (bad (codes "e") ∷ [])
 item_of_e = is_rejected e_is_rejected (differ (codes "e") [] refl)
 
--- an empty piece has none
+-- An empty piece has none.
 no_item_of_empty : (piece : List ℕ) (items : List CutItem) → ItemsOf piece items → piece ≡ [] → items ≡ []
 no_item_of_empty piece items (is_read value reads) none = absurd (empty-rejected (subst IsAccepted none (value, reads)))
 no_item_of_empty piece items (is_rejected is some) none = absurd (some none)
@@ -72,7 +72,7 @@ no_item_of_empty piece items (is_empty is) none = refl
 not_without_item : ¬ (ItemsOf (codes "e") [])
 not_without_item items = absurd (cc (items_of_unique _ _ _ items item_of_e))
 
--- the cut of `e,A/B` has a bad piece, a value, and no rest
+-- The cut of `e,A/B` has a bad piece, a value, and no rest.
 abbrev pub list_items : List CutItem
 list_items = bad (codes "e") ∷ good (codes "A/B") plain_value ∷ []
 
@@ -80,7 +80,7 @@ list_items = bad (codes "e") ∷ good (codes "A/B") plain_value ∷ []
 pub cut_of_list : Cut (codes "e,A/B") list_items []
 cut_of_list = goes_on _ _ _ _ (bad (codes "e") ∷ []) _ _ split_at_comma item_of_e (whole (codes "A/B") plain_value reads_capitals)
 
--- the cut of `e,A/B` has no other items
+-- The cut of `e,A/B` has no other items.
 pub no_item_left_out : ¬ (Cut (codes "e,A/B") (good (codes "A/B") plain_value ∷ []) [])
 no_item_left_out cut = absurd (cc (cut_unique _ _ _ cut_of_list _ _ cut).0)
 
@@ -88,7 +88,7 @@ no_item_left_out cut = absurd (cc (cut_unique _ _ _ cut_of_list _ _ cut).0)
 nothing_left : ¬ (Cut (codes "e,A/B") (bad (codes "e") ∷ []) (codes "A/B"))
 nothing_left cut = absurd (omega (arith, ap length (cut_unique _ _ _ cut_of_list _ _ cut).1))
 
--- a text that may still become a media type is a rest
+-- A text that may still become a media type is a rest.
 pub rest_of_text : Cut (codes "e") [] (codes "e")
 rest_of_text = unfinished (codes "e") e_is_viable e_is_rejected
 
@@ -96,7 +96,7 @@ rest_of_text = unfinished (codes "e") e_is_viable e_is_rejected
 no_item_yet : ¬ (Cut (codes "e") (bad (codes "e") ∷ []) [])
 no_item_yet cut = absurd (omega (arith, ap length (cut_unique _ _ _ rest_of_text _ _ cut).0))
 
--- an accepted text is no rest
+-- An accepted text is no rest.
 no_accepted_rest : (text : List ℕ) (items : List CutItem) (rest : List ℕ) → Cut text items rest → IsAccepted text
     → items ≡ [] → ⊥
 no_accepted_rest text items rest (whole t value reads) accepted none = absurd cc
@@ -106,7 +106,7 @@ no_accepted_rest text items rest (goes_on t p c l first others r split of_piece 
 
 -- ---- pieces and steps
 
--- the pieces of `e,A/B` are `e`, with the comma after it, and `A/B`, written as the text
+-- The pieces of `e,A/B` are `e`, with the comma after it, and `A/B`, written as the text.
 pub pieces_of_list : Pieces (codes "e,A/B") ((codes "e", codes ",") ∷ []) (codes "A/B")
 pieces_of_list = next _ _ _ _ [] (codes "A/B") split_at_comma (last (codes "A/B") (accepted_is_viable _ (plain_value, reads_capitals)))
 
@@ -115,7 +115,7 @@ written_pieces : (text_of_pieces ((codes "e", codes ",") ∷ []) (codes "A/B") �
     × (steps_of ((codes "e", codes ",") ∷ []) (codes "A/B") ≡ 5)
 written_pieces = (refl, refl)
 
--- `e,A/B` is cut in five steps, and in no other number of them
+-- `e,A/B` is cut in five steps, and in no other number of them.
 pub steps_of_list : TakesSteps (codes "e,A/B") 5
 steps_of_list = record { pieces = (codes "e", codes ",") ∷ []; end = codes "A/B"; cut = pieces_of_list; counted = refl }
 
@@ -123,22 +123,22 @@ steps_of_list = record { pieces = (codes "e", codes ",") ∷ []; end = codes "A/
 pub no_other_steps : (n : ℕ) → TakesSteps (codes "e,A/B") n → n ≡ 5
 no_other_steps n takes = takes_unique _ n 5 takes steps_of_list
 
--- a character of two bytes is passed in one step
+-- A character of two bytes is passed in one step.
 passed_in_one_step : steps_of (([], 195 ∷ 169 ∷ []) ∷ []) [] ≡ 1
 passed_in_one_step = refl
 
 -- ---- joined lists
 
--- a rest that a comma follows is a bad piece, or none if it is empty
+-- A rest that a comma follows is a bad piece, or none if it is empty.
 rests : (items_of_rest [] ≡ []) × (items_of_rest (codes "e") ≡ bad (codes "e") ∷ [])
 rests = (refl, refl)
 
--- kept texts are joined by a comma and a space
+-- Kept texts are joined by a comma and a space.
 joined_values : (joined [] ≡ []) × (joined (plain_value ∷ plain_value ∷ []) ≡ codes "a/b, a/b")
     × (kept_item plain_value ≡ good (codes "a/b") plain_value)
 joined_values = (refl, refl, refl)
 
--- a value was read, or its kept text has capitals
+-- A value was read, or its kept text has capitals.
 pub read_value : IsRead plain_value
 read_value = (codes "A/B", reads_capitals)
 

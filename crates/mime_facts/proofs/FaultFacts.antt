@@ -5,7 +5,7 @@ use Rattle.mime.specs.{Bytes.is_token_byte, Values.MediaType, Values.Reads, Faul
 use Rattle.mime.proofs.{GrammarLemmas.Faults.one_fault, GrammarLemmas.Faults.completed_is_rejected, GrammarLemmas.Faults.fault-from_lacks, GrammarLemmas.Readings.one_reading, GrammarLemmas.Readings.stopped-from_walk, GrammarLemmas.Viability.accepted_is_viable, GrammarLemmas.Viability.not_viable-at_dead, GrammarLemmas.Viability.prefix_unique, GrammarLemmas.Viability.viable-from_lacks, GrammarLemmas.Viability.lacks-from_walk}
 use Rattle.mime_facts.proofs.{StandardFacts.no_slash, StandardFacts.no_subtype, StandardFacts.no_equals, StandardFacts.no_value, StandardFacts.no_quote, StandardFacts.space_in_type, ValueFacts.plain_value, ValueFacts.reads_capitals, ValueFacts.text_of_41, ValueFacts.text_of_40, ValueFacts.value_of_40, ValueFacts.reads_41, ValueFacts.reads_40, ValueFacts.reads_dropped}
 
--- what lacks something is viable, and what has a byte at fault isn't
+-- What lacks something is viable, and what has a byte at fault isn't.
 viable_texts : IsViable (codes "A/B") × IsViable (codes "a/b;p") × ¬ (IsViable (codes "a b"))
 viable_texts = (
   accepted_is_viable _ (plain_value, reads_capitals),
@@ -13,7 +13,7 @@ viable_texts = (
   not_viable-at_dead _ 1 32 space_in_type,
 )
 
--- the longest viable prefix of `a b` has one byte, and no other number of them
+-- The longest viable prefix of `a b` has one byte, and no other number of them.
 prefix_of_type : IsLongestPrefix (codes "a b") 1 × ¬ (IsLongestPrefix (codes "a b") 0) × ¬ (IsLongestPrefix (codes "a b") 2)
 prefix_of_type = (
   space_in_type.prefix,
@@ -21,7 +21,7 @@ prefix_of_type = (
   λ is. space_in_type.prefix.longest 2 (omega arith) (omega arith) is.viable,
 )
 
--- what completes a text, and what it must end in
+-- What completes a text, and what it must end in.
 completions : (completion_of MissingSlash ≡ Some (codes "x/x")) × (completion_of MissingSubtype ≡ Some (codes "x"))
     × (completion_of MissingEqual ≡ Some (codes "=x")) × (completion_of MissingValue ≡ Some (codes "x"))
     × (completion_of MissingQuote ≡ Some (codes "x\"")) × (completion_of (InvalidToken 1 32) ≡ None)
@@ -29,7 +29,7 @@ completions : (completion_of MissingSlash ≡ Some (codes "x/x")) × (completion
     × (last_byte_of MissingEqual ≡ None)
 completions = (refl, refl, refl, refl, refl, refl, refl, refl, refl, refl)
 
--- the last byte of a text of two
+-- The last byte of a text of two.
 ends_in_slash : EndsIn (codes "a/") 47
 ends_in_slash = (codes "a", refl)
 
@@ -41,18 +41,18 @@ ends_in_no_letter (prefix, is) =
     ap (λ t. get_or t (length prefix) 0) is ∙ get_or-append_seam prefix 97 [] 0 in
     absurd (omega (arith, sym (ap (λ n. get_or (codes "a/") n 0) size) ∙ at))
 
--- a text that lacks something lacks nothing else
+-- A text that lacks something lacks nothing else.
 lacks_alone : (text : List ℕ) (fault other : ParseError) → Lacks text fault → Lacks text other → fault ≡ other
 lacks_alone text fault other lacks also =
     let one = one_fault text (completed_is_rejected text fault lacks) in
     one.2 fault (fault-from_lacks text fault lacks) ∙ sym (one.2 other (fault-from_lacks text other also))
 
--- a lone type lacks its slash
+-- A lone type lacks its slash.
 pub e_lacks_slash : Lacks (codes "e") MissingSlash
 unfolding is_token_byte
 e_lacks_slash = lacks-from_walk (codes "e") _ refl refl
 
--- a lone type has no open quotes
+-- A lone type has no open quotes.
 pub e_is_closed : ¬ (IsUnclosed (codes "e"))
 e_is_closed is = absurd (cc (lacks_alone (codes "e") MissingSlash MissingQuote e_lacks_slash is))
 
@@ -68,11 +68,11 @@ what_is_lacking = (
   λ is. stopped-from_walk (codes "A/Bx/x") refl is.0,
 )
 
--- a quote that a backslash pairs closes no value
+-- A quote that a backslash pairs closes no value.
 unclosed : IsUnclosed (codes "a/b;p=\"\\\"") × ¬ (IsUnclosed (codes "a/b;p"))
 unclosed = (no_quote, λ is. absurd (cc (lacks_alone (codes "a/b;p") MissingEqual MissingQuote no_equals is)))
 
--- the byte at fault and its position
+-- The byte at fault and its position.
 dead : IsDeadAt (codes "a b") 1 32 × ¬ (IsDeadAt (codes "a b") 1 33) × ¬ (IsDeadAt (codes "a b") 2 98)
 dead = (
   space_in_type,
@@ -80,7 +80,7 @@ dead = (
   λ is. absurd (omega (arith, prefix_unique _ 2 1 is.prefix space_in_type.prefix)),
 )
 
--- each rejected text has only its fault, and none of them is `NoMemory`
+-- Each rejected text has only its fault, and none of them is `NoMemory`.
 faults : IsFault (codes "invalid") MissingSlash × ¬ (IsFault (codes "a b") MissingSlash) × ¬ (IsFault (codes "A/B") NoMemory)
 faults =
     (no_slash, (λ is. not_viable-at_dead (codes "a b") 1 32 space_in_type (viable-from_lacks (codes "a b") MissingSlash is)), λ is. is.0)

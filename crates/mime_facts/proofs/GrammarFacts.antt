@@ -7,19 +7,19 @@ use Rattle.mime.proofs.GrammarLemmas.Content.{IsContent-taken, content-taken, co
 
 -- ---- bytes
 
--- the token bytes of RFC 7230, and ASCII bytes that aren't
+-- The token bytes of RFC 7230, and ASCII bytes that aren't.
 token_bytes : (list_all is_token_byte (codes "!#$%&'*+-.0123456789ABCDEFGHIJKLMNOPQRSTUVWXYZ^_`abcdefghijklmnopqrstuvwxyz|~") ≡ true)
     × (list_any is_token_byte (0 ∷ 9 ∷ 31 ∷ 127 ∷ 128 ∷ 255 ∷ codes " \"(),/:;<=>?@[\\]{}") ≡ false)
 unfolding is_token_byte
 token_bytes = (refl, refl)
 
--- bytes that a backslash may precede, and others
+-- Bytes that a backslash may precede, and others.
 paired_bytes : (list_all is_quoted_byte (9 ∷ 32 ∷ 34 ∷ 92 ∷ 126 ∷ 128 ∷ 255 ∷ []) ≡ true)
     × (list_any is_quoted_byte (0 ∷ 8 ∷ 10 ∷ 13 ∷ 31 ∷ 127 ∷ 256 ∷ []) ≡ false)
 unfolding is_quoted_byte
 paired_bytes = (refl, refl)
 
--- bytes that may occur in a quoted value without a backslash, and others
+-- Bytes that may occur in a quoted value without a backslash, and others.
 quoted_text_bytes : (list_all is_quoted_text_byte (9 ∷ 32 ∷ 33 ∷ 35 ∷ 59 ∷ 91 ∷ 93 ∷ 126 ∷ 128 ∷ 255 ∷ []) ≡ true)
     × (list_any is_quoted_text_byte (10 ∷ 34 ∷ 92 ∷ 127 ∷ []) ≡ false)
 unfolding is_quoted_byte
@@ -31,21 +31,21 @@ flags :
     ∷ comma_byte ∷ [] ≡ codes "/+;=\"\\ \t,"
 flags = refl
 
--- a space and a tab are spaces, a line feed and a letter aren't
+-- A space and a tab are spaces, a line feed and a letter aren't.
 space_bytes : map is_space (codes " \t\nx") ≡ true ∷ true ∷ false ∷ false ∷ []
 space_bytes = refl
 
--- spaces and tabs are spaces, a line feed isn't
+-- Spaces and tabs are spaces, a line feed isn't.
 spaces : AreSpaces (codes " \t ") × AreSpaces [] × ¬ (AreSpaces (codes " \n"))
 spaces = (refl, refl, λ is. false≢true is)
 
 -- ---- texts of trees
 
--- a parameter list with a plain value and a quoted one
+-- A parameter list with a plain value and a quoted one.
 abbrev two_parameters : Parameters
 two_parameters = more (codes " ") (plain (codes "p") (codes "x")) (final [] (quoted (codes "q") (codes "\\y") (codes " ")))
 
--- the texts of a parameter, of lists, of tails and of a tree
+-- The texts of a parameter, of lists, of tails and of a tree.
 texts : (text_of_parameter (quoted (codes "q") (codes "\\y") (codes " ")) ≡ codes "q=\"\\y\" ")
     × (text_of_list (blank (codes "  ")) ≡ codes "  ") × (text_of_list two_parameters ≡ codes " p=x;q=\"\\y\" ")
     × (text_of_tail no_list ≡ []) × (text_of_tail (listed (blank [])) ≡ codes ";")
@@ -54,12 +54,12 @@ texts = (refl, refl, refl, refl, refl, refl)
 
 -- ---- well-formed trees
 
--- a token has one byte or more, and only token bytes
+-- A token has one byte or more, and only token bytes.
 tokens : AreTokenBytes [] × IsToken (codes "x-a") × ¬ (AreTokenBytes (codes "a b")) × ¬ (IsToken (codes "a b")) × ¬ (IsToken [])
 unfolding is_token_byte
 tokens = (refl, refl, (λ is. false≢true is), (λ is. false≢true is), λ is. is)
 
--- content pairs each backslash, and has no quote but after one
+-- Content pairs each backslash, and has no quote but after one.
 contents : IsContent [] × IsContent (codes "\\\"x") × ¬ (IsContent (codes "x\"")) × ¬ (IsContent (codes "x\\"))
 unfolding is_quoted_byte
 contents = (

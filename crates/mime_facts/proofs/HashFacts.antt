@@ -7,7 +7,7 @@ use Rattle.mime.proofs.{ValueLemmas.Hash.fed-read, ValueLemmas.KeptText.kept_is_
 use Rattle.mime_facts.proofs.{ComparisonFacts.quoted_x, ComparisonFacts.plain_x, ComparisonFacts.plain_y, StandardFacts.media, StandardFacts.reads, ValueFacts.differ, ValueFacts.plain_value, ValueFacts.reads_capitals, ValueFacts.keeps_no_capitals}
 use Rattle.std.specs.Hash as fed
 
--- the value of `a/bx`
+-- The value of `a/bx`.
 abbrev longer_value : MediaType
 longer_value = media (codes "a/bx") 1 None [] (codes "a/bx")
 
@@ -16,11 +16,11 @@ reads_longer : Reads (codes "a/bx") longer_value
 unfolding is_token_byte
 reads_longer = reads (codes "a") (codes "bx") no_list (refl, refl, tt)
 
--- what a value and a text after it feed, as a tuple does
+-- What a value and a text after it feed, as a tuple does.
 abbrev pair_fed : MediaType → List ℕ → List ℕ
 pair_fed value text = concat (media_input value ++ fed.str text)
 
--- a value and a text feed what no other value and text feed, even if both write the same bytes in a row
+-- A value and a text feed what no other value and text feed, even if both write the same bytes in a row.
 fed_with_text : (pair_fed longer_value (codes "c") ≢ pair_fed plain_value (codes "xc"))
     × (pair_fed plain_x (codes "") ≢ pair_fed plain_value (codes "px"))
     × (concat (media_input plain_x) ≢ concat (media_input plain_y)) × (concat (media_input quoted_x) ≡ concat (media_input plain_x))
@@ -55,7 +55,7 @@ not_read_in_utf8 = ((λ is. keeps_no_capitals (kept_is_read is.0 _ is.2)), λ is
 abbrev owned : MediaType → OwnedMedia
 owned value = record { media = value; fixed = false }
 
--- equal values have the same essence, but not the same kept text
+-- Equal values have the same essence, but not the same kept text.
 respects_equality : RespectsEquality (λ value. value.media.essence ∷ []) × ¬ (RespectsEquality (λ value. value.media.kept ∷ []))
 respects_equality = (
   (λ first second same. ap (λ essence. essence ∷ []) same.0),
@@ -64,7 +64,7 @@ respects_equality = (
 
 -- ---- prefix-free inputs
 
--- neither of `a/b` and `a/bx` begins the other
+-- Neither of `a/b` and `a/bx` begins the other.
 neither_begins : (input : OwnedMedia → HashWrites) → IsPrefixFree input → (more : List ℕ)
     → (concat (input (owned plain_value)) ++ more ≢ concat (input (owned longer_value)))
     × (concat (input (owned longer_value)) ++ more ≢ concat (input (owned plain_value)))
@@ -73,6 +73,6 @@ neither_begins input law more = (
   λ is. differ (codes "a/bx") (codes "a/b") refl (law (owned longer_value) (owned plain_value) more read_longer read_plain is).0,
 )
 
--- an essence without an end isn't prefix-free
+-- An essence without an end isn't prefix-free.
 essence_without_end : ¬ (IsPrefixFree (λ value. value.media.essence ∷ []))
 essence_without_end law = (neither_begins (λ value. value.media.essence ∷ []) law (codes "x")).0 refl

@@ -18,11 +18,11 @@ rejected_text law no_value = by (law (codes "e"))
 
 -- ---- an essence and its parts
 
--- a suffix is written with its plus
+-- A suffix is written with its plus.
 suffix_texts : (suffix_text None ≡ []) × (suffix_text (Some (codes "xml")) ≡ codes "+xml")
 suffix_texts = (refl, refl)
 
--- the value of `a/b+c+d`, and values of a part more or less
+-- The value of `a/b+c+d`, and values of a part more or less.
 abbrev two_pluses : MediaType
 two_pluses = media (codes "a/b+c+d") 1 (Some 5) [] (codes "a/b+c+d")
 
@@ -52,19 +52,19 @@ essence_of_both law text value reads =
 
 -- ---- a key
 
--- a key that decides finds an answer
+-- A key that decides finds an answer.
 answer_found : (Accepts : List ℕ → Bool → Type 0) → HasAnswer Accepts → IsDecided Accepts
     → (found : Option (List ℕ × Bool)) × IsFirstAccepted Accepts (exact_item ∷ []) found
 answer_found Accepts law decided = law decided (exact_item ∷ [])
 
 -- ---- a safe value
 
--- a tab, a space, punctuation and bytes past ASCII may occur in a header; a line feed may not
+-- A tab, a space, punctuation and bytes past ASCII may occur in a header; a line feed may not.
 header_bytes : AreHeaderBytes (9 ∷ 32 ∷ 34 ∷ 44 ∷ 59 ∷ 92 ∷ 126 ∷ 128 ∷ 255 ∷ []) × ¬ (AreHeaderBytes (codes "x\n"))
 unfolding is_quoted_byte
 header_bytes = (refl, λ are. false≢true are)
 
--- a pair has a token and quoted content
+-- A pair has a token and quoted content.
 which_pairs_are_safe : IsSafePair (codes "p", []) × ¬ (IsSafePair ([], codes "x")) × ¬ (IsSafePair (codes "p", codes "\""))
 unfolding is_token_byte is_quoted_byte
 which_pairs_are_safe = ((refl, IsContent-taken [] refl refl), (λ is. is.0), λ is. false≢true (content-taken _ is.1))
@@ -77,19 +77,19 @@ unsafe_values :
 unfolding is_token_byte is_quoted_byte
 unsafe_values = ((λ is. false≢true is.kept), (λ is. is.top), (λ is. is.sub), (λ is. false≢true is.suffix), λ is. is.pairs.0.0)
 
--- what is read of `A/B;P="x"`, and of `a/b+c+d`, is safe
+-- What is read of `A/B;P="x"`, and of `a/b+c+d`, is safe.
 safe_values : KeptIsSafe → IsSafe quoted_x × IsSafe two_pluses
 safe_values law = (law _ quoted_x reads_quoted, law _ two_pluses plus_twice)
 
 -- ---- a parameter
 
--- a parameter is written in quotes, and is the only one
+-- A parameter is written in quotes, and is the only one.
 written_parameter : (text_with_parameter (codes "a/b") (codes "P") (codes "x y") ≡ codes "a/b; P=\"x y\"")
     × (with_parameter (media (codes "a/b") 1 None ((codes "q", []) ∷ []) []) (codes "p") (codes "x")
     ≡ media (codes "a/b") 1 None ((codes "p", codes "x") ∷ []) (codes "a/b; p=\"x\""))
 written_parameter = (refl, refl)
 
--- `A/B` with a charset in quotes is read with the charset in lowercase
+-- `A/B` with a charset in quotes is read with the charset in lowercase.
 parameter_of_text : ParameterIsRead → IsContent (codes "X")
     → Reads (codes "a/b; Charset=\"X\"") (media (codes "a/b") 1 None ((codes "charset", codes "x") ∷ []) (codes "a/b; charset=\"x\""))
 unfolding is_token_byte
@@ -97,21 +97,21 @@ parameter_of_text law is = law (codes "A/B") plain_value (codes "Charset") (code
 
 -- ---- a list
 
--- spaces, tabs and commas separate
+-- Spaces, tabs and commas separate.
 separators : map is_separator (codes " \t,;x") ≡ true ∷ true ∷ true ∷ false ∷ false ∷ []
 separators = refl
 
--- a list may begin with separators, have some after a comma, and end with a comma
+-- A list may begin with separators, have some after a comma, and end with a comma.
 two_elements : IsHttpList (codes " ,A/B,\t,A/B,") (good (codes "A/B") plain_value ∷ good (codes "A/B") plain_value ∷ [])
 two_elements =
     separated 32 _ _ refl (separated 44 _ _ refl (more_elements (codes "A/B") plain_value _ _ reads_capitals
     (separated 9 _ _ refl (separated 44 _ _ refl (more_elements (codes "A/B") plain_value [] [] reads_capitals no_element)))))
 
--- a list may end with an element
+-- A list may end with an element.
 one_of_two : IsHttpList (codes ",A/B") (good (codes "A/B") plain_value ∷ [])
 one_of_two = separated 44 _ _ refl (one_element (codes "A/B") plain_value reads_capitals)
 
--- it has no other elements, and no rejected ones
+-- It has no other elements, and no rejected ones.
 no_such_list : ¬ (IsHttpList (codes "A/B") []) × ¬ (IsHttpList (codes "e,A/B") (good (codes "A/B") plain_value ∷ []))
 no_such_list = (
   (λ list. absurd (cc (cut_unique _ _ _ (whole (codes "A/B") plain_value reads_capitals) _ _ (http_list_is_cut _ _ list)).0)),

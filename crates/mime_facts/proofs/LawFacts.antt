@@ -2,8 +2,9 @@
 use Rattle.std.proofs.Common.{◌≡◌, ◌≢◌, ℕ, zero, suc, ◌≤◌, Bool, true, false, ◌⊎◌, inl, inr, IsTrue, List, [], ◌∷◌, ◌++◌, length, Option, Some, None, Result, refl, sym, ap, ◌∙◌, subst, arith, codes}
 use Rattle.std.proofs.{lemmas.Bool.false≢true, lemmas.Option.none-some, lemmas.Option.same_Some}
 use Rattle.std.specs.Prelude.{slice_get}
+use Rattle.std.specs.declared.cmp.Ordering.TheVariants.{Less, Equal, Greater}
 use Rattle.std.specs.{Char.IsScalar, Char.encode_utf8, Iterator.Drains, Str.IsUtf8, Str.IsCharBoundary}
-use Rattle.mime.specs.{Bytes.is_token_byte, Bytes.plus_byte, Grammar.no_list, Grammar.SyntaxTree, Grammar.text_of, Grammar.IsWellFormed, Values.MediaType, Values.OwnedMedia, Values.Reads, Values.IsAccepted, Values.IsRejected, Comparison.Same, Comparison.Before, Comparison.TextIs, Faults.IsViable, Faults.IsLongestPrefix, Faults.Lacks, Faults.IsFault, Items.IsFirstAccepted, Laws.OneTree, Laws.OneReading, Laws.EmptyIsViable, Laws.PrefixOfViableIsViable, Laws.AcceptedIsViable, Laws.OneCompletion, Laws.CompletedIsRejected, Laws.NoCompletion, Laws.OneFault, Laws.OneLongestPrefix, Laws.PrefixEndsBetweenCharacters, Laws.IsViableInUtf8, Laws.IsLongestPrefixInUtf8, Laws.PrefixIsInUtf8, Laws.HasNoPlusFrom, Laws.PlusIsLast, Laws.KeptIsRead, Laws.EssenceIsRead, Laws.OneOrder, Laws.BeforeIsTransitive, Laws.BareTextIs, Laws.KeptTextIs, Laws.IsDecided, Laws.OneAnswer, Laws.FirstDifferenceDecides, Cut.CutItem, Cut.good, Cut.bad, Cut.Cut, Cut.Pieces, Cut.TakesSteps, CutLaws.OneCut, CutLaws.CutHasItems, CutLaws.text_of_pieces, CutLaws.CutWritesText, CutLaws.OneCount, CutLaws.CommaContains, CutLaws.JoinedComesBack, CutLaws.PassesOneCharacter, CutLaws.AreGiven, CutLaws.RunGivesCut, CutLaws.CommaContainsOnRuns, CutLaws.PrintedListComesBack, Runs.Iteration, Runs.IsNext, declared.iter.Bad.Bad, declared.scan.fault.ParseError.ParseError, declared.scan.fault.ParseError.TheVariants.MissingSlash, declared.scan.fault.ParseError.TheVariants.MissingSubtype, declared.scan.fault.ParseError.TheVariants.InvalidToken}
+use Rattle.mime.specs.{Bytes.is_token_byte, Bytes.plus_byte, Grammar.no_list, Grammar.SyntaxTree, Grammar.text_of, Grammar.IsWellFormed, Values.MediaType, Values.OwnedMedia, Values.Reads, Values.IsAccepted, Values.IsRejected, Comparison.Same, Comparison.Before, Comparison.TextIs, Faults.IsViable, Faults.IsLongest, Faults.IsLongestPrefix, Faults.Lacks, Faults.IsFault, Items.IsFirstAccepted, Laws.OneTree, Laws.OneReading, Laws.EmptyIsViable, Laws.PrefixOfViableIsViable, Laws.AcceptedIsViable, Laws.OneCompletion, Laws.CompletedIsRejected, Laws.NoCompletion, Laws.OneFault, Laws.OneLongestPrefix, Laws.PrefixEndsBetweenCharacters, Laws.IsViableInUtf8, Laws.PrefixIsInUtf8, Laws.HasNoPlusFrom, Laws.PlusIsLast, Laws.KeptIsRead, Laws.EssenceIsRead, Laws.OneOrder, Laws.BeforeIsTransitive, Laws.BareTextIs, Laws.KeptTextIs, Laws.IsDecided, Laws.OneAnswer, Laws.FirstDifferenceDecides, Cut.CutItem, Cut.good, Cut.bad, Cut.Cut, Cut.Pieces, Cut.TakesSteps, CutLaws.OneCut, CutLaws.CutHasItems, CutLaws.text_of_pieces, CutLaws.CutWritesText, CutLaws.OneCount, CutLaws.CommaContains, CutLaws.JoinedComesBack, CutLaws.PassesOneCharacter, CutLaws.AreGiven, CutLaws.RunGivesCut, CutLaws.CommaContainsOnRuns, CutLaws.PrintedListComesBack, Runs.Iteration, Runs.IsNext, declared.iter.Bad.Bad, declared.scan.fault.ParseError.ParseError, declared.scan.fault.ParseError.TheVariants.MissingSlash, declared.scan.fault.ParseError.TheVariants.MissingSubtype, declared.scan.fault.ParseError.TheVariants.InvalidToken}
 use Rattle.mime.proofs.{ValueLemmas.Hash.utf8_bytes, ValueLemmas.KeptText.kept_is_read}
 use Rattle.mime_facts.proofs.{ComparisonFacts.quoted_x, ComparisonFacts.plain_x, ComparisonFacts.plain_y, ComparisonFacts.other_value, ComparisonFacts.reads_quoted, ComparisonFacts.letters_reach_the_value, CutFacts.e_is_rejected, CutFacts.e_is_viable, CutFacts.list_items, CutFacts.cut_of_list, CutFacts.rest_of_text, CutFacts.split_at_comma, CutFacts.read_value, FaultFacts.e_lacks_slash, FaultFacts.e_is_closed, StandardFacts.media, StandardFacts.tree_from_parts, StandardFacts.plus_twice, StandardFacts.lowered_parts, StandardFacts.no_subtype, StandardFacts.space_in_type, ValueFacts.plain_value, ValueFacts.reads_capitals, ValueFacts.exact_item, ValueFacts.charset_item}
 
@@ -19,15 +20,15 @@ tree_of_text law tree fine is = law tree (tree_from_parts (codes "a") (codes "b"
 value_of_text : OneReading → (value : MediaType) → Reads (codes "A/B") value → value ≡ plain_value
 value_of_text law value reads = law (codes "A/B") value plain_value reads reads_capitals
 
--- the plus is there, after the subtype's first byte, and is the last
+-- The plus is there, after the subtype's first byte, and is the last.
 second_plus : PlusIsLast → (3 ≤ 5) × (slice_get (codes "a/b+c+d") 5 ≡ Some plus_byte) × HasNoPlusFrom (codes "a/b+c+d") 6
 second_plus law = law (codes "a/b+c+d") _ plus_twice
 
--- if a value has no plus, there is none after the subtype's first byte
+-- If a value has no plus, there is none after the subtype's first byte.
 none_without_plus : PlusIsLast → HasNoPlusFrom (codes "a/b") 3
 none_without_plus law = law (codes "A/B") plain_value reads_capitals
 
--- a plus before the position doesn't count, and one at it does
+-- A plus before the position doesn't count, and one at it does.
 no_plus_after : HasNoPlusFrom (codes "+b") 1
 no_plus_after zero from is = absurd (omega (arith, from))
 no_plus_after (suc zero) from is = absurd (omega (arith, same_Some _ _ is))
@@ -64,7 +65,7 @@ completion : OneCompletion → (fault : ParseError) → Lacks (codes "e") fault 
 completion law fault lacks =
     let one = law (codes "e") e_is_viable e_is_rejected in one.2 fault lacks ∙ sym (one.2 MissingSlash e_lacks_slash)
 
--- the text `e` has a completion
+-- The text `e` has a completion.
 some_completion : OneCompletion → (fault : ParseError) × Lacks (codes "e") fault
 some_completion law = let one = law (codes "e") e_is_viable e_is_rejected in (one.0, one.1)
 
@@ -103,7 +104,7 @@ prefix_in_utf8 : PrefixIsInUtf8 → IsUtf8 (codes "a b") → IsViableInUtf8 (cod
 prefix_in_utf8 law utf8 = let is =
     (law (codes "a b") 1 utf8).0 space_in_type.prefix in (is.viable, is.longest 3 (omega arith) (omega arith))
 
--- what some accepted text of valid UTF-8 begins with, what no accepted text does, and what only accepted texts do that aren't valid UTF-8
+-- What some accepted text of valid UTF-8 begins with, what no accepted text does, and what only accepted texts do that aren't valid UTF-8.
 viable_in_utf8 : IsViableInUtf8 (codes "a") × ¬ (IsViableInUtf8 (codes "a b")) × ¬ (IsViableInUtf8 (codes "a/b;p=\"" ++ (255 ∷ [])))
 unfolding encode_utf8
 viable_in_utf8 = (
@@ -114,8 +115,8 @@ viable_in_utf8 = (
 
 -- the longest of them has one byte of `a b`, no fewer, and no more; and no more than the text has
 prefixes_in_utf8 :
-    IsLongestPrefixInUtf8 (codes "a b") 1 × ¬ (IsLongestPrefixInUtf8 (codes "a b") 0) × ¬ (IsLongestPrefixInUtf8 (codes "a b") 3)
-    × ¬ (IsLongestPrefixInUtf8 (codes "a") 2)
+    IsLongest IsViableInUtf8 (codes "a b") 1 × ¬ (IsLongest IsViableInUtf8 (codes "a b") 0)
+    × ¬ (IsLongest IsViableInUtf8 (codes "a b") 3) × ¬ (IsLongest IsViableInUtf8 (codes "a") 2)
 prefixes_in_utf8 = (
   record {
     within = omega arith;
@@ -133,17 +134,13 @@ prefix_from_utf8 law utf8 = (law (codes "a b") 1 utf8).1 prefixes_in_utf8.0
 
 -- ---- comparison
 
--- what is before isn't the same, nor after
+-- What is before a second value isn't equal to it, nor after it.
 one_of_three : OneOrder → (first second : MediaType) → Before first second → ¬ (Same first second) × ¬ (Before second first)
-one_of_three law first second before = by (law first second)
-  where
-    by : (Before first second × ¬ (Same first second) × ¬ (Before second first))
-        ⊎ ((Same first second × ¬ (Before first second) × ¬ (Before second first))
-        ⊎ (Before second first × ¬ (Same first second) × ¬ (Before first second)))
-        → ¬ (Same first second) × ¬ (Before second first)
-    by (inl is) = (is.1, is.2)
-    by (inr (inl is)) = absurd (is.1 before)
-    by (inr (inr is)) = absurd (is.2 before)
+one_of_three law first second before =
+    let one = law first second in (
+      (λ same. absurd (cc (one.2 Less before, one.2 Equal same))),
+      λ back. absurd (cc (one.2 Less before, one.2 Greater back)),
+    )
 
 -- What is before a second value, which is before a third, is before the third.
 transitive : BeforeIsTransitive → Before plain_x plain_y → Before plain_y other_value → Before plain_x other_value
@@ -170,7 +167,7 @@ answer_of_key : (Accepts : List ℕ → Bool → Type 0) → OneAnswer Accepts �
     → IsFirstAccepted Accepts (exact_item ∷ charset_item ∷ []) second → first ≡ second
 answer_of_key Accepts law first second is also = law (exact_item ∷ charset_item ∷ []) second first also is
 
--- each name is accepted, or isn't
+-- Each name is accepted, or isn't.
 decided : IsDecided (λ name ignores_case. IsTrue ignores_case)
 decided name true = inl refl
 decided name false = inr false≢true
@@ -215,7 +212,7 @@ steps_of_text : OneCount → (first second : ℕ) → TakesSteps (codes "e,A/B")
     → first ≡ second
 steps_of_text law first second is also = let one = law (codes "e,A/B") in one.2 first is ∙ sym (one.2 second also)
 
--- the rest before a comma is a bad piece
+-- The rest before a comma is a bad piece.
 comma_after_rest : CommaContains → Cut (codes "e,e,A/B") (bad (codes "e") ∷ list_items) []
 comma_after_rest law = law (codes "e") (codes "e,A/B") [] _ (codes "e") [] rest_of_text e_is_closed cut_of_list
 

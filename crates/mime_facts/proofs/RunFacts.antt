@@ -1,22 +1,22 @@
 -- Calls of `next` for which each definition of a run is true, and others for which it is false: over `e`, `e,A/B`, `*/*` and long ones.
 use Rattle.std.proofs.Common.{◌≡◌, ℕ, true, false, List, [], ◌∷◌, ◌++◌, length, Some, None, Result, Ok, Err, refl, sym, ap, subst, arith, codes, Bor}
 use Rattle.std.proofs.{lemmas.Bool.true≢false, lemmas.Option.none-some}
-use Rattle.mime.specs.{Bytes.is_token_byte, Grammar.no_list, Values.MediaType, Values.OwnedMedia, Values.Reads, Cut.CutItem, Cut.good, Cut.bad, Cut.Cut, Cut.whole, Cut.goes_on, Runs.Iteration, Runs.HasEnded, Runs.IsFirstItem, Runs.FirstNeedsMemory, Runs.HasNoItem, Runs.GivesItem, Runs.IsNext, CutLaws.AreGiven, CutLaws.none_left, CutLaws.a_value, CutLaws.a_piece, CutLaws.no_memory, declared.iter.Bad.Bad, declared.iter.Bad.TheVariants.Piece, declared.iter.Bad.TheVariants.NoMemory}
+use Rattle.mime.specs.{Bytes.is_token_byte, Grammar.no_list, Values.MediaType, Values.OwnedMedia, Values.Reads, Cut.CutItem, Cut.good, Cut.bad, Cut.Cut, Cut.whole, Cut.goes_on, Runs.Iteration, Runs.IsFirstItem, Runs.FirstNeedsMemory, Runs.HasNoItem, Runs.GivesItem, Runs.IsNext, CutLaws.AreGiven, CutLaws.none_left, CutLaws.a_value, CutLaws.a_piece, CutLaws.no_memory, declared.iter.Bad.Bad, declared.iter.Bad.TheVariants.Piece, declared.iter.Bad.TheVariants.NoMemory}
 use Rattle.mime_facts.proofs.{CutFacts.split_at_comma, CutFacts.e_is_viable, CutFacts.item_of_e, CutFacts.cut_of_list, CutFacts.rest_of_text, CutFacts.no_item_left_out, StandardFacts.media, StandardFacts.reads, ValueFacts.differ, ValueFacts.plain_value, ValueFacts.text_of_41, ValueFacts.text_of_40, ValueFacts.value_of_40, ValueFacts.reads_41, ValueFacts.reads_40, ValueFacts.reads_dropped}
 use Rattle.mime.proofs.CutLemmas.Cuts.{cut_unique, takes_unique, takes-viable, empty-cut}
 
--- an iterator over a text, at its start and at its end
+-- An iterator over a text, at its start and at its end.
 abbrev begun : List ℕ → Iteration
 begun text = record { text = text; left = text; out_of_memory = false; steps = 0 }
 
 abbrev ended_run : List ℕ → ℕ → Iteration
 ended_run text steps = record { text = text; left = []; out_of_memory = false; steps = steps }
 
--- the same, if memory ran out
+-- The same, if memory ran out.
 abbrev memory_ran_out : Iteration → Iteration
 memory_ran_out i = record i { out_of_memory = true }
 
--- `*/*`, read
+-- `*/*`, read.
 abbrev star_value : MediaType
 star_value = media (codes "*/*") 1 None [] (codes "*/*")
 
@@ -34,10 +34,6 @@ only_item text value reads piece other items rest cut =
 
 -- ---- what is left
 
--- A run has ended, or has something left.
-ends : HasEnded (ended_run (codes "e") 1) × ¬ (HasEnded (begun (codes "e")))
-ends = (refl, differ (codes "e") [] refl)
-
 -- the first item of `e,A/B` is `e`, and not `A/B`
 first_items :
     IsFirstItem (codes "e,A/B") (bad (codes "e")) (codes "A/B") × ¬ (IsFirstItem (codes "e,A/B") (good (codes "A/B") plain_value) [])
@@ -46,22 +42,22 @@ first_items = (
   λ first. no_item_left_out (first [] [] empty-cut),
 )
 
--- `e` has no item, and `e,A/B` has one
+-- `e` has no item, and `e,A/B` has one.
 no_items : HasNoItem (codes "e") × ¬ (HasNoItem (codes "e,A/B"))
 no_items = ((codes "e", rest_of_text), λ none. absurd (omega (arith, ap length (cut_unique _ _ _ cut_of_list _ _ none.1).0)))
 
--- a media type of 41 bytes needs memory
+-- A media type of 41 bytes needs memory.
 needs_memory : FirstNeedsMemory text_of_41
-needs_memory = record { piece = text_of_41; value = _; items = []; rest = []; cut = whole text_of_41 _ reads_41; long = omega arith }
+needs_memory = (text_of_41, _, [], [], whole text_of_41 _ reads_41, omega arith)
 
--- a bad piece needs no memory
+-- A bad piece needs no memory.
 bad_needs_none : ¬ (FirstNeedsMemory (codes "e,A/B"))
-bad_needs_none needs = absurd (cc (cut_unique _ _ _ cut_of_list _ _ needs.cut).0)
+bad_needs_none needs = absurd (cc (cut_unique _ _ _ cut_of_list _ _ needs.4).0)
 
 -- If 40 bytes of a media type are kept, it needs no memory.
 forty_need_none : (text : List ℕ) → Reads text value_of_40 → ¬ (FirstNeedsMemory text)
 forty_need_none text forty needs =
-    absurd (omega (arith, needs.long, ap (λ (it : MediaType). length it.kept) (only_item text value_of_40 forty _ _ _ _ needs.cut).1))
+    absurd (omega (arith, needs.5, ap (λ (it : MediaType). length it.kept) (only_item text value_of_40 forty _ _ _ _ needs.4).1))
 
 -- A media type of 40 bytes needs no memory, with a semicolon after it, too.
 short_needs_none : ¬ (FirstNeedsMemory text_of_40) × ¬ (FirstNeedsMemory (text_of_40 ++ codes ";"))
@@ -69,34 +65,34 @@ short_needs_none = (forty_need_none text_of_40 reads_40, forty_need_none (text_o
 
 -- ---- a call
 
--- an item that is read from `*/*` is fixed
+-- An item that is read from `*/*` is fixed.
 star_is_fixed : (old new : Iteration) → old.left ≡ codes "*/*" → new.left ≡ [] → (mime : OwnedMedia)
     → GivesItem old (Some (Ok mime)) new → mime.fixed ≡ true
 star_is_fixed old new at end mime (piece, first, star, same) =
     let cut = first [] [] (subst (λ l. Cut l [] []) (sym end) empty-cut) in
     star (only_item (codes "*/*") star_value reads_star _ _ _ _ (subst (λ t. Cut t (good piece mime.media ∷ []) []) at cut)).0
 
--- that memory ran out is said if it did
+-- That memory ran out is said if it did.
 no_memory_is_told : ¬ (GivesItem (begun (codes "A/B")) (Some (Err NoMemory)) (ended_run (codes "A/B") 3))
 no_memory_is_told given = true≢false (sym given.2)
 
--- it is said only then: not if nothing is yielded, nor with a media type or a bad piece
+-- It is said only then: not if nothing is yielded, nor with a media type or a bad piece.
 others_keep_memory : ¬ (GivesItem (begun (codes "e")) None (memory_ran_out (ended_run (codes "e") 1)))
     × ((mime : OwnedMedia) → ¬ (GivesItem (begun (codes "A/B")) (Some (Ok mime)) (memory_ran_out (ended_run (codes "A/B") 3))))
     × ((piece : Bor (List ℕ))
     → ¬ (GivesItem (begun (codes "e,A/B")) (Some (Err (Piece piece))) (memory_ran_out (begun (codes "A/B")))))
 others_keep_memory = ((λ given. true≢false given.2), (λ mime given. true≢false given.3), λ piece given. true≢false given.1)
 
--- if none is given, or memory ran out, nothing is left
+-- If none is given, or memory ran out, nothing is left.
 nothing_is_left : ¬ (GivesItem (begun (codes "e")) None (begun (codes "e")))
     × ¬ (GivesItem (begun (codes "A/B")) (Some (Err NoMemory)) (memory_ran_out (begun (codes "A/B"))))
 nothing_is_left = ((λ given. differ (codes "e") [] refl given.1), λ given. differ (codes "A/B") [] refl given.1)
 
--- none is given only if there is no item
+-- None is given only if there is no item.
 none_at_no_item : ¬ (GivesItem (begun (codes "e,A/B")) None (ended_run (codes "e,A/B") 5))
 none_at_no_item given = no_items.1 given.0
 
--- over `e` none is given, after one step
+-- Over `e` none is given, after one step.
 ends_at_rest : IsNext (begun (codes "e")) None (ended_run (codes "e") 1)
 ends_at_rest = record {
   item = (no_items.0, refl, refl);
@@ -104,41 +100,41 @@ ends_at_rest = record {
   more = omega arith;
   few = omega arith;
   exact = λ end fed. takes-viable (codes "e") e_is_viable;
-  stays = λ end. absurd (ends.1 end);
+  stays = λ end. absurd (differ (codes "e") [] refl end);
 }
 
--- no fewer steps than before
+-- No fewer steps than before.
 steps_dont_fall : ¬ (IsNext (record (begun (codes "e")) { steps = 2 }) None (ended_run (codes "e") 1))
 steps_dont_fall next = absurd (omega (arith, next.more))
 
--- no more steps than bytes, even if memory ran out
+-- No more steps than bytes, even if memory ran out.
 steps_are_few : ¬ (IsNext (record (begun (codes "a/")) { out_of_memory = true }) None
     (record (ended_run (codes "a/") 3) { out_of_memory = true }))
 steps_are_few next = absurd (omega (arith, next.few))
 
--- at the end the steps are those of the text's cut
+-- At the end the steps are those of the text's cut.
 steps_are_exact : ¬ (IsNext (begun (codes "e")) None (ended_run (codes "e") 0))
 steps_are_exact next = absurd (omega (arith, takes_unique (codes "e") 0 1 (next.exact refl refl) (takes-viable (codes "e") e_is_viable)))
 
--- after the end none is given
+-- After the end none is given.
 stays_ended : (reason : Bad) → ¬ (IsNext (ended_run (codes "e") 1) (Some (Err reason)) (ended_run (codes "e") 1))
 stays_ended reason next = none-some _ (sym (next.stays refl).0)
 
--- the text stays
+-- The text stays.
 text_stays : ¬ (IsNext (begun (codes "e")) None (ended_run (codes "f") 1))
 text_stays next = differ (codes "f") (codes "e") refl next.text
 
--- what has ended stays as it is
+-- What has ended stays as it is.
 ended_stays : ¬ (IsNext (ended_run (codes "e") 1) None (ended_run (codes "e") 0))
 ended_stays next = absurd (omega (arith, ap (λ (i : Iteration). i.steps) (next.stays refl).1))
 
 -- ---- a whole run
 
--- a bad piece is given as itself
+-- A bad piece is given as itself.
 gives_piece : (piece : Bor (List ℕ)) → piece.now ≡ codes "e" → AreGiven (Err (Piece piece) ∷ []) (bad (codes "e") ∷ [])
 gives_piece piece is = subst (λ text. AreGiven (Err (Piece piece) ∷ []) (bad text ∷ [])) is (a_piece piece [] [] none_left)
 
--- a run that yields nothing has no items
+-- A run that yields nothing has no items.
 gives_all : (given : List (Result OwnedMedia Bad)) (items : List CutItem) → AreGiven given items → given ≡ [] → items ≡ []
 gives_all given items none_left is = refl
 gives_all given items other is = absurd cc
@@ -150,7 +146,7 @@ gives_short given items (no_memory piece other others long) is text short =
     let same : other ≡ value_of_40 = cc short in absurd (omega (arith, long, ap (λ (it : MediaType). length it.kept) same))
 gives_short given items other is text short = absurd cc
 
--- a media type is given for a good piece with its value, and for nothing else
+-- A media type is given for a good piece with its value, and for nothing else.
 gives_value : (given : List (Result OwnedMedia Bad)) (items : List CutItem) → AreGiven given items
     → (mime : OwnedMedia) (others : List (Result OwnedMedia Bad)) → given ≡ Ok mime ∷ others
     → (item : CutItem) (left : List CutItem) → items ≡ item ∷ left → (piece : List ℕ) × (item ≡ good piece mime.media)

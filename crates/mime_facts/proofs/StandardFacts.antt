@@ -5,35 +5,35 @@ use Rattle.mime.proofs.{CompareLemmas.FirstDifference.different_values, GrammarL
 
 -- ---- accepted texts
 
--- a value by its essence, the positions of slash and plus, its pairs and its kept text
+-- A value by its essence, the positions of slash and plus, its pairs and its kept text.
 abbrev pub media : List ℕ → ℕ → Option ℕ → List (List ℕ × List ℕ) → List ℕ → MediaType
 media essence slash plus pairs kept = record { essence = essence; slash = slash; plus = plus; pairs = pairs; kept = kept }
 
--- a tree by its type, its subtype and its tail
+-- A tree by its type, its subtype and its tail.
 abbrev pub tree_from_parts : List ℕ → List ℕ → Tail → SyntaxTree
 tree_from_parts top sub tail = record { top = top; sub = sub; tail = tail }
 
--- a well-formed tree has its text read as its value
+-- A well-formed tree has its text read as its value.
 pub reads : (top sub : List ℕ) (tail : Tail) → IsWellFormed (tree_from_parts top sub tail)
     → Reads (text_of (tree_from_parts top sub tail)) (value_of (tree_from_parts top sub tail))
 reads top sub tail fine = record { tree = tree_from_parts top sub tail; well_formed = fine; spelled = refl; valued = refl }
 
--- the subtype's first byte begins no suffix
+-- The subtype's first byte begins no suffix.
 plus_first : Reads (codes "a/+xml") (media (codes "a/+xml") 1 None [] (codes "a/+xml"))
 unfolding is_token_byte
 plus_first = reads (codes "a") (codes "+xml") no_list (refl, refl, tt)
 
--- the last plus begins the suffix
+-- The last plus begins the suffix.
 pub plus_twice : Reads (codes "a/b+c+d") (media (codes "a/b+c+d") 1 (Some 5) [] (codes "a/b+c+d"))
 unfolding is_token_byte
 plus_twice = reads (codes "a") (codes "b+c+d") no_list (refl, refl, tt)
 
--- a suffix may be empty
+-- A suffix may be empty.
 plus_last : Reads (codes "a/b+") (media (codes "a/b+") 1 (Some 3) [] (codes "a/b+"))
 unfolding is_token_byte
 plus_last = reads (codes "a") (codes "b+") no_list (refl, refl, tt)
 
--- type, subtype, names and a charset are lowercased, other values are kept
+-- Type, subtype, names and a charset are lowercased, other values are kept.
 pub lowered_parts : Reads (codes "TEXT/PLAIN; CHARSET=UTF-8; FOO=BAR")
     (media (codes "text/plain") 4 None ((codes "charset", codes "utf-8") ∷ (codes "foo", codes "BAR") ∷ [])
     (codes "text/plain; charset=utf-8; foo=BAR"))
@@ -43,31 +43,31 @@ lowered_parts =
     (listed (more (codes " ") (plain (codes "CHARSET") (codes "UTF-8")) (final (codes " ") (plain (codes "FOO") (codes "BAR")))))
     (refl, refl, (refl, (refl, refl), (refl, (refl, refl))))
 
--- a list without parameters isn't kept
+-- A list without parameters isn't kept.
 blank_list : Reads (codes "text/event-stream;       ") (media (codes "text/event-stream") 4 None [] (codes "text/event-stream"))
 unfolding is_token_byte
 blank_list = reads (codes "text") (codes "event-stream") (listed (blank (codes "       "))) (refl, refl, refl)
 
--- a semicolon and spaces after the last parameter are kept
+-- A semicolon and spaces after the last parameter are kept.
 kept_end : Reads (codes "a/b;p=x; ") (media (codes "a/b") 1 None ((codes "p", codes "x") ∷ []) (codes "a/b;p=x; "))
 unfolding is_token_byte
 kept_end =
     reads (codes "a") (codes "b") (listed (more [] (plain (codes "p") (codes "x")) (blank (codes " "))))
     (refl, refl, (refl, (refl, refl), refl))
 
--- a quoted value may be empty
+-- A quoted value may be empty.
 no_content : Reads (codes "a/b;p=\"\"") (media (codes "a/b") 1 None ((codes "p", []) ∷ []) (codes "a/b;p=\"\""))
 unfolding is_token_byte is_quoted_byte
 no_content = reads (codes "a") (codes "b") (listed (final [] (quoted (codes "p") [] []))) (refl, refl, (refl, (refl, no_byte, refl)))
 
--- a backslash pairs a quote, and the value keeps both
+-- A backslash pairs a quote, and the value keeps both.
 paired_quote : Reads (codes "a/b;p=\"\\\"x\"") (media (codes "a/b") 1 None ((codes "p", codes "\\\"x") ∷ []) (codes "a/b;p=\"\\\"x\""))
 unfolding is_token_byte is_quoted_byte
 paired_quote =
     reads (codes "a") (codes "b") (listed (final [] (quoted (codes "p") (codes "\\\"x") [])))
     (refl, refl, (refl, (refl, IsContent-taken (codes "\\\"x") refl refl, refl)))
 
--- a charset is lowercased after a backslash too
+-- A charset is lowercased after a backslash too.
 paired_capital : Reads (codes "a/b;charset=\"\\U\"")
     (media (codes "a/b") 1 None ((codes "charset", codes "\\u") ∷ []) (codes "a/b;charset=\"\\u\""))
 unfolding is_token_byte is_quoted_byte
@@ -75,7 +75,7 @@ paired_capital =
     reads (codes "a") (codes "b") (listed (final [] (quoted (codes "charset") (codes "\\U") [])))
     (refl, refl, (refl, (refl, IsContent-taken (codes "\\U") refl refl, refl)))
 
--- a tab may occur in a quoted value
+-- A tab may occur in a quoted value.
 tab_in_quotes : Reads (codes "a/b;p=\"" ++ (195 ∷ 169 ∷ 9 ∷ codes "\""))
     (media (codes "a/b") 1 None ((codes "p", 195 ∷ 169 ∷ 9 ∷ []) ∷ []) (codes "a/b;p=\"" ++ (195 ∷ 169 ∷ 9 ∷ codes "\"")))
 unfolding is_token_byte is_quoted_byte
@@ -83,7 +83,7 @@ tab_in_quotes =
     reads (codes "a") (codes "b") (listed (final [] (quoted (codes "p") (195 ∷ 169 ∷ 9 ∷ []) [])))
     (refl, refl, (refl, (refl, IsContent-taken (195 ∷ 169 ∷ 9 ∷ []) refl refl, refl)))
 
--- a tab is allowed wherever a space is
+-- A tab is allowed wherever a space is.
 tabs_beside_parameters : Reads (codes "a/b;" ++ (9 ∷ codes "p=\"x\"" ++ (9 ∷ codes ";q=1")))
     (media (codes "a/b") 1 None ((codes "p", codes "x") ∷ (codes "q", codes "1") ∷ [])
     (codes "a/b;" ++ (9 ∷ codes "p=\"x\"" ++ (9 ∷ codes ";q=1"))))
@@ -93,7 +93,7 @@ tabs_beside_parameters =
     (listed (more (9 ∷ []) (quoted (codes "p") (codes "x") (9 ∷ [])) (final [] (plain (codes "q") (codes "1")))))
     (refl, refl, (refl, (refl, IsContent-taken (codes "x") refl refl, refl), (refl, (refl, refl))))
 
--- a quoted value may hold bytes past ASCII, semicolons and commas
+-- A quoted value may hold bytes past ASCII, semicolons and commas.
 quoted_bytes : Reads (codes "a/b;p=\"" ++ (195 ∷ 169 ∷ codes ";,\""))
     (media (codes "a/b") 1 None ((codes "p", 195 ∷ 169 ∷ codes ";,") ∷ []) (codes "a/b;p=\"" ++ (195 ∷ 169 ∷ codes ";,\"")))
 unfolding is_token_byte is_quoted_byte
@@ -101,7 +101,7 @@ quoted_bytes =
     reads (codes "a") (codes "b") (listed (final [] (quoted (codes "p") (195 ∷ 169 ∷ codes ";,") [])))
     (refl, refl, (refl, (refl, IsContent-taken (195 ∷ 169 ∷ codes ";,") refl refl, refl)))
 
--- spaces may follow a quoted value, and a name may occur twice
+-- Spaces may follow a quoted value, and a name may occur twice.
 spaces_after_quotes : Reads (codes "A/B; P=\"x\" ;p=2")
     (media (codes "a/b") 1 None ((codes "p", codes "x") ∷ (codes "p", codes "2") ∷ []) (codes "a/b; p=\"x\" ;p=2"))
 unfolding is_token_byte is_quoted_byte
@@ -110,37 +110,37 @@ spaces_after_quotes =
     (listed (more (codes " ") (quoted (codes "P") (codes "x") (codes " ")) (final [] (plain (codes "p") (codes "2")))))
     (refl, refl, (refl, (refl, IsContent-taken (codes "x") refl refl, refl), (refl, (refl, refl))))
 
--- the old spelling of a constant's name is the same constant
+-- The old spelling of a constant's name is the same constant.
 old_spelling : TEXT_JAVSCRIPT ≡ TEXT_JAVASCRIPT
 old_spelling = refl
 
 -- ---- rejected texts
 
--- no text at all lacks a slash too
+-- No text at all lacks a slash too.
 empty_text : IsFault [] MissingSlash
 empty_text = lacks-from_walk [] _ refl refl
 
--- only a type
+-- Only a type.
 pub no_slash : IsFault (codes "invalid") MissingSlash
 unfolding is_token_byte
 no_slash = lacks-from_walk (codes "invalid") _ refl refl
 
--- a type and its slash
+-- A type and its slash.
 pub no_subtype : IsFault (codes "text/") MissingSubtype
 unfolding is_token_byte
 no_subtype = lacks-from_walk (codes "text/") _ refl refl
 
--- only a parameter's name
+-- Only a parameter's name.
 pub no_equals : IsFault (codes "a/b;p") MissingEqual
 unfolding is_token_byte
 no_equals = lacks-from_walk (codes "a/b;p") _ refl refl
 
--- a name and its equals sign
+-- A name and its equals sign.
 pub no_value : IsFault (codes "a/b;p=") MissingValue
 unfolding is_token_byte
 no_value = lacks-from_walk (codes "a/b;p=") _ refl refl
 
--- in an open quoted value a slash and an equals sign are content, and a lone backslash leaves it open
+-- In an open quoted value a slash and an equals sign are content, and a lone backslash leaves it open.
 open_quotes : IsFault (codes "a/b;p=\"x/") MissingQuote × IsFault (codes "a/b;p=\"=") MissingQuote
     × IsFault (codes "a/b;p=\"\\") MissingQuote
 unfolding is_token_byte is_quoted_byte
@@ -150,12 +150,12 @@ open_quotes = (
   lacks-from_walk (codes "a/b;p=\"\\") _ refl refl,
 )
 
--- a paired quote closes nothing
+-- A paired quote closes nothing.
 pub no_quote : IsFault (codes "a/b;p=\"\\\"") MissingQuote
 unfolding is_token_byte is_quoted_byte
 no_quote = lacks-from_walk (codes "a/b;p=\"\\\"") _ refl refl
 
--- a type has no space
+-- A type has no space.
 pub space_in_type : IsFault (codes "a b") (InvalidToken 1 32)
 unfolding is_token_byte
 space_in_type = dead-from_walk (codes "a") (codes "b") 32 _ refl refl
@@ -198,7 +198,7 @@ bytes_at_fault = (
 
 -- ---- first differences
 
--- neither byte is a space, a tab or a quote
+-- Neither byte is a space, a tab or a quote.
 first_difference_decides : DifferInValue (codes "a/b;p=x") (codes "A/B;P=y")
 first_difference_decides = record {
   at = 6;
@@ -207,7 +207,7 @@ first_difference_decides = record {
   other_reaches = refl;
 }
 
--- a quote doesn't reach the value: the values are equal
+-- A quote doesn't reach the value: the values are equal.
 quoted_value_not_different_values : ¬ (DifferInValue (codes "a/b;p=x") (codes "a/b;p=\"x\""))
 unfolding is_token_byte is_quoted_byte
 quoted_value_not_different_values = λ d.

@@ -3,22 +3,22 @@
 use Rattle.std.proofs.Common.{◌≡◌, ◌≢◌, ℕ, Bool, true, false, List, [], ◌∷◌, ◌++◌, map, Some, None, refl, sym, ap, ◌∙◌, codes}
 use Rattle.std.proofs.{lemmas.Bool.true≢false, lemmas.Option.none-some, lemmas.Option.same_Some, lemmas.Slice.Eq.bytes_eq-Decides}
 use Rattle.std.specs.{Fmt.digits, Str.bytes_eq}
-use Rattle.mime.specs.{Bytes.is_token_byte, Grammar.plain, Grammar.quoted, Grammar.blank, Grammar.final, Grammar.more, Grammar.no_list, Grammar.listed, Grammar.SyntaxTree, Values.MediaType, Values.lowered, Values.is_charset, Values.lowered_value, Values.lowered_parameter, Values.lowered_list, Values.lowered_tail, Values.lowered_tree, Values.pair_of, Values.pairs_of_list, Values.pairs_of_tail, Values.last_plus, Values.essence_of, Values.kept_text, Values.Reads, Values.IsAccepted, Values.IsRejected, Values.type_of, Values.subtype_of, Values.suffix_of, Items.Item, Items.item_of, Items.items_of, Items.IsLowIf, Items.IsLowItem, Items.IsFirstAccepted, Items.item_seen, Items.name_seen, Items.name_text, Names.NameIs, Names.name_table, Atoms.atom_text, Printed.token_text, Printed.fault_text, Printed.error_text, declared.atoms.Atom.TheVariants.STAR_STAR, declared.atoms.Atom.TheVariants.TEXT_STAR, declared.atoms.Atom.TheVariants.TEXT_PLAIN, declared.atoms.Atom.TheVariants.TEXT_PLAIN_UTF_8, declared.atoms.Atom.TheVariants.TEXT_HTML, declared.atoms.Atom.TheVariants.TEXT_HTML_UTF_8, declared.atoms.Atom.TheVariants.TEXT_CSS, declared.atoms.Atom.TheVariants.TEXT_CSS_UTF_8, declared.atoms.Atom.TheVariants.TEXT_JAVASCRIPT, declared.atoms.Atom.TheVariants.TEXT_XML, declared.atoms.Atom.TheVariants.TEXT_EVENT_STREAM, declared.atoms.Atom.TheVariants.TEXT_CSV, declared.atoms.Atom.TheVariants.TEXT_CSV_UTF_8, declared.atoms.Atom.TheVariants.TEXT_TAB_SEPARATED_VALUES, declared.atoms.Atom.TheVariants.TEXT_TAB_SEPARATED_VALUES_UTF_8, declared.atoms.Atom.TheVariants.TEXT_VCARD, declared.atoms.Atom.TheVariants.IMAGE_STAR, declared.atoms.Atom.TheVariants.IMAGE_JPEG, declared.atoms.Atom.TheVariants.IMAGE_GIF, declared.atoms.Atom.TheVariants.IMAGE_PNG, declared.atoms.Atom.TheVariants.IMAGE_BMP, declared.atoms.Atom.TheVariants.IMAGE_SVG, declared.atoms.Atom.TheVariants.FONT_WOFF, declared.atoms.Atom.TheVariants.FONT_WOFF2, declared.atoms.Atom.TheVariants.APPLICATION_JSON, declared.atoms.Atom.TheVariants.APPLICATION_JAVASCRIPT, declared.atoms.Atom.TheVariants.APPLICATION_JAVASCRIPT_UTF_8, declared.atoms.Atom.TheVariants.APPLICATION_WWW_FORM_URLENCODED, declared.atoms.Atom.TheVariants.APPLICATION_OCTET_STREAM, declared.atoms.Atom.TheVariants.APPLICATION_MSGPACK, declared.atoms.Atom.TheVariants.APPLICATION_PDF, declared.atoms.Atom.TheVariants.MULTIPART_FORM_DATA, declared.name.Name.Name, declared.scan.fault.ParseError.TheVariants.MissingSlash, declared.scan.fault.ParseError.TheVariants.MissingSubtype, declared.scan.fault.ParseError.TheVariants.MissingEqual, declared.scan.fault.ParseError.TheVariants.MissingValue, declared.scan.fault.ParseError.TheVariants.MissingQuote, declared.scan.fault.ParseError.TheVariants.InvalidToken, declared.scan.fault.ParseError.TheVariants.NoMemory}
+use Rattle.mime.specs.{Bytes.is_token_byte, Grammar.plain, Grammar.quoted, Grammar.blank, Grammar.final, Grammar.more, Grammar.no_list, Grammar.listed, Grammar.SyntaxTree, Values.MediaType, Values.lowered, Values.is_charset, Values.lowered_value, Values.lowered_parameter, Values.lowered_list, Values.lowered_tail, Values.lowered_tree, Values.pair_of, Values.pairs_of_list, Values.pairs_of_tail, Values.last_plus, Values.essence_of, Values.kept_text, Values.Reads, Values.IsAccepted, Values.IsRejected, Values.type_of, Values.subtype_of, Values.suffix_of, Items.Item, Items.item_of, Items.items_of, Items.IsLowIf, Items.IsLowItem, Items.IsFirstAccepted, Items.item_seen, Items.name_seen, Items.name_text, Names.NameIs, Names.name_table, Atoms.atom_text, Printed.fault_text, Printed.fault_text, Printed.error_text, declared.atoms.Atom.TheVariants.STAR_STAR, declared.atoms.Atom.TheVariants.TEXT_STAR, declared.atoms.Atom.TheVariants.TEXT_PLAIN, declared.atoms.Atom.TheVariants.TEXT_PLAIN_UTF_8, declared.atoms.Atom.TheVariants.TEXT_HTML, declared.atoms.Atom.TheVariants.TEXT_HTML_UTF_8, declared.atoms.Atom.TheVariants.TEXT_CSS, declared.atoms.Atom.TheVariants.TEXT_CSS_UTF_8, declared.atoms.Atom.TheVariants.TEXT_JAVASCRIPT, declared.atoms.Atom.TheVariants.TEXT_XML, declared.atoms.Atom.TheVariants.TEXT_EVENT_STREAM, declared.atoms.Atom.TheVariants.TEXT_CSV, declared.atoms.Atom.TheVariants.TEXT_CSV_UTF_8, declared.atoms.Atom.TheVariants.TEXT_TAB_SEPARATED_VALUES, declared.atoms.Atom.TheVariants.TEXT_TAB_SEPARATED_VALUES_UTF_8, declared.atoms.Atom.TheVariants.TEXT_VCARD, declared.atoms.Atom.TheVariants.IMAGE_STAR, declared.atoms.Atom.TheVariants.IMAGE_JPEG, declared.atoms.Atom.TheVariants.IMAGE_GIF, declared.atoms.Atom.TheVariants.IMAGE_PNG, declared.atoms.Atom.TheVariants.IMAGE_BMP, declared.atoms.Atom.TheVariants.IMAGE_SVG, declared.atoms.Atom.TheVariants.FONT_WOFF, declared.atoms.Atom.TheVariants.FONT_WOFF2, declared.atoms.Atom.TheVariants.APPLICATION_JSON, declared.atoms.Atom.TheVariants.APPLICATION_JAVASCRIPT, declared.atoms.Atom.TheVariants.APPLICATION_JAVASCRIPT_UTF_8, declared.atoms.Atom.TheVariants.APPLICATION_WWW_FORM_URLENCODED, declared.atoms.Atom.TheVariants.APPLICATION_OCTET_STREAM, declared.atoms.Atom.TheVariants.APPLICATION_MSGPACK, declared.atoms.Atom.TheVariants.APPLICATION_PDF, declared.atoms.Atom.TheVariants.MULTIPART_FORM_DATA, declared.name.Name.Name, declared.scan.fault.ParseError.TheVariants.MissingSlash, declared.scan.fault.ParseError.TheVariants.MissingSubtype, declared.scan.fault.ParseError.TheVariants.MissingEqual, declared.scan.fault.ParseError.TheVariants.MissingValue, declared.scan.fault.ParseError.TheVariants.MissingQuote, declared.scan.fault.ParseError.TheVariants.InvalidToken, declared.scan.fault.ParseError.TheVariants.NoMemory}
 use Rattle.mime.proofs.GrammarLemmas.Readings.{one_reading, stopped-from_walk}
 use Rattle.mime_facts.proofs.StandardFacts.{media, tree_from_parts, reads}
 
--- texts on which a test answers otherwise differ
+-- Texts on which a test answers otherwise differ.
 pub differ : (first second : List ℕ) → bytes_eq first second ≡ false → first ≢ second
 differ first second is same = true≢false (sym ((bytes_eq-Decides first second).1 same) ∙ is)
 
 -- ---- lowercasing
 
--- only the capitals of ASCII are lowercased
+-- Only the capitals of ASCII are lowercased.
 capitals_lowered : lowered (64 ∷ 65 ∷ 90 ∷ 91 ∷ 97 ∷ 195 ∷ 137 ∷ []) ≡ 64 ∷ 97 ∷ 122 ∷ 91 ∷ 97 ∷ 195
     ∷ 137 ∷ []
 capitals_lowered = refl
 
--- `charset` in any case is the name whose value is lowercased
+-- `charset` in any case is the name whose value is lowercased.
 charsets : (is_charset (codes "CharSet") ≡ true) × (is_charset (codes "charsets") ≡ false)
     × (lowered_value (codes "CHARSET") (codes "UTF") ≡ codes "utf") × (lowered_value (codes "boundary") (codes "UTF") ≡ codes "UTF")
 charsets = (refl, refl, refl, refl)
@@ -33,7 +33,7 @@ names_lowered : (lowered_parameter (plain (codes "P") (codes "X")) ≡ plain (co
     × (lowered_tail (listed (final [] (plain (codes "P") []))) ≡ listed (final [] (plain (codes "p") [])))
 names_lowered = (refl, refl, refl, refl, refl, refl, refl)
 
--- a tree with a list of parameters
+-- A tree with a list of parameters.
 abbrev capitals : SyntaxTree
 capitals = tree_from_parts (codes "A") (codes "B+C")
     (listed (more (codes " ") (plain (codes "P") (codes "X")) (final [] (quoted (codes "Charset") (codes "\\X") (codes " ")))))
@@ -44,7 +44,7 @@ lowered_capitals :
     (listed (more (codes " ") (plain (codes "p") (codes "X")) (final [] (quoted (codes "charset") (codes "\\x") (codes " ")))))
 lowered_capitals = refl
 
--- a pair is the name and the value, without quotes and with backslashes; a list has one for each parameter, in order
+-- A pair is the name and the value, without quotes and with backslashes; a list has one for each parameter, in order.
 pairs_of_parts : (pair_of (plain (codes "p") (codes "x")) ≡ (codes "p", codes "x"))
     × (pair_of (quoted (codes "p") (codes "\\x") (codes " ")) ≡ (codes "p", codes "\\x")) × (pairs_of_list (blank (codes " ")) ≡ [])
     × (pairs_of_list (more [] (plain (codes "q") (codes "y")) (final [] (plain (codes "p") (codes "x"))))
@@ -58,26 +58,26 @@ parts_of_capitals :
     × (kept_text ((codes "p", codes "x") ∷ []) capitals ≡ codes "A/B+C; P=X;Charset=\"\\X\" ")
 parts_of_capitals = (refl, refl, refl, refl, refl)
 
--- the last plus, by its position from where the bytes begin
+-- The last plus, by its position from where the bytes begin.
 last_pluses : (last_plus 3 (codes "a+b+c") ≡ Some 6) × (last_plus 3 (codes "abc") ≡ None)
 last_pluses = (refl, refl)
 
 -- ---- reading
 
--- the value of `a/b`
+-- The value of `a/b`.
 abbrev pub plain_value : MediaType
 plain_value = media (codes "a/b") 1 None [] (codes "a/b")
 
--- a text in capitals is read as a value in lowercase
+-- A text in capitals is read as a value in lowercase.
 pub reads_capitals : Reads (codes "A/B") plain_value
 unfolding is_token_byte
 reads_capitals = reads (codes "A") (codes "B") no_list (refl, refl, tt)
 
--- a value keeps no capitals of its essence
+-- A value keeps no capitals of its essence.
 pub keeps_no_capitals : ¬ (Reads (codes "A/B") (media (codes "a/b") 1 None [] (codes "A/B")))
 keeps_no_capitals other = differ (codes "a/b") (codes "A/B") refl (ap (λ (v : MediaType). v.kept) (one_reading _ _ _ reads_capitals other))
 
--- media types of 41 bytes and of 40
+-- Media types of 41 bytes and of 40.
 abbrev pub text_of_41 : List ℕ
 text_of_41 = codes "application/x-forty-one-bytes-in-all-here"
 
@@ -102,7 +102,7 @@ pub reads_dropped : Reads (text_of_40 ++ codes ";") value_of_40
 unfolding is_token_byte
 reads_dropped = reads (codes "application") (codes "x-forty-bytes-of-text-in-all") (listed (blank [])) (refl, refl, refl)
 
--- an accepted text isn't rejected, and a text with a space in its type is
+-- An accepted text isn't rejected, and a text with a space in its type is.
 accepted_and_rejected : IsAccepted (codes "A/B") × ¬ (IsRejected (codes "A/B")) × IsRejected (codes "a b")
     × ¬ (IsAccepted (codes "a b"))
 unfolding is_token_byte
@@ -113,7 +113,7 @@ accepted_and_rejected = (
   stopped-from_walk (codes "a b") refl,
 )
 
--- the parts of a value with a suffix, and of one without
+-- The parts of a value with a suffix, and of one without.
 parts_of_value : (type_of (media (codes "image/svg+xml") 5 (Some 9) [] []) ≡ codes "image")
     × (subtype_of (media (codes "image/svg+xml") 5 (Some 9) [] []) ≡ codes "svg")
     × (suffix_of (media (codes "image/svg+xml") 5 (Some 9) [] []) ≡ Some (codes "xml")) × (subtype_of plain_value ≡ codes "b")
@@ -122,22 +122,22 @@ parts_of_value = (refl, refl, refl, refl, refl)
 
 -- ---- items
 
--- the item of `p=X`, and that of `charset=x`
+-- The item of `p=X`, and that of `charset=x`.
 abbrev pub exact_item : Item
 exact_item = record { name = codes "p"; name_ignores_case = true; value = codes "X"; value_ignores_case = false }
 
 abbrev pub charset_item : Item
 charset_item = record { name = codes "charset"; name_ignores_case = true; value = codes "x"; value_ignores_case = true }
 
--- each name ignores case, and of the values only that of `charset` does
+-- Each name ignores case, and of the values only that of `charset` does.
 item_of_pair : (item_of (codes "p", codes "X") ≡ exact_item) × (item_of (codes "charset", codes "x") ≡ charset_item)
 item_of_pair = (refl, refl)
 
--- the items of pairs are in their order
+-- The items of pairs are in their order.
 items_of_pairs : items_of ((codes "p", codes "X") ∷ (codes "charset", codes "x") ∷ []) ≡ exact_item ∷ charset_item ∷ []
 items_of_pairs = refl
 
--- what ignores case has no capital
+-- What ignores case has no capital.
 low_texts : IsLowIf true (codes "é") × IsLowIf false (codes "X") × ¬ (IsLowIf true (codes "X")) × IsLowItem exact_item
     × ¬ (IsLowItem (record exact_item { name = codes "P" })) × ¬ (IsLowItem (record charset_item { value = codes "X" }))
 low_texts = (
@@ -149,7 +149,7 @@ low_texts = (
   λ is. differ (codes "x") (codes "X") refl (is.1 refl),
 )
 
--- a key of this name
+-- A key of this name.
 abbrev IsName : List ℕ → List ℕ → Bool → Type 0
 IsName key name ignores_case = name ≡ key
 
@@ -211,15 +211,15 @@ constant_texts :
     ∷ codes "application/pdf" ∷ codes "multipart/form-data" ∷ []
 constant_texts = refl
 
--- what callers see of a name and of a parameter
+-- What callers see of a name and of a parameter.
 views : (name value : Name) → (name_text name ≡ name.text.now) × (name_seen name ≡ (name.text.now, name.ignores_case))
     × ((item_seen (name, value)).name ≡ name.text.now) × ((item_seen (name, value)).name_ignores_case ≡ name.ignores_case)
     × ((item_seen (name, value)).value ≡ value.text.now) × ((item_seen (name, value)).value_ignores_case ≡ value.ignores_case)
 views name value = (refl, refl, refl, refl, refl, refl)
 
--- a byte in uppercase hexadecimal without leading zeros, and its position
-printed_tokens : (token_text 10 11 ≡ codes "an invalid token was encountered, B at position 10")
-    × (token_text 0 250 ≡ codes "an invalid token was encountered, FA at position 0")
+-- A byte in uppercase hexadecimal without leading zeros, and its position.
+printed_tokens : (fault_text (InvalidToken 10 11) ≡ codes "an invalid token was encountered, B at position 10")
+    × (fault_text (InvalidToken 0 250) ≡ codes "an invalid token was encountered, FA at position 0")
 unfolding digits
 printed_tokens = (refl, refl)
 
@@ -233,7 +233,7 @@ printed_faults :
 unfolding digits
 printed_faults = refl
 
--- what the error of reading prints
+-- What the error of reading prints.
 printed_error : error_text (InvalidToken 5 59) ≡ codes "mime parse error: an invalid token was encountered, 3B at position 5"
 unfolding digits
 printed_error = refl

@@ -9,11 +9,11 @@ pub use Rattle.mime.specs.declared.scan.fault.ParseError.TheVariants.{InvalidTok
 pub use Rattle.mime.specs.{Bytes.backslash_byte, Bytes.is_quoted_text_byte, Bytes.quote_byte, HeaderLaws.AreHeaderBytes, HeaderLaws.IsSafe, HeaderLaws.IsSafePair, Names.NameIs, declared.scan.fault.ParseError.ParseError}
 pub use Rattle.mime_http.specs.Forms.{form_of, is_plain, text_in}
 pub use Rattle.mime_http.specs.HeaderLaws.{OneHttpFault, OneHttpReading, OnePrintedText, PlainIsHttp, PrintedIsRead}
-pub use Rattle.mime_http.specs.HttpFaults.{HttpExplains, HttpLacks, IsHttpFault, IsHttpLongestPrefix, IsHttpViable, NeedsMemory}
+pub use Rattle.mime_http.specs.HttpFaults.{HttpExplains, IsHttpFault, IsHttpViable, NeedsMemory}
 pub use Rattle.mime_http.specs.HttpList.{AreBetweenCommas, AreSorted, BeginsPiece, FirstBad, Header, IsFirstBad, IsHeader, IsInString, IsPiece, IsPrinted, a_bad, a_range, after_blank, after_range, anew, bad_here, as_it_stands, comma, line_end, lines_or_any, no_line, no_text, opens_string, piece_byte, piece_end, piece_string, string_byte, string_end, string_pair, trim_end, trim_start, trimmed}
 pub use Rattle.mime_http.specs.HttpMediaType.{AreHttpParameters, HttpReads, IsHttpMediaType, IsHttpParameter, no_more, semicolon, semicolon_and, with_string, with_token}
 pub use Rattle.mime_http.specs.LineCut.{AreHeld, At, Held, Outside, Takes, nothing_held, pieces_of, with_bad, with_range, after, cut, cut_after, before_mark, cut_from, ends_piece, is_mark, piece_len, Equals, Paired, IsNextOutside}
-pub use Rattle.mime_http.specs.ListLaws.{AreElements, AreHttpLists, AreSame, BadIsAlone, HttpListsAreRead, OneCut, OneFirstBad, OneHeader, ReadAreHttpLists, element, nothing, without_kept}
+pub use Rattle.mime_http.specs.ListLaws.{AreElements, AreHttpLists, AreSame, BadIsAlone, HttpListsAreRead, OneCut, OneFirstBad, OneHeader, ReadAreHttpLists, element, nothing}
 pub use Rattle.mime_http.specs.Ranges.{AreInOrder, Rank, best_offer, closeness, closest, demanded, first_value, given_weight, has, merit, rank_cmp}
 pub use Rattle.mime_http.specs.RangesLaws.{BestIsAcceptable, BestIsFirst, BestIsRankedFirst, NoneIsBest, OneOrder, OneRanking, QvaluesAre, ClosestIsClosest, CoversItself, IsAtMost, IsQvalue, MeanTheSame, MeaningCounts, StrangerChangesNothing, WeightIsNumber, meaning_of, one_digit, one_dot, three_digits, two_digits, zero_dot}
 pub use Rattle.mime_http.specs.Reader.{Answer, Holds, IsClosedAt, IsEssenceAt, IsParameterAt, IsStringFault, Parts, State, after_semicolon, answer_at, answer_at_end, answer_from, answer_of, before_semicolon, before_type, fault_at, in_name, in_string, in_subtype, in_type, in_value, media_of, next, next_after, read, rejected, text_of_parts, with_parameter}

@@ -138,9 +138,9 @@ run_after class wider value at passed =
     grind (arith, run_goes_on is_quoted_text_byte class wider value 0 at, whole_run class value, passed)
 
 -- The bytes from the end of a token up to the next that isn't printable, or is a quote or a backslash, are quoted text from the start.
-text_after : (value : List ℕ) {plain text : ℕ} → plain ≡ 0 + prefix_len is_token_byte value
+text_passed : (value : List ℕ) {plain text : ℕ} → plain ≡ 0 + prefix_len is_token_byte value
     → text ≡ plain + prefix_len (λ b. not (is_stop TEXT_STOPS b)) (drop plain value) → text ≤ prefix_len is_quoted_text_byte value
-text_after value {plain} {text} token is =
+text_passed value {plain} {text} token is =
     let first = run_goes_on is_token_byte is_quoted_text_byte token_byte_text value 0 plain (omega arith) (omega (arith, token)) in
     let next = run_goes_on (λ b. not (is_stop TEXT_STOPS b)) is_quoted_text_byte are_text_bytes value plain text in
     omega (arith, first, next (omega (arith, is)) (omega (arith, is)))
@@ -163,7 +163,7 @@ pub form_found : {value bytes : List ℕ} → bytes ≡ value → ((i : ℕ) →
     Some (if special == length value then Quoted else Escaped) else None)
     ≡ (if list_all is_quoted_byte value then Some (form_of value) else None)
 form_found {value} same few {plain} {text} token goes control special =
-    let passed : text ≤ prefix_len is_quoted_text_byte value = text_after value (rw same at token) (rw same at goes) in
+    let passed : text ≤ prefix_len is_quoted_text_byte value = text_passed value (rw same at token) (rw same at goes) in
     let wider : (b : ℕ) → is_quoted_text_byte b ≡ true → (is_quoted_byte b ≡ true) × (is_plain b ≡ true) =
     λ b is. and_parts (is_quoted_byte b) _ is in
     let rest = quoted_len (drop text value) (λ i. rw (get_or-drop text value i) (few (text + i))) in

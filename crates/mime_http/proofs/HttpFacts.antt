@@ -118,7 +118,7 @@ memory =
       anew_needs (letter_parts (codes "abcdefghijklmnopqrstuvwxyzabcdefgh"))
           (stopped-from_walk (codes "a/b;;p=abcdefghijklmnopqrstuvwxyzabcdefgh") refl) refl refl (omega arith),
       short_needs_none _ _ reads printed (omega arith),
-      λ needs. none (codes "a b") _ refl (needs.media, needs.is),
+      λ needs. none (codes "a b") _ refl (needs.0, needs.1),
     )
 
 -- Memory runs out for neither, and `a b` is rejected for its fault.

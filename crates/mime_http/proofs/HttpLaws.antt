@@ -67,7 +67,7 @@ stands value media reads = (reads_around value media (plain_is_http (trimmed val
 -- A value that the library reads without the white space around it needs memory if more than 40 bytes of it are kept.
 pub stands_needs : (value : List ℕ) → Explains (trimmed value) NoMemory → NeedsMemory value
 stands_needs value (media, reads, long) =
-    let (is, printed) = stands value media reads in record { media = media; is = is; printed = printed; long = long }
+    let (is, printed) = stands value media reads in (media, is, printed, long)
 
 module _ {value text : List ℕ} (parts : Parts) (isnt : ¬ (IsAccepted (trimmed value))) (answered : answer_of value ≡ read parts)
     (same : text ≡ text_of_parts parts) where
@@ -81,12 +81,12 @@ module _ {value text : List ℕ} (parts : Parts) (isnt : ¬ (IsAccepted (trimmed
   pub anew_needs : 40 < length text → NeedsMemory value
   anew_needs long =
       let (is, printed) = anew_is (media_of parts) (rw same (written_reads value parts answered)) in
-      record { media = media_of parts; is = is; printed = printed; long = omega (arith, long, ap length same, written_length parts) }
+      (media_of parts, is, printed, omega (arith, long, ap length same, written_length parts))
 
   -- It does if reading what is written does.
   pub reading_needs : Explains text NoMemory → NeedsMemory value
   reading_needs (media, reads, long) =
-      let (is, printed) = anew_is media reads in record { media = media; is = is; printed = printed; long = long }
+      let (is, printed) = anew_is media reads in (media, is, printed, long)
 
 -- ---- errors
 
@@ -100,9 +100,9 @@ error_is_memory value field.NoMemory utf8 is why = refl
 -- A media type of which at most 40 bytes are printed needs no memory.
 pub short_needs_none : (value : List ℕ) (media : MediaType) → HttpReads value media → IsPrinted value media
     → length media.kept ≤ 40 → ¬ (NeedsMemory value)
-short_needs_none value media reads printed few needs =
-    let same = one_printed_text value media needs.media reads printed needs.is needs.printed in
-    absurd (omega (arith, few, needs.long, ap (λ (it : MediaType). length it.kept) same))
+short_needs_none value media reads printed few (other, is, stands, long) =
+    let same = one_printed_text value media other reads printed is stands in
+    absurd (omega (arith, few, long, ap (λ (it : MediaType). length it.kept) same))
 
 -- A media type of which at most 40 bytes are printed has no error.
 pub short_has_none : {T : Type 0} (value : List ℕ) (media : MediaType) → IsUtf8 value → HttpReads value media

@@ -8,6 +8,7 @@ pub mod FieldErrors
 pub mod Highest
 pub mod HttpFacts
 pub mod HttpLaws
+pub mod LawLemmas
 pub mod LacksFacts
 pub mod Lists
 pub mod Missing

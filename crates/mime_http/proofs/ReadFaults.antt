@@ -48,8 +48,8 @@ explained_at_end state value is = (([], rw (append-nil value) (_, read_at_end st
 dead_at : (state : State) (front : List ℕ) (b : ℕ) (bytes : List ℕ) → next state b ≡ None → IsHttpViable front
     → ((more : List ℕ) → answer_of (front ++ more) ≡ answer_from state (length front) more)
     → IsHttpFault (front ++ (b ∷ bytes)) (InvalidToken (length front) b)
-dead_at state front b bytes stops viable goes = record {
-  prefix = record {
+dead_at state front b bytes stops viable goes = (
+  record {
     within = omega (arith, length-append front (b ∷ bytes));
     viable = rw take-append_seam viable;
     longest = λ n above within viable.
@@ -58,9 +58,9 @@ dead_at state front b bytes stops viable goes = record {
         let text : take n (front ++ (b ∷ bytes)) ++ viable.0 ≡ front ++ (b ∷ (take k bytes ++ viable.0)) =
         grind (arith, take-append-add front (b ∷ bytes) (suc k), append_assoc) in
         rejected_is_none _ _ (ap answer_of text ∙ goes _ ∙ no_way state (length front) b _ stops) viable.1;
-  };
-  there = slice_get-prefix front b bytes (length front) refl;
-}
+  },
+  slice_get-prefix front b bytes (length front) refl,
+)
 
 -- The answer from a state on explains the value.
 explained_from : (bytes : List ℕ) (state : State) (at : ℕ) (front : List ℕ) → at ≡ length front → Spells state front
@@ -135,11 +135,11 @@ fault_answered value (InvalidToken pos byte) dead = by_answer (answer_of value)
   where
     not_viable : ¬ (IsHttpViable value)
     not_viable viable =
-        dead.prefix.longest (length value) (slice_get_within value pos byte dead.there) (omega arith) (rw (take-length value) viable)
+        dead.0.longest (length value) (slice_get_within value pos byte dead.1) (omega arith) (rw (take-length value) viable)
 
     found : (fault : ParseError) → IsHttpFault value fault → rejected fault ≡ rejected (InvalidToken pos byte)
     found (InvalidToken place other) is =
-        let same : place ≡ pos = grind (arith, is.prefix.longest pos, dead.prefix.longest place) in cc (same, is.there, dead.there)
+        let same : place ≡ pos = grind (arith, is.0.longest pos, dead.0.longest place) in cc (same, is.1, dead.1)
     found NoMemory lacks = absurd lacks.0
     found fault lacks = absurd (not_viable (_, lacks.0))
 fault_answered value NoMemory lacks = absurd lacks.0

@@ -1,6 +1,6 @@
 -- The laws of a header's value: what it is, what is printed of it, and its fault.
 use Rattle.std.specs.Prelude.{◌≡◌, ℕ, List}
-use Rattle.mime.specs.{Values.MediaType, Values.Reads, Comparison.Same, declared.scan.fault.ParseError.ParseError}
+use Rattle.mime.specs.{Values.MediaType, Values.Reads, Comparison.Same, Laws.ExactlyOne}
 use Rattle.mime_http.specs.{HttpMediaType.HttpReads, HttpMediaType.IsHttpMediaType, HttpList.IsPrinted, HttpFaults.IsHttpFault}
 
 -- HTTP allows whatever `mime` reads, as the same media type.
@@ -23,5 +23,4 @@ PrintedIsRead = (value : List ℕ) (media : MediaType) → HttpReads value media
 
 -- A value that HTTP doesn't allow has exactly one fault.
 abbrev pub OneHttpFault : Type 0
-OneHttpFault = (value : List ℕ) → ¬ (IsHttpMediaType value)
-    → (fault : ParseError) × IsHttpFault value fault × ((other : ParseError) → IsHttpFault value other → other ≡ fault)
+OneHttpFault = (value : List ℕ) → ¬ (IsHttpMediaType value) → ExactlyOne (IsHttpFault value)

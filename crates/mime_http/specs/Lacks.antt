@@ -16,8 +16,7 @@ is_above (Some one) (Some other) = nat_lt other.0 one.0 || (one.0 == other.0 && 
 
 -- the first parameter that a range demands and an offer lacks, if the range is more specific than the one that decides
 abbrev pub lacked : MediaType → Option MediaType → MediaType → Option (List ℕ × List ℕ)
-lacked range decider offer =
-    if is_above (specificity offer range) (option_and_then (specificity offer) decider)
+lacked range decider offer = if is_above (specificity offer range) (option_and_then (specificity offer) decider)
     then find (λ pair. not (has offer pair)) (demanded range.pairs) else None
 
 -- whether bytes begin with a label, ignoring ASCII case
@@ -29,6 +28,5 @@ begins label bytes = str_eq_ignore_ascii_case (take (length label) bytes) label
 abbrev pub is_quoted : Bool → Bool → List ℕ → Bool
 is_quoted inside paired [] = false
 is_quoted inside paired (b ∷ bytes) =
-    if not (inside || paired) && (b == semicolon_byte && begins (codes "q=") (trimmed bytes))
-    then begins (codes "q=\"") (trimmed bytes)
+    if not (inside || paired) && (b == semicolon_byte && begins (codes "q=") (trimmed bytes)) then begins (codes "q=\"") (trimmed bytes)
     else is_quoted (if b == quote_byte && not paired then not inside else inside) (b == backslash_byte && not paired) bytes

@@ -1,13 +1,12 @@
 -- The laws of a header whose lines are lists.
 use Rattle.std.specs.Prelude.{◌≡◌, ◌≢◌, ℕ, List, [], ◌∷◌, ◌++◌, map, ⊤}
 use Rattle.std.specs.Str.{IsUtf8}
-use Rattle.mime.specs.{Grammar.AreSpaces, Values.MediaType}
+use Rattle.mime.specs.{Grammar.AreSpaces, Values.MediaType, Laws.ExactlyOne}
 use Rattle.mime_http.specs.{HttpMediaType.HttpReads, HttpMediaType.IsHttpMediaType, HttpList.lines_or_any, HttpList.AreBetweenCommas, HttpList.trimmed, HttpList.AreSorted, HttpList.IsPiece, HttpList.BeginsPiece, HttpList.Header, HttpList.IsHeader, HttpList.IsFirstBad}
 
 -- Lines have exactly one cut into pieces.
 abbrev pub OneCut : Type 0
-OneCut = (lines : List (List ℕ)) → (pieces : List (List ℕ)) × AreBetweenCommas IsPiece BeginsPiece lines pieces
-    × ((other : List (List ℕ)) → AreBetweenCommas IsPiece BeginsPiece lines other → other ≡ pieces)
+OneCut = (lines : List (List ℕ)) → ExactlyOne (AreBetweenCommas IsPiece BeginsPiece lines)
 
 -- texts that are elements, each a media range with its weight, or only white space
 pub data AreElements : List (List ℕ) → List MediaType → Type 0 where
@@ -24,11 +23,8 @@ pub record AreHttpLists (lines : List (List ℕ)) (media : List MediaType) : Typ
   pub elements : AreElements texts media
 
 -- the same media types in the same order; their kept texts may differ
-abbrev pub without_kept : MediaType → MediaType
-without_kept media = record media { kept = [] }
-
 abbrev pub AreSame : List MediaType → List MediaType → Type 0
-AreSame all others = map without_kept all ≡ map without_kept others
+AreSame all others = let bare : MediaType → MediaType = λ media. record media { kept = [] } in map bare all ≡ map bare others
 
 -- Lists that HTTP allows are read as their elements, and no entry is bad.
 abbrev pub HttpListsAreRead : Type 0

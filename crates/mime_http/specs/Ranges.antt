@@ -14,8 +14,7 @@ weight_of range = unwrap_or (option_map thousandths_of (first_value (codes "q") 
 
 -- how many parts of an offer's essence a range names, if it covers that: `*/*` none, `text/*` the type, `text/html` both
 abbrev pub named_parts : MediaType → MediaType → Option ℕ
-named_parts range offer =
-    if bytes_eq range.essence (codes "*/*") then Some 0 else
+named_parts range offer = if bytes_eq range.essence (codes "*/*") then Some 0 else
     if bytes_eq range.essence (type_of offer ++ codes "/*") then Some 1 else
     if bytes_eq range.essence offer.essence then Some 2 else None
 
@@ -37,10 +36,8 @@ rank_cmp = then_cmp (then_cmp (then_cmp (on (λ r. r.0) nat_cmp) (on (λ r. r.1)
 -- how specific a range at a position is that covers an offer: by the parts that it names, then by the parameters that it demands; of
 -- equally specific ranges the one with the higher weight counts, and of those the later
 abbrev pub closeness : MediaType → ℕ × MediaType → Option Rank
-closeness offer item =
-    if list_all (has offer) (demanded item.1.pairs)
-    then option_map (λ named. (named, length (demanded item.1.pairs), weight_of item.1, item.0)) (named_parts item.1 offer)
-    else None
+closeness offer item = if list_all (has offer) (demanded item.1.pairs)
+    then option_map (λ named. (named, length (demanded item.1.pairs), weight_of item.1, item.0)) (named_parts item.1 offer) else None
 
 -- the most specific range is the one that no other is more specific than
 abbrev pub closest : List MediaType → MediaType → Option Rank

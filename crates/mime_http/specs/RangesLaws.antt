@@ -81,15 +81,13 @@ pub record MeanTheSame (media other : MediaType) : Type 0 where
 -- How specific a range is for an offer doesn't change if both are written differently and mean the same, unless the weight changes, which
 -- is read as it is written.
 abbrev pub MeaningCounts : Type 0
-MeaningCounts =
-    (range other offer offered : MediaType) (at : ℕ) → MeanTheSame range other → MeanTheSame offer offered
+MeaningCounts = (range other offer offered : MediaType) (at : ℕ) → MeanTheSame range other → MeanTheSame offer offered
     → weight_of range ≡ weight_of other → closeness offer (at, range) ≡ closeness offered (at, other)
 
 -- A range that covers none of the offers changes neither their weights nor which is the best nor their order, wherever it is and
 -- whatever it weighs.
 abbrev pub StrangerChangesNothing : Type 0
-StrangerChangesNothing =
-    (before after offers : List MediaType) (range : MediaType)
+StrangerChangesNothing = (before after offers : List MediaType) (range : MediaType)
     → ((offer : MediaType) → Contains offers offer → closeness offer (0, range) ≡ None)
     → ((offer : MediaType) → Contains offers offer → given_weight (before ++ (range ∷ after)) offer ≡ given_weight (before ++ after) offer)
     × (best_offer (before ++ (range ∷ after)) offers ≡ best_offer (before ++ after) offers)

@@ -6,8 +6,7 @@ use Rattle.mime_http.specs.{Ranges.Rank, Ranges.ComesBefore, Ranges.closeness, R
 
 -- what the rank of an offer at a position says: its weight, and the position of the range that decides, which the rank counts from the end
 abbrev pub ranked_as : ℕ → Rank → ℕ → RankedOffer
-ranked_as count rank at =
-    record { offer = at; weight = rank.0; range = if rank.3 == 0 then None else Some (count - rank.3) }
+ranked_as count rank at = record { offer = at; weight = rank.0; range = if rank.3 == 0 then None else Some (count - rank.3) }
 
 -- all offers with their weights and the ranges that decide, in order
 pub record IsRanking (ranges offers : List MediaType) (ranking : List RankedOffer) : Type 0 where

@@ -5,11 +5,8 @@ use Rattle.mime.specs.{Bytes.is_token_byte, Bytes.equals_byte, Bytes.quote_byte,
 use Rattle.mime_http.specs.Unescaped.{unescaped}
 
 -- the content of a quoted string that means these bytes: a backslash before each quote and each backslash
-abbrev pub escaped_byte : ℕ → List ℕ
-escaped_byte b = if b == quote_byte || b == backslash_byte then backslash_byte ∷ b ∷ [] else b ∷ []
-
 abbrev pub escaped : List ℕ → List ℕ
-escaped bytes = flat_map escaped_byte bytes
+escaped bytes = flat_map (λ b. if b == quote_byte || b == backslash_byte then backslash_byte ∷ b ∷ [] else b ∷ []) bytes
 
 -- whether a value is a token, and what is written on both sides of it: nothing, or else a quote
 abbrev pub is_token_value : List ℕ → Bool

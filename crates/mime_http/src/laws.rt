@@ -1,4 +1,5 @@
 //! The laws of the definitions and of `FieldError`, as functions. A caller of such a function can use the law in its own proof.
+#![tactic(auto, using(crate::proofs::LawLemmas::laws))]
 
 ghost use Rattle.std.specs.Prelude.{◌≡◌};
 ghost use Rattle.mime_http.specs.{HeaderLaws.PlainIsHttp, HeaderLaws.OneHttpReading, HeaderLaws.OnePrintedText, HeaderLaws.PrintedIsRead, HeaderLaws.OneHttpFault, ListLaws.OneCut, ListLaws.HttpListsAreRead, ListLaws.ReadAreHttpLists, ListLaws.OneHeader, ListLaws.OneFirstBad, ListLaws.BadIsAlone, Written.WrittenIsMeant, RangesLaws.ClosestIsClosest, RangesLaws.BestIsAcceptable, RangesLaws.BestIsFirst, RangesLaws.NoneIsBest, RangesLaws.OneOrder, RangesLaws.OneRanking, RangesLaws.BestIsRankedFirst, RangesLaws.CoversItself, RangesLaws.MeaningCounts, RangesLaws.StrangerChangesNothing, RangesLaws.QvaluesAre, RangesLaws.WeightIsNumber};
@@ -8,7 +9,6 @@ use crate::ranking::RankedOffer;
 use crate::value::FieldError;
 
 /// HTTP allows each text that `mime` accepts, such as `a/b; p=x;`, and defines the same media type for it.
-#[tactic(auto, using(crate::proofs::PlainIsHttp::plain_is_http))]
 pub fn plain_is_http()
     ensures { PlainIsHttp }
 {}
@@ -31,25 +31,21 @@ pub fn printed_is_read()
 
 /// A value that isn't a media type has exactly one fault. The fault of `   a/b c` is its byte at position 7, counted from 0 (RFC 9110,
 /// 8.3.1).
-#[tactic(auto, using(crate::proofs::ReadFaults::one_http_fault))]
 pub fn one_http_fault()
     ensures { OneHttpFault }
 {}
 
 /// Lines can be cut into pieces in exactly one way. `a/b;p="x,y",c/d` is cut into two pieces.
-#[tactic(auto, using(crate::proofs::Cuts::one_cut))]
 pub fn one_cut()
     ensures { OneCut }
 {}
 
 /// A list that HTTP allows is read as its entries, none of them bad: `,a/b ,, c/d;q=0.5` has `a/b` and `c/d;q=0.5` (RFC 9110, 5.6.1.2).
-#[tactic(auto, using(crate::proofs::Lists::http_lists_are_read))]
 pub fn http_lists_are_read()
     ensures { HttpListsAreRead }
 {}
 
 /// Lines without a bad entry are lists that HTTP allows.
-#[tactic(auto, using(crate::proofs::Lists::read_are_http_lists))]
 pub fn read_are_http_lists()
     ensures { ReadAreHttpLists }
 {}
@@ -65,37 +61,31 @@ pub fn one_first_bad()
 {}
 
 /// A bad entry, wherever it is, changes no other entry and no offer's weight: `c/d, a b` and `c/d` have the same ranges.
-#[tactic(auto, using(crate::proofs::Lists::bad_is_alone))]
 pub fn bad_is_alone()
     ensures { BadIsAlone }
 {}
 
 /// The most specific range covers the offer, and no range that covers it is more specific.
-#[tactic(auto, using(crate::proofs::Highest::closest_is_closest))]
 pub fn closest_is_closest()
     ensures { ClosestIsClosest }
 {}
 
 /// A written value means the value that was passed, or that value in lowercase for a `charset` (RFC 9110, 5.6.4).
-#[tactic(auto, using(crate::proofs::Contents::written_is_meant))]
 pub fn written_is_meant()
     ensures { WrittenIsMeant }
 {}
 
 /// The best offer is acceptable: it weighs more than 0 (RFC 9110, 12.4.2).
-#[tactic(auto, using(crate::proofs::Order::best_is_acceptable))]
 pub fn best_is_acceptable()
     ensures { BestIsAcceptable }
 {}
 
 /// The best offer is the first in the order of all offers that weigh more than 0.
-#[tactic(auto, using(crate::proofs::Order::best_is_first))]
 pub fn best_is_first()
     ensures { BestIsFirst }
 {}
 
 /// No offer is the best exactly if every offer weighs 0.
-#[tactic(auto, using(crate::proofs::Order::none_is_best))]
 pub fn none_is_best()
     ensures { NoneIsBest }
 {}
@@ -111,32 +101,27 @@ pub fn one_ranking()
 {}
 
 /// The first offer of a ranking is the best, unless it weighs 0. Then every offer weighs 0, and none is the best.
-#[tactic(auto, using(crate::proofs::Order::best_is_ranked_first))]
 pub fn best_is_ranked_first()
     ensures { BestIsRankedFirst }
 {}
 
 /// Each media type covers itself, even `a/b;p=1;p=2`.
-#[tactic(auto, using(crate::proofs::Demanded::covers_itself))]
 pub fn covers_itself()
     ensures { CoversItself }
 {}
 
 /// What a range and an offer mean, and the range's weight, determine whether the range covers the offer, and how specific it is:
 /// `a/b;p="\x"` covers `a/b;p=x` as `a/b;p=x` does (RFC 9110, 5.6.4).
-#[tactic(auto, using(crate::proofs::Demanded::meaning_counts))]
 pub fn meaning_counts()
     ensures { MeaningCounts }
 {}
 
 /// `has_weight` tests the value of `q` for exactly the weights that RFC 9110 allows (12.4.2).
-#[tactic(auto, using(crate::proofs::Numbers::qvalues_are))]
 pub fn qvalues_are()
     ensures { QvaluesAre }
 {}
 
 /// A weight that RFC 9110 allows counts as its number, in thousandths: `0.25` as 250, and `1.` as 1000 (12.4.2).
-#[tactic(auto, using(crate::proofs::Numbers::weight_is_number))]
 pub fn weight_is_number()
     ensures { WeightIsNumber }
 {}

@@ -8,7 +8,7 @@ ghost use Rattle.mime.specs.Faults.{Explains};
 ghost use Rattle.mime_http.specs.HttpMediaType.{HttpReads, IsHttpMediaType};
 ghost use Rattle.mime_http.specs.HttpList.{trimmed, IsPrinted};
 ghost use Rattle.mime_http.specs.HttpFaults.{HttpExplains, IsHttpFault, fault_position};
-ghost use Rattle.mime_http.specs.HttpPrinted.{not_utf8_text};
+ghost use Rattle.mime_http.specs.{HttpPrinted.field_error_text, declared.value.FieldError.TheVariants.NotUtf8};
 
 use crate::list::{is_space, trim_end, trim_start};
 use crate::reader::write_anew;
@@ -35,7 +35,7 @@ pub enum FieldError {
 
 /// Returns the text that is printed for `NotUtf8`, at most 54 bytes. The caller's formatter isn't used: its width would pad the number.
 fn not_utf8_text(pos: usize) -> Result<InlineText<64>, fmt::Error>
-    ensures { IfOk result (λ text. inline_text text ≡ not_utf8_text pos) }
+    ensures { IfOk result (λ text. inline_text text ≡ field_error_text (NotUtf8 pos)) }
 {
     let mut text = InlineText::new();
     write!(text, "the value isn't UTF-8 at position {pos}")?;
@@ -45,8 +45,6 @@ fn not_utf8_text(pos: usize) -> Result<InlineText<64>, fmt::Error>
 /// Prints `mime parse error: ` and the fault, `the value isn't UTF-8 at position ` and `pos`, or `memory ran out`. Ignores a width and a
 /// precision.
 impl fmt::Display for FieldError {
-    ghost use Rattle.mime_http.specs.HttpPrinted.{field_error_text};
-
     ghost output = { λ error. Some (field_error_text error) };
 
     ghost styled_output = { λ error spec. Some (field_error_text error) };

@@ -20,8 +20,7 @@ const AT_ONCE: usize = 8192;
 /// Reads a source to its end, but at most one byte past the limit, and returns the bytes read.
 ///
 /// # Errors
-/// Returns `Read` if the source fails, `TooLong` if it has more bytes than the limit, and `NoMemory` if memory runs
-/// out.
+/// Returns `Read` if the source fails, `TooLong` if it has more bytes than the limit, and `NoMemory` if memory runs out.
 pub fn read_to_limit<S: Source>(alloc: Global, source: &mut S) -> Result<Vec<u8>, RunError>
     // On success, all bytes that were left have been read, and no more than the limit.
     ensures bytes { IfOk result (λ input. Consumes (S.left source.old) (S.left source.new) input.items) }

@@ -1,5 +1,4 @@
-//! The laws of the public types, as a function that does nothing. A caller of this function can use the laws in a
-//! proof.
+//! The laws of the public types, as a function that does nothing. A caller of this function can use the laws in a proof.
 
 ghost use Rattle.std.specs.Prelude.{◌≡◌};
 

@@ -1,5 +1,5 @@
 -- What the program writes of the bytes that it reads: a report on each line, in order.
-use Rattle.std.specs.Prelude.{ℕ, List, [], ◌∷◌, ◌++◌, codes}
+use Rattle.std.specs.Prelude.{ℕ, List, [], ◌∷◌, ◌++◌, codes, flat_map}
 use Rattle.std.specs.Str.{IsUtf8}
 use Rattle.mime.specs.Values.{MediaType, type_of, subtype_of, suffix_of, Reads}
 use Rattle.mime.specs.Faults.{IsFault}
@@ -10,17 +10,12 @@ use Rattle.mime_io.specs.Lines.{lines_of, row, suffix_row}
 use Rattle.mime_lines.specs.declared.mode.Mode.{Mode}
 
 abbrev pub param_rows : List (List ℕ × List ℕ) → List ℕ
-param_rows [] = []
-param_rows ((name, value) ∷ pairs) = row (codes "param ") (name ++ (codes "=" ++ value)) ++ param_rows pairs
+param_rows pairs = flat_map (λ pair. row (codes "param ") (pair.0 ++ (codes "=" ++ pair.1))) pairs
 
 -- the rows of a value: its kept text, its type, its subtype, its suffix if there is one, and each parameter
 abbrev pub value_rows : MediaType → List ℕ
-value_rows value =
-    row (codes "ok ") value.kept
-    ++ (row (codes "type ") (type_of value)
-    ++ (row (codes "subtype ") (subtype_of value)
-    ++ (suffix_row (suffix_of value)
-    ++ param_rows value.pairs)))
+value_rows value = row (codes "ok ") value.kept ++ (row (codes "type ") (type_of value)
+    ++ (row (codes "subtype ") (subtype_of value) ++ (suffix_row (suffix_of value) ++ param_rows value.pairs)))
 
 -- the row of an item of a list: the kept text of a media type, or a bad piece
 abbrev pub item_row : CutItem → List ℕ
@@ -28,8 +23,7 @@ item_row (good piece value) = row (codes "ok ") value.kept
 item_row (bad piece) = row (codes "bad ") piece
 
 abbrev pub item_rows : List CutItem → List ℕ
-item_rows [] = []
-item_rows (item ∷ items) = item_row item ++ item_rows items
+item_rows items = flat_map item_row items
 
 -- what is written of a text: in mode `Parts` the rows of its value, or its fault; in mode `List` the rows of its cut's items
 pub data ReportsText : Mode → List ℕ → List ℕ → Type 0 where

@@ -19,8 +19,7 @@ use std::env;
 use std::env::Args;
 use std::process::ExitCode;
 
-/// Returns the mode that the arguments select, or `None` if they select no mode. The first argument is the program's
-/// name.
+/// Returns the mode that the arguments select, or `None` if they select no mode. The first argument is the program's name.
 fn asked_mode(mut arguments: Args) -> Option<Mode>
     ensures parts { into_iter_len arguments ≤ 1 → result ≡ Some Mode.Parts }
     // The argument after the program's name selects the mode.

@@ -14,18 +14,16 @@ use std::alloc::Global;
 /// lines `ok a/b`, `type a` and `subtype b` in [`Mode::Parts`], and only `ok a/b` in [`Mode::List`].
 ///
 /// # Errors
-/// Returns `Read` if the source fails, `Write` if the sink fails, `TooLong` if the source has more than 1,048,576
-/// bytes, and `NoMemory` if memory runs out, whichever happens first. A failed call isn't repeated. Unless the error is
-/// `Write`, nothing has been written.
+/// Returns `Read` if the source fails, `Write` if the sink fails, `TooLong` if the source has more than 1,048,576 bytes, and `NoMemory` if
+/// memory runs out, whichever happens first. A failed call isn't repeated. Unless the error is `Write`, nothing has been written.
 pub fn run<S: Source, T: Sink>(
     alloc: Global,
     source: &mut S,
     sink: &mut T,
     mode: Mode,
 ) -> Result<(), RunError>
-    // A run that succeeds has read bytes to the end of the source, and no more than the limit. It has written the
-    // report on these bytes and nothing else, and has flushed the sink. This also holds for a source or a sink that
-    // doesn't say which bytes it has.
+    // A run that succeeds has read bytes to the end of the source, and no more than the limit. It has written the report on these bytes and
+    // nothing else, and has flushed the sink. This also holds for a source or a sink that doesn't say which bytes it has.
     ensures whole { OnOk result ((bytes : List ℕ) × (text : List ℕ)
         × Consumes (S.left source.old) (S.left source.new) bytes × (length bytes ≤ limit)
         × IsReportOf mode bytes text × Appends (T.held sink.old) (T.held sink.new) text) }

@@ -3,7 +3,7 @@ use Rattle.std.proofs.Common.{◌≡◌, ℕ, false, Bool, suc, ◌+◌, ◌-◌
 use Rattle.std.proofs.{Math.Seq.take-append_seam, Math.Seq.take-append-add, Math.Seq.take-length, lemmas.Bool.cond-false, lemmas.Bool.false≢true, lemmas.Option.none-some, lemmas.Option.option_and_then_some, lemmas.Option.slice_get_within}
 use Rattle.std.specs.Prelude.{IsTrue, is_some}
 use Rattle.std.specs.Option.{option_and_then, option_map}
-use Rattle.mime.specs.{Bytes.is_token_byte, Bytes.is_quoted_byte, Bytes.quote_byte, Grammar.SyntaxTree, Values.value_of, Values.IsAccepted, Values.IsRejected, Faults.IsViable, Faults.IsLongestPrefix, Faults.Lacks, Faults.IsDeadAt, Faults.IsFault, Laws.EmptyIsViable, Laws.PrefixOfViableIsViable, Laws.AcceptedIsViable, declared.scan.fault.ParseError.ParseError, declared.scan.fault.ParseError.TheVariants.InvalidToken, Inner.Quoted.takes_all, Inner.Quoted.awaits_after, Inner.Quoted.continues}
+use Rattle.mime.specs.{Bytes.is_token_byte, Bytes.is_quoted_byte, Bytes.quote_byte, Grammar.SyntaxTree, Values.value_of, Values.IsAccepted, Values.IsRejected, Faults.IsViable, Faults.IsLongest, Faults.IsLongestPrefix, Faults.Lacks, Faults.IsDeadAt, Faults.IsFault, Laws.EmptyIsViable, Laws.PrefixOfViableIsViable, Laws.AcceptedIsViable, declared.scan.fault.ParseError.ParseError, declared.scan.fault.ParseError.TheVariants.InvalidToken, Inner.Quoted.takes_all, Inner.Quoted.awaits_after, Inner.Quoted.continues}
 use Rattle.mime.proofs.{GrammarLemmas.Begun.Closed, GrammarLemmas.Begun.Begun, GrammarLemmas.Begun.in_type, GrammarLemmas.Begun.in_subtype, GrammarLemmas.Begun.in_list, GrammarLemmas.Begun.ListState, GrammarLemmas.Begun.in_name, GrammarLemmas.Begun.in_value, GrammarLemmas.Begun.in_quotes, GrammarLemmas.Begun.list_at, GrammarLemmas.Begun.grow, GrammarLemmas.Begun.walk, GrammarLemmas.Begun.walk_from, GrammarLemmas.Begun.tree_of, GrammarLemmas.Begun.lacking, GrammarLemmas.Begun.lacking_list, GrammarLemmas.Begun.walk_by-step, GrammarLemmas.Begun.walk_by-append, GrammarLemmas.Begun.walk_by-append_some, GrammarLemmas.Begun.walk_from-in_list, GrammarLemmas.Begun.walk_list-open, GrammarLemmas.Content.takes_all-any, GrammarLemmas.Content.closed-letter, GrammarLemmas.Spelling.before_equals, GrammarLemmas.Spelling.spelled-from_walk, GrammarLemmas.Spelling.text-in_value, GrammarLemmas.Readings.accepted-from_walk, GrammarLemmas.Readings.walk-accepted, GrammarLemmas.Readings.stopped-from_walk, BytesLemmas.slice_get-prefix}
 
 -- an option is none or some
@@ -148,8 +148,8 @@ prefix-from_walk prefix rest b begun walked dead = record {
       ∙ ap (option_and_then (λ next. walk_from next (take k rest))) dead) (subst IsViable text viable);
 }
 
--- a text has at most one prefix
-pub prefix_unique : (text : List ℕ) (m n : ℕ) → IsLongestPrefix text m → IsLongestPrefix text n → m ≡ n
+-- A text has at most one longest prefix of a kind.
+pub prefix_unique : {Viable : List ℕ → Type 0} (text : List ℕ) (m n : ℕ) → IsLongest Viable text m → IsLongest Viable text n → m ≡ n
 prefix_unique text m n first second =
     let not_below : ¬ (m < n) = λ below. first.longest n below second.within second.viable in
     let not_above : ¬ (n < m) = λ above. second.longest m above first.within first.viable in

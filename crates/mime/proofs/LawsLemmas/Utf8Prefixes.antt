@@ -1,10 +1,10 @@
 -- The longest viable prefix of a text of valid UTF-8 can be completed to a text of valid UTF-8.
-use Rattle.std.proofs.Common.{◌≡◌, ℕ, List, [], ◌++◌, take, Some, None, refl, sym, subst, append-nil, ⊎_elim, codes, ◌<◌, arith}
+use Rattle.std.proofs.Common.{ℕ, List, [], ◌++◌, take, Some, None, refl, sym, subst, append-nil, ⊎_elim, codes}
 use Rattle.std.proofs.lemmas.Str.{IsUtf8-append, IsUtf8-take}
 use Rattle.std.specs.Prelude.{MatchOption}
 use Rattle.std.specs.Str.{IsUtf8}
-use Rattle.mime.specs.{Values.IsAccepted, Faults.IsViable, Faults.IsLongestPrefix, Faults.completion_of, Faults.Lacks, Laws.IsViableInUtf8, Laws.IsLongestPrefixInUtf8, Laws.PrefixIsInUtf8, declared.scan.fault.ParseError.ParseError, declared.scan.fault.ParseError.TheVariants.MissingSlash, declared.scan.fault.ParseError.TheVariants.MissingSubtype, declared.scan.fault.ParseError.TheVariants.MissingEqual, declared.scan.fault.ParseError.TheVariants.MissingValue, declared.scan.fault.ParseError.TheVariants.MissingQuote}
-use Rattle.mime.proofs.{GrammarLemmas.Characters.prefix_ends_between_characters, CutLemmas.Cuts.accepted_or_rejected, GrammarLemmas.Faults.one_completion, GrammarLemmas.Faults.one_longest_prefix}
+use Rattle.mime.specs.{Values.IsAccepted, Faults.IsViable, Faults.IsLongest, Faults.IsLongestPrefix, Faults.completion_of, Faults.Lacks, Laws.IsViableInUtf8, Laws.PrefixIsInUtf8, declared.scan.fault.ParseError.ParseError, declared.scan.fault.ParseError.TheVariants.MissingSlash, declared.scan.fault.ParseError.TheVariants.MissingSubtype, declared.scan.fault.ParseError.TheVariants.MissingEqual, declared.scan.fault.ParseError.TheVariants.MissingValue, declared.scan.fault.ParseError.TheVariants.MissingQuote}
+use Rattle.mime.proofs.{GrammarLemmas.Characters.prefix_ends_between_characters, CutLemmas.Cuts.accepted_or_rejected, GrammarLemmas.Faults.one_completion, GrammarLemmas.Faults.one_longest_prefix, GrammarLemmas.Viability.prefix_unique}
 use lib.Utf8.{encode}
 
 -- what completes a text is ASCII
@@ -35,7 +35,7 @@ viable-in_utf8 prefix utf8 viable =
     (accepted_or_rejected prefix)
 
 -- the longest viable prefix is completed to a text of valid UTF-8
-prefix-in_utf8 : (text : List ℕ) (count : ℕ) → IsUtf8 text → IsLongestPrefix text count → IsLongestPrefixInUtf8 text count
+prefix-in_utf8 : (text : List ℕ) (count : ℕ) → IsUtf8 text → IsLongestPrefix text count → IsLongest IsViableInUtf8 text count
 prefix-in_utf8 text count utf8 prefix = record {
   within = prefix.within;
   viable = viable-in_utf8 (take count text)
@@ -43,18 +43,11 @@ prefix-in_utf8 text count utf8 prefix = record {
   longest = λ n above within viable. prefix.longest n above within (viable.0, viable.2);
 }
 
--- a text has one prefix that is completed to a text of valid UTF-8
-prefix_in_utf8-unique : (text : List ℕ) (m n : ℕ) → IsLongestPrefixInUtf8 text m → IsLongestPrefixInUtf8 text n → m ≡ n
-prefix_in_utf8-unique text m n first second =
-    let not_below : ¬ (m < n) = λ below. first.longest n below second.within second.viable in
-    let not_above : ¬ (n < m) = λ above. second.longest m above first.within first.viable in
-    omega arith
-
 -- the two fronts are the same
 pub prefix_is_in_utf8 : PrefixIsInUtf8
 prefix_is_in_utf8 text count utf8 = (
   prefix-in_utf8 text count utf8,
   λ other.
       let one = one_longest_prefix text in
-      subst (IsLongestPrefix text) (prefix_in_utf8-unique text one.0 count (prefix-in_utf8 text one.0 utf8 one.1) other) one.1,
+      subst (IsLongestPrefix text) (prefix_unique text one.0 count (prefix-in_utf8 text one.0 utf8 one.1) other) one.1,
 )

@@ -1,8 +1,8 @@
 -- The order of values, with the laws of `Before` and `Same`, and two iterators that std's `eq` compares.
-use Rattle.std.proofs.{lemmas.Grind.common_steps, lemmas.Map.Lookups.exact_bytes, lemmas.Map.Lookups.exact_pairs, lemmas.Bool.true≢false, lemmas.Bool.Decides.same_from_decides}
-use Rattle.std.proofs.Common.{arith, length, slice_index, take, zero, suc, ℕ, ◌≡◌, ◌<◌, ◌⊎◌, inl, inr, Bool, true, false, IsTrue, ◌↔◌, List, [], ◌∷◌, refl, sym, ap, ◌∙◌, subst, true≢false, Option, rules}
-use Rattle.std.specs.{declared.cmp.Ordering.Ordering, declared.cmp.Ordering.TheVariants.Less, declared.cmp.Ordering.TheVariants.Equal, declared.cmp.Ordering.TheVariants.Greater, Cmp.IsTotalOrder, Cmp.tied_itself, Cmp.nat_cmp_total, FinMap.IsAntisymmetric, FinMap.nat_cmp-IsAntisymmetric, Cmp.Lexicographic.slice_cmp, Cmp.Lexicographic.nat_list_cmp_total, Ordering.MatchOrdering, Ordering.nat_cmp, Ordering.ordering_then, Ordering.is_eq, Ordering.is_lt, Ordering.eq_by_cmp, Ordering.ordering_reverse, Iterator.YieldsFirstBy, Iterator.YieldsThen, Iterator.ComparesItemsByEq, List.AllZip}
-use Rattle.mime.specs.{Values.MediaType, Comparison.Same, Comparison.IsListBefore, Comparison.IsTextBefore, Comparison.IsPairBefore, Comparison.Before, Comparison.pair_cmp, Comparison.media_cmp, Laws.OneOf, Inner.OrderLaws.same_from_cmp, Inner.OrderLaws.media_cmp_total}
+use Rattle.std.proofs.{lemmas.Grind.common_steps, lemmas.Map.Lookups.exact_bytes, lemmas.Map.Lookups.exact_pairs, lemmas.Bool.Decides.same_from_decides}
+use Rattle.std.proofs.Common.{arith, length, slice_index, take, zero, suc, ℕ, ◌≡◌, ◌<◌, ◌⊎◌, Bool, true, false, IsTrue, ◌↔◌, List, [], ◌∷◌, refl, sym, ap, ◌∙◌, subst, Option, rules}
+use Rattle.std.specs.{declared.cmp.Ordering.Ordering, declared.cmp.Ordering.TheVariants.Less, declared.cmp.Ordering.TheVariants.Equal, declared.cmp.Ordering.TheVariants.Greater, Cmp.IsTotalOrder, Cmp.tied_itself, Cmp.nat_cmp_total, FinMap.IsAntisymmetric, FinMap.nat_cmp-IsAntisymmetric, Cmp.Lexicographic.slice_cmp, Cmp.Lexicographic.nat_list_cmp_total, Ordering.MatchOrdering, Ordering.nat_cmp, Ordering.ordering_then, Ordering.is_eq, Ordering.eq_by_cmp, Ordering.ordering_reverse, Iterator.YieldsFirstBy, Iterator.YieldsThen, Iterator.ComparesItemsByEq, List.AllZip}
+use Rattle.mime.specs.{Values.MediaType, Comparison.Same, Comparison.IsListBefore, Comparison.IsTextBefore, Comparison.IsPairBefore, Comparison.Before, Comparison.pair_cmp, Comparison.media_cmp, Comparison.IsOrderOf, Laws.OneOrder, Inner.OrderLaws.same_from_cmp, Inner.OrderLaws.media_cmp_total}
 use Rattle.std.specs.Prelude.{MatchOption, IfSome}
 use Rattle.mime.proofs.BytesLemmas.{cons_parts}
 use Rattle.mime_search.specs.Differences.{DifferAt}
@@ -70,16 +70,6 @@ tells_answer x y answer is = subst (λ order. MatchOrdering order (Before x y) (
 pub equal-media : (x y : MediaType) → Same x y → media_cmp x y ≡ Equal
 equal-media x y same = cc (same.0, same.1, tied_itself media_cmp_total y)
 
--- neither of two equal values is before the other
-Before-not_same : (x y : MediaType) → Before x y → ¬ (Same x y)
-Before-not_same x y before same = true≢false (ap is_lt (sym ((finds_media x y).1 before) ∙ equal-media x y same))
-
--- at most one of two values is before the other
-Before-not_both : (x y : MediaType) → Before x y → ¬ (Before y x)
-Before-not_both x y before back =
-    true≢false (ap is_lt (sym ((finds_media x y).1 before) ∙ media_cmp_total.antisymm x y
-    ∙ ap ordering_reverse ((finds_media y x).1 back)))
-
 -- a value before one that is before a third is before the third
 pub Before-transitive : (x y z : MediaType) → Before x y → Before y z → Before x z
 Before-transitive x y z first second =
@@ -94,15 +84,14 @@ eq_by_cmp-tells x y = (same_from_cmp x y, λ same. ap is_eq (equal-media x y sam
 pub eq_by_cmp-same : (x y : MediaType) (answer : Bool) → IsTrue answer ↔ Same x y → answer ≡ eq_by_cmp media_cmp x y
 eq_by_cmp-same x y answer tells = same_from_decides answer (eq_by_cmp media_cmp x y) tells (eq_by_cmp-tells x y)
 
--- exactly one of the three holds
-pub one_order : (x y : MediaType) → OneOf x y
-one_order x y = go (media_cmp x y) (tells_media x y)
+-- The order of two values is the one answer that says which is before.
+pub one_order : OneOrder
+one_order x y = (media_cmp x y, tells_media x y, go)
   where
-    go : (order : Ordering) → MatchOrdering order (Before x y) (Same x y) (Before y x) → OneOf x y
-    go Less says = inl (says, Before-not_same x y says, Before-not_both x y says)
-    go Equal says =
-        inr (inl (says, (λ before. Before-not_same x y before says), (λ before. Before-not_same y x before (sym says.0, sym says.1))))
-    go Greater says = inr (inr (says, (λ same. Before-not_same y x says (sym same.0, sym same.1)), Before-not_both y x says))
+    go : (other : Ordering) → IsOrderOf x y other → other ≡ media_cmp x y
+    go Less says = sym ((finds_media x y).1 says)
+    go Equal says = sym (equal-media x y says)
+    go Greater says = sym (media_cmp_total.antisymm x y ∙ ap ordering_reverse ((finds_media y x).1 says))
 
 -- an order that isn't equal is decided
 decided : (order rest : Ordering) → ¬ (order ≡ Equal) → ordering_then order rest ≡ order

@@ -12,6 +12,13 @@ macro_rules! name {
     };
 }
 
+/// Creates the list of these names.
+macro_rules! names {
+    ($($name:ident)*) => {
+        [$($name),*]
+    };
+}
+
 /// The type or subtype `*` of a media range, as in `text/*` (RFC 7231, 5.3.2).
 pub const STAR: Name<'static> = name!("*");
 
@@ -66,8 +73,7 @@ pub const EVENT_STREAM: Name<'static> = name!("event-stream");
 /// The subtype `vcard`, as in `text/vcard` (RFC 6350).
 pub const VCARD: Name<'static> = name!("vcard");
 
-/// The subtype or suffix `json`, as in `application/json` (RFC 8259) and `application/problem+json` (RFC 6839,
-/// 3.1).
+/// The subtype or suffix `json`, as in `application/json` (RFC 8259) and `application/problem+json` (RFC 6839, 3.1).
 pub const JSON: Name<'static> = name!("json");
 
 /// The subtype `x-www-form-urlencoded`, as in `application/x-www-form-urlencoded` (the URL standard).
@@ -128,43 +134,8 @@ pub const BOUNDARY: Name<'static> = name!("boundary");
 pub const UTF_8: Name<'static> = name!("utf-8");
 
 /// All constant names, for the law `name_constants`. In the law's body, each name would add a step to the law's proof.
-pub(crate) static NAMES: [Name<'static>; 38] = [
-    STAR,
-    TEXT,
-    IMAGE,
-    AUDIO,
-    VIDEO,
-    APPLICATION,
-    MULTIPART,
-    MESSAGE,
-    MODEL,
-    FONT,
-    PLAIN,
-    HTML,
-    XML,
-    JAVASCRIPT,
-    CSS,
-    CSV,
-    EVENT_STREAM,
-    VCARD,
-    JSON,
-    WWW_FORM_URLENCODED,
-    MSGPACK,
-    OCTET_STREAM,
-    PDF,
-    WOFF,
-    WOFF2,
-    FORM_DATA,
-    BMP,
-    GIF,
-    JPEG,
-    PNG,
-    SVG,
-    BASIC,
-    MPEG,
-    MP4,
-    OGG,
-    CHARSET,
-    BOUNDARY,
-    UTF_8,
-];
+pub(crate) static NAMES: [Name<'static>; 38] = names!(
+    STAR TEXT IMAGE AUDIO VIDEO APPLICATION MULTIPART MESSAGE MODEL FONT PLAIN HTML XML JAVASCRIPT
+    CSS CSV EVENT_STREAM VCARD JSON WWW_FORM_URLENCODED MSGPACK OCTET_STREAM PDF WOFF WOFF2
+    FORM_DATA BMP GIF JPEG PNG SVG BASIC MPEG MP4 OGG CHARSET BOUNDARY UTF_8
+);

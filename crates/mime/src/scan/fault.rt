@@ -2,7 +2,8 @@
 
 ghost use Rattle.std.specs.Prelude.{◌≡◌, IfOk, Some};
 ghost use Rattle.std.specs.Fmt.InlineText.{inline_text};
-ghost use Rattle.mime.specs.Printed.{token_text};
+ghost use Rattle.mime.specs.Printed.{fault_text};
+ghost use Rattle.mime.specs.declared.scan.fault.ParseError.TheVariants.{InvalidToken};
 
 use std::error::Error;
 use std::fmt;
@@ -38,7 +39,7 @@ pub enum ParseError {
 /// Returns the text, of at most 69 bytes, that `InvalidToken { pos, byte }` prints. This function doesn't use the
 /// caller's formatter, whose width would pad each number.
 fn token_text(pos: usize, byte: u8) -> Result<InlineText<80>, fmt::Error>
-    ensures { IfOk result (λ text. inline_text text ≡ token_text pos byte) }
+    ensures { IfOk result (λ text. inline_text text ≡ fault_text (InvalidToken pos byte)) }
 {
     let mut text = InlineText::new();
     write!(
@@ -53,8 +54,6 @@ fn token_text(pos: usize, byte: u8) -> Result<InlineText<80>, fmt::Error>
 ///
 /// The fault of `text/;` prints `an invalid token was encountered, 3B at position 5`.
 impl fmt::Display for ParseError {
-    ghost use Rattle.mime.specs.Printed.{fault_text};
-
     ghost output = { λ fault. Some (fault_text fault) };
 
     ghost styled_output = { λ fault spec. Some (fault_text fault) };

@@ -7,10 +7,9 @@ use crate::value::Mime;
 use std::alloc::{AllocError, Global};
 use std::marker::Model;
 
-/// A text that is known to be the kept text of a media type: the essence of `like`, followed by parameters (RFC 7231,
-/// 3.1.1.1). Code that creates a `KnownText` proves this, so the text isn't scanned. This type is for the crates of
-/// this repository, such as `mime_http`: the invariant `IsKnown`, which they prove, is in a private file, and may
-/// change within 1.x.
+/// A text that is known to be the kept text of a media type: the essence of `like`, followed by parameters (RFC 7231, 3.1.1.1). Code that
+/// creates a `KnownText` proves this, so the text isn't scanned. This type is for the crates of this repository, such as `mime_http`: the
+/// invariant `IsKnown`, which they prove, is in a private file, and may change within 1.x.
 ///
 /// For example, `text/html; charset=utf-8` with 1 parameter is known if `like` was read from `Text/HTML`.
 /// `text/html; charset=UTF-8` isn't, since the value of a charset is kept in lowercase.
@@ -36,9 +35,8 @@ impl<'a> Model for KnownText<'a> {
 }
 
 impl<'a> KnownText<'a> {
-    /// Returns the media type that [`Mime::from_str`] reads from the text, without scanning the text (RFC 7231,
-    /// 3.1.1.1). If the text has at most 40 bytes, or its `String` has no spare capacity, this function doesn't
-    /// allocate. Otherwise it allocates once.
+    /// Returns the media type that [`Mime::from_str`] reads from the text, without scanning the text (RFC 7231, 3.1.1.1). If the text has
+    /// at most 40 bytes, or its `String` has no spare capacity, this function doesn't allocate. Otherwise it allocates once.
     ///
     /// # Errors
     /// Returns `AllocError` if memory runs out, which can happen only for a text of more than 40 bytes.

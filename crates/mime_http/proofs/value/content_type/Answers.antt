@@ -18,13 +18,17 @@ returns-in-Ok-from_str-clause-http c =
 pub returns-in-Ok-from_str-clause-kept : goal.returns-in-Ok-from_str-clause-kept
 returns-in-Ok-from_str-clause-kept c = (as_it_is _ _ _ _ c.in-Ok.ensures.cases.0 c.trimmed.ensures c.in-Ok-from_str.ensures.read).1
 
+pub returns-in-Err-from_str-clause-explained : goal.returns-in-Err-from_str-clause-explained
+returns-in-Err-from_str-clause-explained c =
+    subst (λ text. IfErr c.read_rejected.result (HttpExplains text)) c.in-Ok.ensures.cases.0 c.read_rejected.ensures.explained
+
 pub returns-in-Err-from_str-clause-short : goal.returns-in-Err-from_str-clause-short
 returns-in-Err-from_str-clause-short c = λ media utf8 reads printed few.
     short_has_none c.args.value.now media utf8 reads printed few c.read_rejected.result
-    (subst (λ text. IfErr c.read_rejected.result (HttpExplains text)) c.in-Ok.ensures.cases.0 c.read_rejected.ensures.explained)
+    (returns-in-Err-from_str-clause-explained c)
 
 pub returns-in-Err-from_str-clause-accepted : goal.returns-in-Err-from_str-clause-accepted
 returns-in-Err-from_str-clause-accepted c = λ utf8 is.
     IfErr-weaker c.read_rejected.result (HttpExplains _) (λ error. error ≡ NoMemory)
     (λ error. error_is_memory c.args.value.now error utf8 is)
-    (subst (λ text. IfErr c.read_rejected.result (HttpExplains text)) c.in-Ok.ensures.cases.0 c.read_rejected.ensures.explained)
+    (returns-in-Err-from_str-clause-explained c)

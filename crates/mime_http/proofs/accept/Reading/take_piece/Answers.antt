@@ -1,11 +1,15 @@
 -- A piece is white space, a media type, or bad.
 use Rattle.std.proofs.Common.{rules}
-use Rattle.mime_http.proofs.Common.{ap, arith, as_it_stands, common_steps, length, nil_from_length, trimmed, ◌∙◌}
+use Rattle.mime_http.proofs.Common.{Explains, subst, sym, ap, arith, as_it_stands, common_steps, length, nil_from_length, trimmed, ◌∙◌}
 use Rattle.mime_http.proofs.{Around.blank_from_trimmed, Around.reads_around, Around.utf8_around, Around.utf8_trimmed, PlainIsHttp.plain_is_http, Takes.takes_bad, Takes.takes_blank, Takes.takes_range}
 use Rattle.mime_http.proofs.accept.Reading.take_piece.Goals as goal
 
 pub returns-then-is_empty-clause-taken : goal.returns-then-is_empty-clause-taken
 returns-then-is_empty-clause-taken c = search (takes_blank, blank_from_trimmed, nil_from_length, rules)
+
+pub take_rejected-requires-clause-fault : goal.take_rejected-requires-clause-fault
+take_rejected-requires-clause-fault c = subst (Explains (trimmed c.args.piece.now)) (sym c.fault.ensures)
+    (rw (c.in-Ok.ensures.cases.0, c.trimmed-entry.ensures) at c.in-Err.ensures.explained)
 
 pub returns-in_default-clause-taken : goal.returns-in_default-clause-taken
 returns-in_default-clause-taken c =
