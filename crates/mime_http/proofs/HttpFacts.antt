@@ -27,9 +27,9 @@ abbrev plain_value : List ℕ
 plain_value = codes "\ttext/HTML;charset=\"UTF-8\" "
 
 -- Both are read so, whatever is kept.
-read : (kept : List ℕ) → HttpReads value (html_type kept) × HttpReads plain_value (html_type kept)
+both_read : (kept : List ℕ) → HttpReads value (html_type kept) × HttpReads plain_value (html_type kept)
 unfolding parts is_token_byte is_quoted_byte
-read kept = (
+both_read kept = (
   white_more _ [] [] refl refl (answered_is_http value parts refl) refl,
   white_more _ [] [] refl refl (answered_is_http plain_value parts refl) refl,
 )
@@ -92,9 +92,9 @@ not_printed : ¬ (IsPrinted value (html_type (codes "text/html; charset=\"utf-8\
     × ¬ (IsPrinted plain_value (html_type (codes "text/html; charset=utf-8")))
     × ¬ (IsPrinted plain_value (html_type (codes "text/html;charset=\"utf-8\" ")))
 not_printed = (
-  no_other_text _ (λ kept. (read kept).0) printed_anew (omega arith),
-  no_other_text _ (λ kept. (read kept).1) printed_as_it_stands (omega arith),
-  no_other_text _ (λ kept. (read kept).1) printed_as_it_stands (omega arith),
+  no_other_text _ (λ kept. (both_read kept).0) printed_anew (omega arith),
+  no_other_text _ (λ kept. (both_read kept).1) printed_as_it_stands (omega arith),
+  no_other_text _ (λ kept. (both_read kept).1) printed_as_it_stands (omega arith),
 )
 
 -- ---- memory

@@ -14,8 +14,8 @@ abbrev closer : MediaType
 closer = typed (codes "a/b") ((codes "q", codes "1") ∷ (codes "p", codes "\\1") ∷ (codes "r", codes "2")
     ∷ (codes "s", codes "3") ∷ [])
 
-abbrev one : MediaType
-one = typed (codes "a/b") ((codes "p", codes "2") ∷ [])
+abbrev differing : MediaType
+differing = typed (codes "a/b") ((codes "p", codes "2") ∷ [])
 
 -- A range is as specific as the parts that it names, then as the parameters that it demands, if it matches the essence.
 specific : (map (specificity offer) (closer ∷ typed (codes "a/*") [] ∷ typed (codes "*/*") [] ∷ typed (codes "c/d") [] ∷ [])
@@ -25,9 +25,9 @@ specific : (map (specificity offer) (closer ∷ typed (codes "a/*") [] ∷ typed
 specific = (refl, refl, refl)
 
 -- The first parameter that an offer lacks is that of a range that is more specific than the one that decides.
-lacking_parameter : (map (λ decider. lacked closer decider offer) (None ∷ Some one ∷ Some closer ∷ [])
+lacking_parameter : (map (λ decider. lacked closer decider offer) (None ∷ Some differing ∷ Some closer ∷ [])
     ≡ Some (codes "r", codes "2") ∷ Some (codes "r", codes "2") ∷ None ∷ [])
-    × (lacked one (Some (typed (codes "a/*") [])) offer ≡ Some (codes "p", codes "2"))
+    × (lacked differing (Some (typed (codes "a/*") [])) offer ≡ Some (codes "p", codes "2"))
     × (map (λ range. lacked range None offer) (offer ∷ typed (codes "c/d") ((codes "r", codes "2") ∷ []) ∷ []) ≡ None
     ∷ None ∷ [])
 lacking_parameter = (refl, refl, refl)

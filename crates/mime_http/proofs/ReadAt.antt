@@ -163,9 +163,9 @@ fault_after value from at fault least within content is = λ name done none part
     (on_content content parts name done none from (drop at value)) ∙ is name more awaits parts
 
 -- A byte that isn't quoted text, a quote or a backslash goes nowhere.
-pub no_text : (parts : Parts) (name content : List ℕ) (b : ℕ) → awaits_after false content ≡ false
+pub goes_nowhere : (parts : Parts) (name content : List ℕ) (b : ℕ) → awaits_after false content ≡ false
     → is_quoted_text_byte b ≡ false → b ≢ 34 → b ≢ 92 → next (in_string parts name content) b ≡ None
-no_text parts name content b none text quote backslash = grind (arith, nat_tests)
+goes_nowhere parts name content b none text quote backslash = grind (arith, nat_tests)
 
 -- ---- tokens
 

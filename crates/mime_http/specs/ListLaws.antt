@@ -10,7 +10,7 @@ OneCut = (lines : List (List ℕ)) → ExactlyOne (AreBetweenCommas IsPiece Begi
 
 -- texts that are elements, each a media range with its weight, or only white space
 pub data AreElements : List (List ℕ) → List MediaType → Type 0 where
-  no_text : AreElements [] []
+  no_element : AreElements [] []
   nothing : (text : List ℕ) (texts : List (List ℕ)) (media : List MediaType) → AreSpaces text → AreElements texts media
       → AreElements (text ∷ texts) media
   element : (text : List ℕ) (range : MediaType) (texts : List (List ℕ)) (media : List MediaType) → IsUtf8 text → HttpReads text range

@@ -2,7 +2,7 @@
 use Rattle.std.proofs.Common.{rules}
 use Rattle.std.proofs.lemmas.Grind.{common_steps}
 use Rattle.mime_http.proofs.Common.{IsContent, List, MissingQuote, Parts, answer_at, ap, arith, awaits_after, awaits_after-append, false, fault_at, in_string, is_quoted_byte, is_quoted_text_byte, length, list_all, slice_range, nat_tests, next, no_byte, rejected, slice_index, sym, true, ℕ, ◌+◌, ◌<◌, ◌≤◌, ◌∙◌, ◌≡◌}
-use Rattle.mime_http.proofs.{ReadAt.at_byte, ReadAt.at_end, ReadAt.content_on, ReadAt.fault_after, ReadAt.no_part, ReadAt.no_text, ReadAt.one_part, ReadAt.over_byte, ReadAt.pair_content, ReadAt.stuck, ReadAt.text_after, ReadAt.text_content, reader.string_end.Goals.then-paired-value-via-then-paired-value, reader.string_end.Goals.then-paired-value-via-else-paired-value+then-not-is_quoted_byte}
+use Rattle.mime_http.proofs.{ReadAt.at_byte, ReadAt.at_end, ReadAt.content_on, ReadAt.fault_after, ReadAt.no_part, ReadAt.goes_nowhere, ReadAt.one_part, ReadAt.over_byte, ReadAt.pair_content, ReadAt.stuck, ReadAt.text_after, ReadAt.text_content, reader.string_end.Goals.then-paired-value-via-then-paired-value, reader.string_end.Goals.then-paired-value-via-else-paired-value+then-not-is_quoted_byte}
 use Rattle.mime_http.proofs.reader.string_end.Goals as goal
 
 -- A byte that a backslash can't pair is the string's fault, and so is the end.
@@ -50,7 +50,7 @@ returns-else-is_quoted_text_byte c =
     let keeps = c.loop-at.invariant in
     fault_after value c.args.from at _ keeps.least keeps.within keeps.content (λ name content none parts.
     at_byte value at (in_string parts name content) c.loop-at-test.true
-    (no_text parts name content _ none (sym c.is_quoted_text_byte.ensures ∙ c.if-is_quoted_text_byte.false) c.if-byte-eq34.false
+    (goes_nowhere parts name content _ none (sym c.is_quoted_text_byte.ensures ∙ c.if-is_quoted_text_byte.false) c.if-byte-eq34.false
     c.if-byte-eq92.false))
 
 pub returns : goal.returns
