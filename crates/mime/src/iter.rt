@@ -74,8 +74,7 @@ impl<'a> ReadPiece<'a> {
     }
 }
 
-/// Reads the first piece of a string, and skips the character after it. `reader` has already read the string's first
-/// byte, `first`.
+/// Reads the first piece of a string, and skips the character after it. `reader` has already read the string's first byte, `first`.
 #[inline(always)]
 fn read_piece<'a>(text: &'a str, first: u8, reader: &mut ByteReader<'_>) -> ReadPiece<'a>
     requires first { text.now ≡ first ∷ reader.old.left }
@@ -168,8 +167,7 @@ impl<'a> Model for MimeIter<'a> {
 }
 
 impl<'a> MimeIter<'a> {
-    /// Creates an iterator over the media types of `s`, such as `text/html, image/png`. This call reads nothing, and
-    /// doesn't allocate.
+    /// Creates an iterator over the media types of `s`, such as `text/html, image/png`. This call reads nothing, and doesn't allocate.
     pub fn new(alloc: Global, s: &'a str) -> MimeIter<'a>
         ensures text { result.text ≡ s.now }
         ensures left { result.left ≡ s.now }

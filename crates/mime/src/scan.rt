@@ -1,7 +1,6 @@
 //! Scans a string in one pass: finds the positions of its parts, or the reason why it is rejected.
 //!
-//! A function that reads a part also reads the byte that ends it, and returns that byte, or `None` at the end of the
-//! string.
+//! A function that reads a part also reads the byte that ends it, and returns that byte, or `None` at the end of the string.
 
 ghost use Rattle.std.specs.Prelude.{◌+◌, ◌-◌, ◌<◌, ◌≤◌, ◌^◌, length};
 ghost use Rattle.mime.specs.Bytes.{is_quoted_text_byte};
@@ -18,9 +17,8 @@ use crate::bytes::{
 pub use crate::scan::fault::{FromStrError, ParseError};
 pub(crate) use crate::scan::reader::{ByteReader, NEAR};
 
-/// The positions of an accepted string's parts, in bytes from 0, and the number of its parameters. The order of the
-/// fields matters for speed: a position would be copied in two parts if it were where another variant of `Scanned` has
-/// its byte.
+/// The positions of an accepted string's parts, in bytes from 0, and the number of its parameters. The order of the fields matters for
+/// speed: a position would be copied in two parts if it were where another variant of `Scanned` has its byte.
 #[derive(Clone, Copy)]
 pub(crate) struct Positions {
     /// The position of the plus before the suffix.
@@ -193,8 +191,7 @@ pub(crate) fn separators(reader: &mut ByteReader<'_>) -> Option<u8>
     None
 }
 
-/// Reads the rest of a string after its first byte, `first`. Stops at the end, or after the first byte that can't
-/// continue a media type.
+/// Reads the rest of a string after its first byte, `first`. Stops at the end, or after the first byte that can't continue a media type.
 #[tactic(auto, using(crate::proofs::ScanLemmas::Passing::given_sum))]
 #[inline(always)]
 pub(crate) fn scan_after(first: u8, reader: &mut ByteReader<'_>) -> Scanned

@@ -30,8 +30,7 @@ use crate::value::short::{SHORT, ShortText};
 use std::alloc::{AllocError, Global};
 use std::marker::Model;
 
-/// The kept text of a media type. A text of at most `SHORT` bytes is stored in the `Mime` itself. A longer text is
-/// allocated.
+/// The kept text of a media type. A text of at most `SHORT` bytes is stored in the `Mime` itself. A longer text is allocated.
 #[derive(Drop)]
 enum Text {
     Owned(String),
@@ -67,9 +66,8 @@ impl Text {
 
 /// A media type, such as `text/plain; charset=utf-8` (RFC 7231, 3.1.1.1).
 ///
-/// The text is stored as it was read, with two changes: type, subtype, parameter names and `charset` values are
-/// lowercased, and an empty parameter list is dropped. `Text/Plain; P=X` is kept as `text/plain; p=X`, and
-/// `text/plain;` as `text/plain`.
+/// The text is stored as it was read, with two changes: type, subtype, parameter names and `charset` values are lowercased, and an empty
+/// parameter list is dropped. `Text/Plain; P=X` is kept as `text/plain; p=X`, and `text/plain;` as `text/plain`.
 #[derive(Drop)]
 pub struct Mime {
     // Keep this order: an error's byte then shares a word with the text's tag, so whole words are moved.
@@ -94,19 +92,16 @@ impl Model for Mime {
 }
 
 impl Mime {
-    /// Reads a media type from the whole of `s` (RFC 7231, 3.1.1.1, with the departures that docs/DIFFERENCES.md
-    /// lists). If `s` is a media type whose kept text has more than 40 bytes, this function allocates once, for this text.
-    /// Otherwise it doesn't allocate.
+    /// Reads a media type from the whole of `s` (RFC 7231, 3.1.1.1, with the departures that docs/DIFFERENCES.md lists). If `s` is a media
+    /// type whose kept text has more than 40 bytes, this function allocates once, for this text. Otherwise it doesn't allocate.
     ///
-    /// `TEXT/PLAIN; CHARSET=UTF-8; FOO=BAR` is kept as `text/plain; charset=utf-8; foo=BAR`, and
-    /// `text/plain; ` as `text/plain`.
+    /// `TEXT/PLAIN; CHARSET=UTF-8; FOO=BAR` is kept as `text/plain; charset=utf-8; foo=BAR`, and `text/plain; ` as `text/plain`.
     ///
     /// # Errors
-    /// Returns the fault of a string that isn't a media type. If something is missing at the string's end, the fault is
-    /// `MissingSlash`, `MissingSubtype`, `MissingEqual`, `MissingValue` or `MissingQuote`: `MissingEqual` for `a/b;p`.
-    /// Otherwise the fault is `InvalidToken`, with the first byte that can't continue a media type, and this byte's
-    /// position in bytes from 0: 5 for `text/;`. Returns [`ParseError::NoMemory`] if memory runs out, which can happen
-    /// only if the kept text has more than 40 bytes.
+    /// Returns the fault of a string that isn't a media type. If something is missing at the string's end, the fault is `MissingSlash`,
+    /// `MissingSubtype`, `MissingEqual`, `MissingValue` or `MissingQuote`: `MissingEqual` for `a/b;p`. Otherwise the fault is
+    /// `InvalidToken`, with the first byte that can't continue a media type, and this byte's position in bytes from 0: 5 for `text/;`.
+    /// Returns [`ParseError::NoMemory`] if memory runs out, which can happen only if the kept text has more than 40 bytes.
     pub fn from_str(alloc: Global, s: &str) -> Result<Mime, FromStrError>
         // The result is the value of the string.
         ensures read { IfOk result (λ mime. Reads s.now mime.media) }
@@ -179,8 +174,7 @@ impl Mime {
         Mime::of_kept(Text::Short(text), positions_in_kept(positions))
     }
 
-    /// Returns the media type of `text`, which is known to be a kept text with the essence of `self` and `count`
-    /// parameters.
+    /// Returns the media type of `text`, which is known to be a kept text with the essence of `self` and `count` parameters.
     #[inline(always)]
     fn with_known_parameters(
         &self,
@@ -253,8 +247,7 @@ impl Mime {
         }
     }
 
-    /// Returns the subtype without its suffix, in lowercase: `svg` for `image/svg+xml`, `b+c` for
-    /// `a/b+c+d` (RFC 6838, 4.2.8).
+    /// Returns the subtype without its suffix, in lowercase: `svg` for `image/svg+xml`, `b+c` for `a/b+c+d` (RFC 6838, 4.2.8).
     pub fn subtype(&self) -> Name<'_>
         ensures text { result.text.now ≡ subtype_of self.now.media }
         ensures flag { result.ignores_case ≡ true }
@@ -268,9 +261,8 @@ impl Mime {
         }
     }
 
-    /// Returns the suffix, in lowercase: the text after the subtype's last `+`, or `None` if the subtype has no `+`
-    /// after its first byte. It is `xml` for `image/svg+xml`, the empty string for `a/b+`, and `None` for `a/+xml` (RFC
-    /// 6838, 4.2.8).
+    /// Returns the suffix, in lowercase: the text after the subtype's last `+`, or `None` if the subtype has no `+` after its first byte.
+    /// It is `xml` for `image/svg+xml`, the empty string for `a/b+`, and `None` for `a/+xml` (RFC 6838, 4.2.8).
     pub fn suffix(&self) -> Option<Name<'_>>
         ensures text { option_map name_text result ≡ suffix_of self.now.media }
         ensures flag { IfSome result (λ name. name.ignores_case ≡ true) }
@@ -349,10 +341,9 @@ impl Mime {
         }
     }
 
-    /// Returns the value of the first parameter whose name the key accepts, or `None` if the key accepts no name:
-    /// `TextKey("P")` finds `1` in `a/b;p=1;P=2`, and `CHARSET` finds `utf-8` in `text/html; Charset="UTF-8"` (RFC
-    /// 7231, 3.1.1.1). The value is returned without its quotes, but with its backslashes: it is `\"x` for
-    /// `a/b;p="\"x"`. Looking up doesn't allocate.
+    /// Returns the value of the first parameter whose name the key accepts, or `None` if the key accepts no name: `TextKey("P")` finds `1`
+    /// in `a/b;p=1;P=2`, and `CHARSET` finds `utf-8` in `text/html; Charset="UTF-8"` (RFC 7231, 3.1.1.1). The value is returned without its
+    /// quotes, but with its backslashes: it is `\"x` for `a/b;p="\"x"`. Looking up doesn't allocate.
     #[inline(always)]
     pub fn get_param<K: ParamKey>(&self, key: K) -> Option<Name<'_>>
         ensures found { IsFirstAccepted (K.Accepts key) (items_of self.now.media.pairs) (option_map name_seen result) }

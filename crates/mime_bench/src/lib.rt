@@ -187,8 +187,8 @@ fn cmp(values: &[Mime], others: &[Mime], rounds: usize) -> usize {
     sum!(rounds, (mime, other) in values.iter().zip(others) => mime.cmp(other).is_lt() as usize)
 }
 
-/// Hashes media types with the hasher of `HashMap::new`, `FoldHasher`, or with SipHash, the hasher of a map that is seeded at random. Returns
-/// how many hashes aren't 1, which must be the same number as the Rust crate's. The hashes themselves differ.
+/// Hashes media types with `FoldHasher`, the hasher of `HashMap::new`, or with SipHash, the hasher of a map that is seeded at random.
+/// Returns how many hashes aren't 1, which must be the same number as the Rust crate's. The hashes themselves differ.
 #[inline(never)]
 fn hash<H: Hasher + Default + Drop>(values: &[Mime], rounds: usize) -> usize {
     sum!(rounds, mime in values => {

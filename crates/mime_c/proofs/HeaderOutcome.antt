@@ -93,6 +93,7 @@ module _ {Held : Type 0} (is_there : Bool) (line offers : List ℕ) (failed : �
       (refl, ap failed (((one_first_bad _ _ (header_of (offers ∷ [])).1).1 at first).1 other too))
   only_bad at first n held some (offers_have_no_memory none) = absurd (some refl)
 
+  -- A call that reads offers has exactly one outcome, if what it goes on with has.
   pub one_of_offers : HasOne Outcome
   one_of_offers =
       let header = header_of (lines_of is_there line) in

@@ -33,7 +33,7 @@ before_rest R x xs pairs = λ k d within. pairs 0 (suc k) d (omega arith) (omega
 rest_in_order : {X : Type 0} (R : X → X → Type 0) (x : X) (xs : List X) → AllPairs R (x ∷ xs) → AllPairs R xs
 rest_in_order R x xs pairs = λ i j d less within. pairs (suc i) (suc j) d (omega (arith, less)) (omega (arith, within))
 
--- a list in order with one element more
+-- A list in order, with one element more.
 module _ {X : Type 0} (R : X → X → Type 0) (goes_on : (x y z : X) → R x y → R y z → R x z) where
   -- A list in order has a place for one element more.
   placed : (x : X) (xs : List X) → AllPairs R xs → All (λ y. R x y ⊎ R y x) xs

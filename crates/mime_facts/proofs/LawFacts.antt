@@ -1,10 +1,10 @@
 -- What each law says of a text, proved from only the law, so that a law that says less doesn't check.
-use Rattle.std.proofs.Common.{◌≡◌, ◌≢◌, ℕ, zero, suc, ◌≤◌, Bool, true, false, ◌⊎◌, inl, inr, IsTrue, List, [], ◌∷◌, ◌++◌, length, Option, Some, None, Result, refl, sym, ap, ◌∙◌, subst, arith, codes}
+use Rattle.std.proofs.Common.{◌≡◌, ◌≢◌, ℕ, zero, suc, ◌<◌, ◌≤◌, Bool, true, false, ◌⊎◌, inl, inr, IsTrue, List, [], ◌∷◌, ◌++◌, length, Option, Some, None, Result, refl, sym, ap, ◌∙◌, subst, arith, codes}
 use Rattle.std.proofs.{lemmas.Bool.false≢true, lemmas.Option.none-some, lemmas.Option.same_Some}
 use Rattle.std.specs.Prelude.{slice_get}
 use Rattle.std.specs.declared.cmp.Ordering.TheVariants.{Less, Equal, Greater}
 use Rattle.std.specs.{Char.IsScalar, Char.encode_utf8, Iterator.Drains, Str.IsUtf8, Str.IsCharBoundary}
-use Rattle.mime.specs.{Bytes.is_token_byte, Bytes.plus_byte, Grammar.no_list, Grammar.SyntaxTree, Grammar.text_of, Grammar.IsWellFormed, Values.MediaType, Values.OwnedMedia, Values.Reads, Values.IsAccepted, Values.IsRejected, Comparison.Same, Comparison.Before, Comparison.TextIs, Faults.IsViable, Faults.IsLongest, Faults.IsLongestPrefix, Faults.Lacks, Faults.IsFault, Items.IsFirstAccepted, Laws.OneTree, Laws.OneReading, Laws.EmptyIsViable, Laws.PrefixOfViableIsViable, Laws.AcceptedIsViable, Laws.OneCompletion, Laws.CompletedIsRejected, Laws.NoCompletion, Laws.OneFault, Laws.OneLongestPrefix, Laws.PrefixEndsBetweenCharacters, Laws.IsViableInUtf8, Laws.PrefixIsInUtf8, Laws.HasNoPlusFrom, Laws.PlusIsLast, Laws.KeptIsRead, Laws.EssenceIsRead, Laws.OneOrder, Laws.BeforeIsTransitive, Laws.BareTextIs, Laws.KeptTextIs, Laws.IsDecided, Laws.OneAnswer, Laws.FirstDifferenceDecides, Cut.CutItem, Cut.good, Cut.bad, Cut.Cut, Cut.Pieces, Cut.TakesSteps, CutLaws.OneCut, CutLaws.CutHasItems, CutLaws.text_of_pieces, CutLaws.CutWritesText, CutLaws.OneCount, CutLaws.CommaContains, CutLaws.JoinedComesBack, CutLaws.PassesOneCharacter, CutLaws.AreGiven, CutLaws.RunGivesCut, CutLaws.CommaContainsOnRuns, CutLaws.PrintedListComesBack, Runs.Iteration, Runs.IsNext, declared.iter.Bad.Bad, declared.scan.fault.ParseError.ParseError, declared.scan.fault.ParseError.TheVariants.MissingSlash, declared.scan.fault.ParseError.TheVariants.MissingSubtype, declared.scan.fault.ParseError.TheVariants.InvalidToken}
+use Rattle.mime.specs.{Bytes.is_token_byte, Bytes.plus_byte, Grammar.no_list, Grammar.SyntaxTree, Grammar.text_of, Grammar.IsWellFormed, Values.MediaType, Values.OwnedMedia, Values.Reads, Values.IsAccepted, Values.IsRejected, Comparison.Same, Comparison.Before, Comparison.TextIs, Faults.IsViable, Faults.IsLongest, Faults.IsLongestPrefix, Faults.Lacks, Faults.IsFault, Items.IsFirstAccepted, Laws.ExactlyOne, Laws.OneTree, Laws.OneReading, Laws.EmptyIsViable, Laws.PrefixOfViableIsViable, Laws.AcceptedIsViable, Laws.OneCompletion, Laws.CompletedIsRejected, Laws.NoCompletion, Laws.OneFault, Laws.OneLongestPrefix, Laws.PrefixEndsBetweenCharacters, Laws.IsViableInUtf8, Laws.PrefixIsInUtf8, Laws.HasNoPlusFrom, Laws.PlusIsLast, Laws.KeptIsRead, Laws.EssenceIsRead, Laws.OneOrder, Laws.BeforeIsTransitive, Laws.BareTextIs, Laws.KeptTextIs, Laws.IsDecided, Laws.OneAnswer, Laws.FirstDifferenceDecides, Cut.CutItem, Cut.good, Cut.bad, Cut.Cut, Cut.Pieces, Cut.TakesSteps, CutLaws.OneCut, CutLaws.CutHasItems, CutLaws.text_of_pieces, CutLaws.CutWritesText, CutLaws.OneCount, CutLaws.CommaContains, CutLaws.JoinedComesBack, CutLaws.PassesOneCharacter, CutLaws.AreGiven, CutLaws.RunGivesCut, CutLaws.CommaContainsOnRuns, CutLaws.PrintedListComesBack, Runs.Iteration, Runs.IsNext, declared.iter.Bad.Bad, declared.scan.fault.ParseError.ParseError, declared.scan.fault.ParseError.TheVariants.MissingSlash, declared.scan.fault.ParseError.TheVariants.MissingSubtype, declared.scan.fault.ParseError.TheVariants.InvalidToken}
 use Rattle.mime.proofs.{ValueLemmas.Hash.utf8_bytes, ValueLemmas.KeptText.kept_is_read}
 use Rattle.mime_facts.proofs.{ComparisonFacts.quoted_x, ComparisonFacts.plain_x, ComparisonFacts.plain_y, ComparisonFacts.other_value, ComparisonFacts.reads_quoted, ComparisonFacts.letters_reach_the_value, CutFacts.e_is_rejected, CutFacts.e_is_viable, CutFacts.list_items, CutFacts.cut_of_list, CutFacts.rest_of_text, CutFacts.split_at_comma, CutFacts.read_value, FaultFacts.e_lacks_slash, FaultFacts.e_is_closed, StandardFacts.media, StandardFacts.tree_from_parts, StandardFacts.plus_twice, StandardFacts.lowered_parts, StandardFacts.no_subtype, StandardFacts.space_in_type, ValueFacts.plain_value, ValueFacts.reads_capitals, ValueFacts.exact_item, ValueFacts.charset_item}
 
@@ -166,6 +166,14 @@ answer_of_key : (Accepts : List ℕ → Bool → Type 0) → OneAnswer Accepts �
     → IsFirstAccepted Accepts (exact_item ∷ charset_item ∷ []) first
     → IsFirstAccepted Accepts (exact_item ∷ charset_item ∷ []) second → first ≡ second
 answer_of_key Accepts law first second is also = law (exact_item ∷ charset_item ∷ []) second first also is
+
+-- Exactly one number is 3, but more than one is below 3, and none is below 0.
+exactly_one : ExactlyOne (λ (n : ℕ). n ≡ 3) × ¬ (ExactlyOne (λ (n : ℕ). n < 3)) × ¬ (ExactlyOne (λ (n : ℕ). n < 0))
+exactly_one = (
+  (3, refl, λ other is. is),
+  (λ one. absurd (omega (arith, one.2 0 (omega arith), one.2 1 (omega arith)))),
+  λ one. absurd (omega (arith, one.1)),
+)
 
 -- Each name is accepted, or isn't.
 decided : IsDecided (λ name ignores_case. IsTrue ignores_case)

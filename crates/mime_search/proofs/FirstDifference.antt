@@ -19,9 +19,11 @@ lane_differs : (x y : ℕ) → not (top 7 (difference_lane x y)) ≡ false → x
 lane_differs x y is same = grind (arith, nat_tests, is, same)
 
 module _ (a b : List ℕ) (at : ℕ) (room : at + 16 ≤ length a) (other_room : at + 16 ≤ length b) where
+  -- The lane of each pair of bytes of the block.
   abbrev lanes : List ℕ
   lanes = zip2 difference_lane (chunk at 16 a) (chunk at 16 b)
 
+  -- The number of pairs before the first pair that differs.
   abbrev equal_run : ℕ
   equal_run = prefix_len (λ x. not (top 7 x)) lanes
 
@@ -44,6 +46,7 @@ module _ (a b : List ℕ) (at : ℕ) (room : at + 16 ≤ length a) (other_room :
       lane_same (get_or a (at + k) 0) (get_or b (at + k) 0)
       (ap (λ x. not (top 7 x)) (sym (lane_at k lt)) ∙ prefix_len_passes (λ x. not (top 7 x)) lanes k 0 before)
 
+  -- The mask of the lanes' top bits.
   abbrev lane_mask : ℕ
   lane_mask = mask_l (map (top 7) lanes)
 

@@ -17,6 +17,7 @@ mask-append (x ∷ xs) ys =
 
 -- the bytes that pass a test, as a mask
 module _ (p : ℕ → Bool) where
+  -- The mask of the bytes of a list.
   abbrev mask : List ℕ → ℕ
   mask bytes = mask_l (map p bytes)
 

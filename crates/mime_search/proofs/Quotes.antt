@@ -12,10 +12,11 @@ len_from-at : (text : List ℕ) (position : ℕ) → position < length text → 
     ≡ cond (get_or text position 0 == quote) 0 (suc (len_from (get_or text position 0 == backslash) (drop (position + 1) text)))
 len_from-at text position within = ap (len_from false) (drop_more text position 0 within)
 
--- the bytes up to the first quote or backslash are passed, too
+-- A quote or a backslash.
 abbrev pub is_mark : ℕ → Bool
 is_mark b = b == quote || b == backslash
 
+-- The number of bytes before the first quote or backslash.
 abbrev pub plain_len : List ℕ → ℕ
 plain_len bytes = prefix_len (λ b. not (is_mark b)) bytes
 

@@ -53,6 +53,7 @@ last_bits class text from found long end within is =
 -- what the bit mask of the bytes from a position on shows
 module _ (p : ℕ → Bool) (text : List ℕ) (at n found : ℕ) (room : at + n ≤ length text) (few : n ≤ 64)
     (is : found ≡ mask_l (map p (take n (drop at text)))) where
+  -- The number of bytes before the first that passes the test.
   abbrev run : List ℕ → ℕ
   run bytes = prefix_len (λ b. not (p b)) bytes
 

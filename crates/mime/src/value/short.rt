@@ -151,8 +151,7 @@ impl ShortText {
         ShortText::of(&bytes, text.len())
     }
 
-    /// Returns the kept text, of at most `SHORT` bytes, of an accepted string without parameters. An empty parameter list
-    /// is dropped.
+    /// Returns the kept text, of at most `SHORT` bytes, of an accepted string without parameters. An empty parameter list is dropped.
     #[inline(always)]
     pub(crate) fn essence(text: &str, positions: Positions) -> ShortText
         requires accepted { HasPositions text.now positions }

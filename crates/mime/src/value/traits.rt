@@ -67,8 +67,7 @@ fn order_pairs(first: &Mime, second: &Mime) -> Ordering
     pairs.cmp(others)
 }
 
-/// Compares two values if their kept texts are short, and are equal or first differ within both essences. Otherwise
-/// returns `None`.
+/// Compares two values if their kept texts are short, and are equal or first differ within both essences. Otherwise returns `None`.
 #[inline(always)]
 fn order_short(first: &Mime, second: &Mime) -> Option<Ordering>
     ensures { IfSome result (λ order. order ≡ media_cmp first.now.media second.now.media) }
@@ -106,8 +105,7 @@ impl PartialEq for Mime {
         ensures computed { result ≡ eq_by_cmp media_cmp self.now.media other.now.media }
         ensures same { IsTrue result ↔ Same self.now.media other.now.media }
     {
-        // Values with different numbers of parameters differ, and so do essences of different lengths. Neither test
-        // reads the texts.
+        // Values with different numbers of parameters differ, and so do essences of different lengths. Neither test reads the texts.
         if self.param_count() != other.param_count() {
             return false;
         }
@@ -235,8 +233,7 @@ impl fmt::Display for Mime {
     }
 }
 
-/// Prints the kept text in quotes, with escapes, as a `str` does: a media type read from `a/b;p="x"` prints
-/// `"a/b;p=\"x\""`.
+/// Prints the kept text in quotes, with escapes, as a `str` does: a media type read from `a/b;p="x"` prints `"a/b;p=\"x\""`.
 impl fmt::Debug for Mime {
     ghost debug_output = { λ mime. debug_str mime.media.kept };
 
