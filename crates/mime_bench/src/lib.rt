@@ -102,7 +102,10 @@ fn read(alloc: Global, texts: &[&str], rounds: usize) -> usize {
 
 #[inline(never)]
 fn read_and_look_up(alloc: Global, texts: &[&str], rounds: usize) -> usize {
-    sum!(rounds, text in texts => Mime::from_str(alloc, text).map_or(0, |mime| length_found(&mime, TextKey("charset"))))
+    sum!(rounds, text in texts => match Mime::from_str(alloc, text) {
+        Ok(mime) => length_found(&mime, TextKey("charset")),
+        Err(_) => 0,
+    })
 }
 
 #[inline(never)]
