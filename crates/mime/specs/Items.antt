@@ -13,8 +13,12 @@ pub record Item : Type 0 where
 
 -- the item of a pair: its name ignores case, and its value does exactly if the name is `charset`
 abbrev pub item_of : List ℕ × List ℕ → Item
-item_of (name, value) =
-    record { name = name; name_ignores_case = true; value = value; value_ignores_case = bytes_eq name (codes "charset") }
+item_of (name, value) = record {
+  name = name;
+  name_ignores_case = true;
+  value = value;
+  value_ignores_case = bytes_eq name (codes "charset");
+}
 
 abbrev pub items_of : List (List ℕ × List ℕ) → List Item
 items_of pairs = map item_of pairs
@@ -36,8 +40,12 @@ IsFirstAccepted Accepts (item ∷ items) found =
 
 -- two names, a parameter's and its value's, as an item
 abbrev pub item_seen : Name × Name → Item
-item_seen (name, value) =
-    record { name = name.text.now; name_ignores_case = name.ignores_case; value = value.text.now; value_ignores_case = value.ignores_case }
+item_seen (name, value) = record {
+  name = name.text.now;
+  name_ignores_case = name.ignores_case;
+  value = value.text.now;
+  value_ignores_case = value.ignores_case;
+}
 
 -- a name as its text and its flag
 abbrev pub name_seen : Name → List ℕ × Bool

@@ -75,9 +75,16 @@ kept_text (pair ∷ pairs) tree = text_of tree
 
 -- the value of a tree; a plus that is the subtype's first byte begins no suffix
 abbrev pub value_of : SyntaxTree → MediaType
-value_of tree = let low = lowered_tree tree in let pairs = pairs_of_tail low.tail in
-    let plus = last_plus (length tree.top + 2) (drop 1 low.sub) in
-    record { essence = essence_of low; slash = length tree.top; plus = plus; pairs = pairs; kept = kept_text pairs low }
+value_of tree =
+    let low = lowered_tree tree in
+    let pairs = pairs_of_tail low.tail in
+    record {
+      essence = essence_of low;
+      slash = length tree.top;
+      plus = last_plus (length tree.top + 2) (drop 1 low.sub);
+      pairs = pairs;
+      kept = kept_text pairs low;
+    }
 
 -- the text is read as the value: a well-formed tree has this text and this value
 pub record Reads (text : List ℕ) (value : MediaType) : Type 0 where

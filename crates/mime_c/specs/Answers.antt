@@ -44,9 +44,13 @@ found_of_error other = nothing
 -- what is found of a media type: how many bytes its strings are, how many parameters there are, where the string begins that it is
 -- printed as, and where in the essence, which begins with type, slash and subtype, the slash is and the subtype ends
 abbrev pub found_of : MediaType → MimeFound
-found_of media = let all = length (strings (texts_of media)) in let printed = length (strings (parts_of media)) in
-    let slash = length (type_of media) in let subtype_end = slash + 1 + length (subtype_of media) in
-    record nothing { length = all; params = length media.pairs; printed = printed; slash = slash; subtype_end = subtype_end }
+found_of media = record nothing {
+  length = length (strings (texts_of media));
+  params = length media.pairs;
+  printed = length (strings (parts_of media));
+  slash = length (type_of media);
+  subtype_end = length (type_of media) + 1 + length (subtype_of media);
+}
 
 -- ---- In the following, `Held` is what the caller's buffer and structs hold after a call.
 
