@@ -9,11 +9,20 @@ ghost use Rattle.mime.specs.Inner.KeptText.{with_pairs_lowered, kept_positions, 
 use crate::name::constants::CHARSET;
 use crate::scan::Positions;
 use crate::value::pairs::{Pairs, cut_before};
-use mime_search::{BLOCK, Rest, eq_ignore_ascii_case};
+use mime_search::{BLOCK, Class, Range, Rest, eq_ignore_ascii_case, first_stop};
 use std::alloc::{AllocError, Global};
 
+/// The ASCII capitals.
+static CAPITALS: Class = Class {
+    fold: 0,
+    folded: Range(b'A', b'Z'),
+    second: Range(b'A', b'Z'),
+    third: Range(b'A', b'Z'),
+    inside: true,
+};
+
 /// Returns `true` if any of the bytes is an ASCII capital.
-#[inline]
+#[inline(always)]
 pub(crate) fn has_capital(bytes: &[u8]) -> bool
     ensures { IsFalse result ↔ (lowered bytes.now ≡ bytes.now) }
 {
@@ -105,7 +114,8 @@ fn keep_pairs(
     requires some { 0 < count }
     ensures { IfOk result (λ kept. string_bytes kept ≡ with_pairs_lowered count semicolon text.now) }
 {
-    if !has_capital(text.as_bytes()) {
+    // A long text is searched block by block.
+    if first_stop(text.as_bytes(), 0, &CAPITALS) == text.len() {
         return String::from_str(alloc, text);
     }
     let mut bytes = Vec::from_slice(alloc, text.as_bytes())?;
