@@ -1,6 +1,6 @@
 //! Makes the kept text of an accepted string of more than `SHORT` bytes, with one allocation.
 
-ghost use Rattle.std.specs.Prelude.{◌≡◌, ◌+◌, ◌-◌, ◌++◌, ◌<◌, if◌then◌else◌, ◌≤◌, ◌↔◌, IsFalse, IfOk, take, drop, length, slice_get, slice_range, string_bytes};
+ghost use Rattle.std.specs.Prelude.{◌≡◌, ◌+◌, ◌-◌, ◌++◌, ◌<◌, if◌then◌else◌, ◌≤◌, IsFalse, IfOk, take, drop, length, slice_get, slice_range, string_bytes};
 ghost use Rattle.mime.specs.Bytes.{semicolon_byte};
 ghost use Rattle.mime.specs.Values.{lowered, is_charset};
 ghost use Rattle.mime.specs.Inner.Scanning.{HasPositions};
@@ -24,14 +24,9 @@ static CAPITALS: Class = Class {
 /// Returns `true` if any of the bytes is an ASCII capital.
 #[inline(always)]
 pub(crate) fn has_capital(bytes: &[u8]) -> bool
-    ensures { IsFalse result ↔ (lowered bytes.now ≡ bytes.now) }
+    ensures { IsFalse result → lowered bytes.now ≡ bytes.now }
 {
-    let mut found = false;
-    // Without an early exit, several bytes are tested at a time.
-    for byte in bytes {
-        found |= byte.is_ascii_uppercase();
-    }
-    found
+    first_stop(bytes, 0, &CAPITALS) < bytes.len()
 }
 
 /// Lowercases `bytes[from..to]`.
@@ -114,8 +109,7 @@ fn keep_pairs(
     requires some { 0 < count }
     ensures { IfOk result (λ kept. string_bytes kept ≡ with_pairs_lowered count semicolon text.now) }
 {
-    // A long text is searched block by block.
-    if first_stop(text.as_bytes(), 0, &CAPITALS) == text.len() {
+    if !has_capital(text.as_bytes()) {
         return String::from_str(alloc, text);
     }
     let mut bytes = Vec::from_slice(alloc, text.as_bytes())?;
