@@ -1,11 +1,12 @@
 -- The bytes that a search for the end of a token, or of quoted text, passes.
-use Rattle.std.proofs.Common.{◌≡◌, ℕ, ◌<◌, Bool, true, false, not, refl, sym, ap, ◌∙◌, arith, inl, inr}
+use Rattle.std.proofs.Common.{◌≡◌, ℕ, ◌<◌, List, [], ◌∷◌, length, Bool, true, false, not, refl, sym, ap, ◌∙◌, arith, inl, inr}
 use Rattle.std.specs.Prelude.{◌||◌, nat_lt}
-use Rattle.std.specs.{List.list_all, List.range_with_len, Int.Bits.bit_or}
-use Rattle.std.proofs.{lemmas.Bool.lt-ltb, lemmas.Bool.cases_lt, lemmas.Bool.not-true, lemmas.Bool.true≢false, Math.Bool.or-true, lemmas.Nat.le_or_l}
+use Rattle.std.specs.{Char.to_ascii_lowercase, List.list_all, List.prefix_len, List.range_with_len, Int.Bits.bit_or}
+use Rattle.std.proofs.{lemmas.Bool.lt-ltb, lemmas.Bool.cases_lt, lemmas.Bool.not-true, lemmas.Bool.true≢false, lemmas.Bool.Decides.nat_tests, Math.Bool.or-true, Math.Numerals.one-add, lemmas.Nat.le_or_l}
 use Rattle.mime_search.proofs.IgnoringCase.{at_byte}
 use Rattle.mime.specs.{Bytes.is_token_byte, Bytes.is_quoted_byte, Bytes.is_quoted_text_byte, Inner.ByteClasses.is_token_except_plus}
-use Rattle.mime_search.specs.{Classes.is_outside_range, Classes.is_outside, Classes.is_stop, declared.class.Class.Class, declared.class.Range.Range, declared.class.TheConstants.TOKEN_STOPS, declared.class.TheConstants.TEXT_STOPS}
+use Rattle.mime.specs.{Values.lowered, declared.value.kept.TheConstants.CAPITALS}
+use Rattle.mime_search.specs.{Classes.end_of_run, Classes.is_outside_range, Classes.is_outside, Classes.is_stop, declared.class.Class.Class, declared.class.Range.Range, declared.class.TheConstants.TOKEN_STOPS, declared.class.TheConstants.TEXT_STOPS}
 
 -- what is past all ranges is outside
 past_range : (range : Range) (b : ℕ) → range.1 < b → is_outside_range range b ≡ true
@@ -35,3 +36,17 @@ are_token_bytes b go = in_ranges TOKEN_STOPS is_token_except_plus (omega arith) 
 pub are_quoted_text : (b : ℕ) → not (is_stop TEXT_STOPS b) ≡ true → is_quoted_text_byte b ≡ true
 unfolding is_quoted_byte
 are_quoted_text b go = in_ranges TEXT_STOPS is_quoted_text_byte (omega arith) (omega arith) (omega arith) refl b (not-true _ go)
+
+-- a search for a capital passes only bytes that are in lowercase
+are_low : (b : ℕ) → not (is_stop CAPITALS b) ≡ true → to_ascii_lowercase b ≡ b
+are_low b go = grind (arith, nat_tests, go)
+
+-- bytes of which each is in lowercase are in lowercase
+low_bytes : (class : ℕ → Bool) → ((b : ℕ) → class b ≡ true → to_ascii_lowercase b ≡ b) → (bytes : List ℕ)
+    → prefix_len class bytes ≡ length bytes → lowered bytes ≡ bytes
+low_bytes class low [] all = refl
+low_bytes class low (b ∷ bytes) all = grind (arith, nat_tests, one-add (prefix_len class bytes), low b, low_bytes class low bytes, all)
+
+-- a text in which no capital is found is in lowercase
+pub no_capital_found : (text : List ℕ) → end_of_run CAPITALS text 0 ≡ length text → lowered text ≡ text
+no_capital_found text all = low_bytes (λ b. not (is_stop CAPITALS b)) are_low text (omega (arith, all))

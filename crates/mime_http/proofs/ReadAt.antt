@@ -2,7 +2,7 @@
 use Rattle.std.proofs.Common.{rules}
 use Rattle.std.proofs.lemmas.Grind.{common_steps}
 use Rattle.std.proofs.Common.{suc, sym, zero}
-use Rattle.mime_http.proofs.Common.{Bool, one-add, InvalidToken, IsClosedAt, IsContent, List, None, ParseError, Some, State, [], IsStringFault, IsToken, Parts, after_semicolon, answer_at, answer_at_end, answer_from, ap, append-nil, append_assoc, arith, awaits_after, awaits_after-append, before_semicolon, cases_lt, drop, drop-drop, drop_more, drop_of_length-le, drop_split, false, fault_at, flat_map-append, get_or-drop, if◌then◌else◌, in_name, in_ranges, in_string, in_subtype, in_value, is_quoted_byte, is_quoted_text_byte, is_space, is_token_byte, is_token_value, length, length-drop, length-take-le, nat_tests, list_all, list_all-append, list_all-wider, next, no_byte, not, prefix_len, prefix_len_stops, quoted_pair, refl, rejected, slice_index, slice_range, take, take-add, text_byte, text_of_pair, text_of_parts, true, with_parameter, ℕ, ◌++◌, ◌+◌, ◌-◌, ◌<◌, ◌∙◌, ◌∷◌, ◌≡◌, ◌≢◌, ◌≤◌, not-true, content-awaits, is_stop}
+use Rattle.mime_http.proofs.Common.{Bool, one-add, InvalidToken, IsClosedAt, IsContent, List, None, ParseError, Some, State, [], IsStringFault, IsToken, Parts, after_semicolon, answer_at, answer_at_end, answer_from, ap, append-nil, append_assoc, arith, awaits_after, awaits_after-append, before_semicolon, cases_lt, drop, drop-drop, drop_more, drop_of_length-le, drop_split, false, fault_at, flat_map-append, get_or-drop, if◌then◌else◌, in_name, in_ranges, in_string, in_subtype, in_value, is_quoted_byte, is_quoted_text_byte, is_space, is_bchar, is_token_byte, is_token_value, length, length-drop, length-take-le, nat_tests, list_all, list_all-append, list_all-wider, next, no_byte, not, prefix_len, prefix_len_stops, quoted_pair, refl, rejected, slice_index, slice_range, take, take-add, take-append-drop, take_all, text_byte, text_of_pair, text_of_parts, true, with_parameter, ℕ, ◌++◌, ◌+◌, ◌-◌, ◌<◌, ◌∙◌, ◌∷◌, ◌≡◌, ◌≢◌, ◌≤◌, not-true, content-awaits, is_stop}
 use Rattle.mime_http.{proofs.Written.token_from_test, proofs.ReadBack.content_more, proofs.Runs.EndsToken, proofs.Runs.KeepsSpace, proofs.Runs.content_ends, proofs.Runs.name_begins, proofs.Runs.no_way, proofs.Runs.on_content, proofs.Runs.on_subtype, proofs.Runs.on_value, proofs.Runs.one_byte, proofs.Runs.over_white, proofs.Runs.subtype_ends, proofs.Runs.value_ends}
 use Rattle.mime_search.specs.declared.class.TheConstants.{TOKEN_STOPS, TEXT_STOPS}
 
@@ -70,6 +70,21 @@ run_goes_on narrow class wider value from to least passed =
 pub are_token_bytes : (b : ℕ) → not (is_stop TOKEN_STOPS b) ≡ true → is_token_byte b ≡ true
 unfolding is_token_byte
 are_token_bytes b go = in_ranges TOKEN_STOPS is_token_byte (omega arith) (omega arith) (omega arith) refl b (not-true _ go)
+
+-- They may occur in a boundary, too.
+are_bchars : (b : ℕ) → not (is_stop TOKEN_STOPS b) ≡ true → is_bchar b ≡ true
+are_bchars b go = in_ranges TOKEN_STOPS is_bchar (omega arith) (omega arith) (omega arith) refl b (not-true _ go)
+
+-- So the bytes after them decide whether all may.
+pub rest_decides : (bytes : List ℕ) (n : ℕ) → let plain : ℕ → Bool = λ b. not (is_stop TOKEN_STOPS b) in n ≡ run_end plain bytes 0
+    → list_all is_bchar (take (length bytes - n) (drop n bytes)) ≡ list_all is_bchar bytes
+rest_decides bytes n is =
+    let plain : ℕ → Bool = λ b. not (is_stop TOKEN_STOPS b) in
+    let same : n ≡ prefix_len plain bytes = omega (arith, is) in
+    let rest = take_all (length bytes - n) (drop n bytes) (omega (arith, length-drop n bytes)) in
+    let first : list_all is_bchar (take n bytes) ≡ true =
+    list_all-wider plain is_bchar are_bchars (take n bytes) (rw same (run_all plain bytes)) in
+    grind (arith, rest, first, list_all-append is_bchar (take n bytes) (drop n bytes), take-append-drop n bytes)
 
 -- The bytes that a search for the end of quoted text passes may occur in quoted text.
 pub are_text_bytes : (b : ℕ) → not (is_stop TEXT_STOPS b) ≡ true → is_quoted_text_byte b ≡ true

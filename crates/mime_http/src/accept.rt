@@ -98,7 +98,7 @@ impl Reading {
         }
         self.bad.count = self.bad.count.saturating_add(1);
         if keeps_bad {
-            self.accept.bad.push(entry.to_vec(alloc)?)?;
+            self.accept.bad.push(Vec::from_slice(alloc, entry)?)?;
         }
         Ok(())
     }
@@ -202,6 +202,7 @@ impl Accept {
     ///
     /// # Errors
     /// Returns `AllocError` if memory runs out, which never happens for one line or more of only commas and white space.
+    #[inline(always)]
     pub fn from_lines(alloc: Global, lines: &[&[u8]]) -> Result<Accept, AllocError>
         ensures header { IfOk result (λ accept. IsHeader (map (λ line. line.now) lines.now) accept) }
         ensures nothing { IsHeader (map (λ line. line.now) lines.now) (record { ranges = []; bad = [] }) → IsOk result }

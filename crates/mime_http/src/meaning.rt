@@ -52,7 +52,8 @@ fn differ_but_mean_the_same(value: &[u8], other: &[u8]) -> bool
 }
 
 /// Returns `true` if two values of parameters mean the same, as `\x` and `x` do: a backslash and the byte after it mean that byte (RFC
-/// 9110, 5.6.4). This doesn't allocate.
+/// 9110, 5.6.4). This doesn't allocate. This function isn't inlined, so that a value whose name differs isn't read.
+#[inline(never)]
 pub(crate) fn mean_the_same(value: &str, other: &str) -> bool
     ensures { result ≡ bytes_eq (unescaped value.now) (unescaped other.now) }
 {

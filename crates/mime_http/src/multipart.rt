@@ -8,6 +8,7 @@ ghost use Rattle.mime_http.specs.{Boundary.is_bchar, Boundary.IsBoundary, Bounda
 use crate::quoted::unescape;
 use crate::range::first_value;
 use mime::Mime;
+use mime_search::{TOKEN_STOPS, first_stop};
 use std::alloc::{AllocError, Global};
 
 /// The mark of a byte that may occur in a boundary.
@@ -48,8 +49,11 @@ pub fn is_boundary(bytes: &[u8]) -> bool
     ensures { IsTrue result ↔ IsBoundary bytes.now }
 {
     match bytes.last() {
-        Some(last) => bytes.len() <= LONGEST && *last != b' ' && are_boundary_bytes(bytes),
-        None => false,
+        Some(last) if bytes.len() <= LONGEST && *last != b' ' => {
+            // Most boundaries have only letters, digits, hyphens and dots.
+            are_boundary_bytes(&bytes[first_stop(bytes, 0, &TOKEN_STOPS)..])
+        }
+        _ => false,
     }
 }
 
@@ -63,7 +67,7 @@ fn meant_boundary(alloc: Global, value: &str) -> Result<Option<Vec<u8>>, AllocEr
     let bytes = value.as_bytes();
     if is_boundary(bytes) {
         // A boundary has no backslash, so it means itself.
-        return Ok(Some(bytes.to_vec(alloc)?));
+        return Ok(Some(Vec::from_slice(alloc, bytes)?));
     }
     // Any two bytes mean at least one byte. Only a backslash at the end means none.
     if bytes.len() > 2 * LONGEST + 1 || !value.contains('\\') {

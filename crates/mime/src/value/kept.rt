@@ -1,6 +1,6 @@
 //! Makes the kept text of an accepted string of more than `SHORT` bytes, with one allocation.
 
-ghost use Rattle.std.specs.Prelude.{◌≡◌, ◌+◌, ◌-◌, ◌++◌, ◌<◌, if◌then◌else◌, ◌≤◌, ◌↔◌, IsFalse, IfOk, take, drop, length, slice_get, slice_range, string_bytes};
+ghost use Rattle.std.specs.Prelude.{◌≡◌, ◌+◌, ◌-◌, ◌++◌, ◌<◌, if◌then◌else◌, ◌≤◌, IsFalse, IfOk, take, drop, length, slice_get, slice_range, string_bytes};
 ghost use Rattle.mime.specs.Bytes.{semicolon_byte};
 ghost use Rattle.mime.specs.Values.{lowered, is_charset};
 ghost use Rattle.mime.specs.Inner.Scanning.{HasPositions};
@@ -9,20 +9,24 @@ ghost use Rattle.mime.specs.Inner.KeptText.{with_pairs_lowered, kept_positions, 
 use crate::name::constants::CHARSET;
 use crate::scan::Positions;
 use crate::value::pairs::{Pairs, cut_before};
-use mime_search::{BLOCK, Rest, eq_ignore_ascii_case};
+use mime_search::{BLOCK, Class, Range, Rest, eq_ignore_ascii_case, first_stop};
 use std::alloc::{AllocError, Global};
 
+/// The ASCII capitals.
+static CAPITALS: Class = Class {
+    fold: 0,
+    folded: Range(b'A', b'Z'),
+    second: Range(b'A', b'Z'),
+    third: Range(b'A', b'Z'),
+    inside: true,
+};
+
 /// Returns `true` if any of the bytes is an ASCII capital.
-#[inline]
+#[inline(always)]
 pub(crate) fn has_capital(bytes: &[u8]) -> bool
-    ensures { IsFalse result ↔ (lowered bytes.now ≡ bytes.now) }
+    ensures { IsFalse result → lowered bytes.now ≡ bytes.now }
 {
-    let mut found = false;
-    // Without an early exit, several bytes are tested at a time.
-    for byte in bytes {
-        found |= byte.is_ascii_uppercase();
-    }
-    found
+    first_stop(bytes, 0, &CAPITALS) < bytes.len()
 }
 
 /// Lowercases `bytes[from..to]`.
