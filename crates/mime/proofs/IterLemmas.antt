@@ -28,35 +28,35 @@ seen i = record { text = i.text.now; left = i.left.now; out_of_memory = i.out_of
 
 -- ---- the search
 
--- the search begins
+-- The search begins.
 pub looking-first : (old : Iteration) → IsLooking old old
 looking-first old = search (empty-cut, rules)
 
 -- ---- a whole call
 
--- at the end of a run the steps are those of the text's cut
+-- At the end of a run the steps are those of the text's cut.
 sound-exact : (i : Iteration) → IsSound i → i.left ≡ [] → i.out_of_memory ≡ false → TakesSteps i.text i.steps
 sound-exact i sound ended fed =
     let none : TakesSteps i.left 0 = subst (λ t. TakesSteps t 0) (sym ended) (takes-viable [] empty_is_viable) in
     subst (TakesSteps i.text) (omega arith) (sound.exact fed 0 none)
 
--- a call returns `None`
+-- A call returns `None`.
 pub next-none : (old new : Iteration) → IsFound old None new → IsNext old None new
 next-none old new found = search (sound-exact, rules)
 
--- a call returns the item of the piece that was found
+-- A call returns the item of the piece that was found.
 next-some : (old now new : Iteration) (piece : Bor (List ℕ) × Option Positions) (given : Result OwnedMedia Bad)
     → IsFound old (Some piece) now
     → IsSound new → new.text ≡ now.text → new.steps ≡ now.steps → GivesItem old (Some given) new → IsNext old (Some given) new
 next-some old now new piece given found sound text steps item = search (sound-exact, none-some, rules)
 
--- a call returns a bad piece
+-- A call returns a bad piece.
 pub next-bad : (old new : Iteration) (piece : Bor (List ℕ)) → IsFound old (Some (piece, None)) new
     → IsNext old (Some (Err (Piece piece))) new
 next-bad old new piece found =
     next-some old new new (piece, None) (Err (Piece piece)) found found.sound refl refl (found.gives.0, found.out_of_memory)
 
--- a call returns a media type
+-- A call returns a media type.
 pub next-good : (old new : Iteration) (piece : Bor (List ℕ)) (positions : Positions) (mime : OwnedMedia)
     → IsFound old (Some (piece, Some positions)) new → Reads piece.now mime.media
     → (piece.now ≡ codes "*/*" → mime.fixed ≡ true) → IsNext old (Some (Ok mime)) new
@@ -64,7 +64,7 @@ next-good old new piece positions mime found reads star =
     next-some old new new (piece, Some positions) (Ok mime) found found.sound refl refl
     (piece.now, found.gives.0.1 mime.media reads, star, found.out_of_memory)
 
--- a call returns `NoMemory`, which ends the run
+-- A call returns `NoMemory`, which ends the run.
 pub next-out_of_memory : (old now new : Iteration) (piece : Bor (List ℕ)) (positions : Positions)
     → IsFound old (Some (piece, Some positions)) now → Explains piece.now error.NoMemory
     → new ≡ record now { left = []; out_of_memory = true } → IsNext old (Some (Err NoMemory)) new
@@ -78,13 +78,13 @@ next-out_of_memory old now new piece positions found (value, reads, long) is =
       ap (λ (i : Iteration). i.out_of_memory) is,
     )
 
--- nothing is given after an end
+-- Nothing is given after an end.
 given_ended : (first : Iteration) (given : List (Result OwnedMedia Bad)) → first.left ≡ [] → Drains IsNext first given
     → given ≡ []
 given_ended first [] ended drains = refl
 given_ended first (item ∷ given) ended (end, (last, (next, step, others), none)) = absurd (none-some item (sym (step.stays ended).0))
 
--- the cut whose items a run yields
+-- The cut whose items a run yields.
 run_items : (first : Iteration) (given : List (Result OwnedMedia Bad)) → Drains IsNext first given
     → (items : List CutItem) × (rest : List ℕ) × Cut first.left items rest × AreGiven given items
 run_items first [] (end, (last, same, none)) =
@@ -101,13 +101,13 @@ run_items first (Err NoMemory ∷ given) (end, (last, (next, step, others), none
     let are = no_memory piece value items long in
     (_, rest, cut, subst (λ g. AreGiven (Err NoMemory ∷ g) (good piece value ∷ items)) (sym ended) are)
 
--- a whole run yields the items of the cut
+-- A whole run yields the items of the cut.
 pub run_gives_cut : RunGivesCut
 run_gives_cut first given drains items rest cut =
     let (own, end, found, are) = run_items first given drains in
     subst (AreGiven given) (cut_unique first.left items rest cut own end found).0 are
 
--- a run over a text with a comma yields the items before it, the rest, and the items after it
+-- A run over a text with a comma yields the items before it, the rest, and the items after it.
 pub comma_contains_on_runs : CommaContainsOnRuns
 comma_contains_on_runs before after items others rest end cut closed follows first given is drains =
     search (run_gives_cut, comma_contains, rules)

@@ -8,11 +8,11 @@ use Rattle.mime.specs.{Bytes.is_token_byte, Bytes.is_quoted_byte, Bytes.is_quote
 use Rattle.mime.specs.{Values.lowered, declared.value.kept.TheConstants.CAPITALS}
 use Rattle.mime_search.specs.{Classes.end_of_run, Classes.is_outside_range, Classes.is_outside, Classes.is_stop, declared.class.Class.Class, declared.class.Range.Range, declared.class.TheConstants.TOKEN_STOPS, declared.class.TheConstants.TEXT_STOPS}
 
--- what is past all ranges is outside
+-- What is past all ranges is outside.
 past_range : (range : Range) (b : ℕ) → range.1 < b → is_outside_range range b ≡ true
 past_range range b past = rw (lt-ltb range.1 b past) (or-true (nat_lt b range.0))
 
--- a byte is inside the ranges only if a wider class has it: tried on all bytes
+-- A byte is inside the ranges only if a wider class has it: tried on all bytes.
 pub in_ranges : (class : Class) (wider : ℕ → Bool) → class.folded.1 < 256 → class.second.1 < 256 → class.third.1 < 256
     → list_all (λ b. is_outside class b || wider b) (range_with_len 0 256) ≡ true → (b : ℕ) → is_outside class b ≡ false
     → wider b ≡ true
@@ -27,26 +27,26 @@ in_ranges class wider one two three all b inside =
           absurd (true≢false (sym outside ∙ inside))
     ]
 
--- a search for the end of common token bytes passes only token bytes other than the plus
+-- A search for the end of common token bytes passes only token bytes other than the plus.
 pub are_token_bytes : (b : ℕ) → not (is_stop TOKEN_STOPS b) ≡ true → is_token_except_plus b ≡ true
 unfolding is_token_byte
 are_token_bytes b go = in_ranges TOKEN_STOPS is_token_except_plus (omega arith) (omega arith) (omega arith) refl b (not-true _ go)
 
--- a search for the end of quoted text passes only bytes of quoted text
+-- A search for the end of quoted text passes only bytes of quoted text.
 pub are_quoted_text : (b : ℕ) → not (is_stop TEXT_STOPS b) ≡ true → is_quoted_text_byte b ≡ true
 unfolding is_quoted_byte
 are_quoted_text b go = in_ranges TEXT_STOPS is_quoted_text_byte (omega arith) (omega arith) (omega arith) refl b (not-true _ go)
 
--- a search for a capital passes only bytes that are in lowercase
+-- A search for a capital passes only bytes that are in lowercase.
 are_low : (b : ℕ) → not (is_stop CAPITALS b) ≡ true → to_ascii_lowercase b ≡ b
 are_low b go = grind (arith, nat_tests, go)
 
--- bytes of which each is in lowercase are in lowercase
+-- Bytes of which each is in lowercase are in lowercase.
 low_bytes : (class : ℕ → Bool) → ((b : ℕ) → class b ≡ true → to_ascii_lowercase b ≡ b) → (bytes : List ℕ)
     → prefix_len class bytes ≡ length bytes → lowered bytes ≡ bytes
 low_bytes class low [] all = refl
 low_bytes class low (b ∷ bytes) all = grind (arith, nat_tests, one-add (prefix_len class bytes), low b, low_bytes class low bytes, all)
 
--- a text in which no capital is found is in lowercase
+-- A text in which no capital is found is in lowercase.
 pub no_capital_found : (text : List ℕ) → end_of_run CAPITALS text 0 ≡ length text → lowered text ≡ text
 no_capital_found text all = low_bytes (λ b. not (is_stop CAPITALS b)) are_low text (omega (arith, all))

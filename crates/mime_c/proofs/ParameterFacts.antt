@@ -12,7 +12,7 @@ escaped_quote = has_room _ _ (omega arith) holds
 not_four : (new : List ℕ) → ¬ (UnescapesTo (codes "a\\\"b") (codes "-----") MIME_OK (new, 4))
 not_four new is = search rules
 
--- So many bytes are asked for a parameter.
+-- This parameter asks for room for so many bytes.
 asked : room_with (codes "a/b") (codes "p") (codes "xy") ≡ 17
 asked = refl
 

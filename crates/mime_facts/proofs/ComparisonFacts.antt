@@ -40,7 +40,7 @@ equal_values = (
 
 -- ---- order
 
--- a list that is a prefix of another is before it; otherwise the first items that differ decide; no list is before itself
+-- A list that is a prefix of another is before it; otherwise the first items that differ decide; no list is before itself.
 lists_before :
     IsListBefore (λ (x y : ℕ). x < y) [] (1 ∷ []) × IsListBefore (λ (x y : ℕ). x < y) (1 ∷ 2 ∷ []) (1 ∷ 3 ∷ [])
     × ¬ (IsListBefore (λ (x y : ℕ). x < y) [] []) × ¬ (IsListBefore (λ (x y : ℕ). x < y) (1 ∷ []) [])

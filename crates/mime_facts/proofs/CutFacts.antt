@@ -15,7 +15,7 @@ following_bytes = refl
 beginnings : BeginsCharacter [] × BeginsCharacter (195 ∷ 169 ∷ []) × ¬ (BeginsCharacter (169 ∷ []))
 beginnings = (tt, refl, λ is. true≢false is)
 
--- one character is all of its bytes, and no more
+-- One character is all of its bytes, and no more.
 characters :
     IsCharacter (195 ∷ 169 ∷ []) (codes "b") × ¬ (IsCharacter [] (codes "b")) × ¬ (IsCharacter (195 ∷ []) (169 ∷ []))
     × ¬ (IsCharacter (codes "ab") [])

@@ -56,7 +56,7 @@ e_lacks_slash = lacks-from_walk (codes "e") _ refl refl
 pub e_is_closed : ¬ (IsUnclosed (codes "e"))
 e_is_closed is = absurd (cc (lacks_alone (codes "e") MissingSlash MissingQuote e_lacks_slash is))
 
--- what lacks a subtype ends in its slash, and what lacks a value ends in its equals sign; an accepted text lacks nothing
+-- What lacks a subtype ends in its slash, and what lacks a value ends in its equals sign; an accepted text lacks nothing.
 what_is_lacking :
     Lacks (codes "text/") MissingSubtype × ¬ (Lacks (codes "text/") MissingValue) × ¬ (Lacks (codes "a/b;p=") MissingSubtype)
     × ¬ (Lacks (codes "A/B") MissingSlash)

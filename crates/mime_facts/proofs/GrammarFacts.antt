@@ -25,7 +25,7 @@ quoted_text_bytes : (list_all is_quoted_text_byte (9 ∷ 32 ∷ 33 ∷ 35 ∷ 59
 unfolding is_quoted_byte
 quoted_text_bytes = (refl, refl)
 
--- the bytes with a role of their own
+-- These bytes have a role of their own.
 flags :
     slash_byte ∷ plus_byte ∷ semicolon_byte ∷ equals_byte ∷ quote_byte ∷ backslash_byte ∷ space_byte ∷ tab_byte
     ∷ comma_byte ∷ [] ≡ codes "/+;=\"\\ \t,"
@@ -69,7 +69,7 @@ contents = (
   λ is. true≢false (content-closed _ is),
 )
 
--- a plain value isn't empty, and a quoted one may be; only spaces may follow its quotes
+-- A plain value isn't empty, and a quoted one may be; only spaces may follow its quotes.
 parameters :
     IsParameter (plain (codes "p") (codes "x")) × IsParameter (quoted (codes "p") [] (codes " "))
     × ¬ (IsParameter (plain (codes "p") [])) × ¬ (IsParameter (quoted [] (codes "x") []))
@@ -77,7 +77,7 @@ parameters :
 unfolding is_token_byte is_quoted_byte
 parameters = ((refl, refl), (refl, IsContent-taken [] refl refl, refl), (λ is. is.1), (λ is. is.0), λ is. false≢true is.2)
 
--- the spaces before a parameter are spaces, and the rest of its list is well formed too
+-- The spaces before a parameter are spaces, and the rest of its list is well formed too.
 lists :
     AreParameters two_parameters × ¬ (AreParameters (blank (codes "x")))
     × ¬ (AreParameters (final (codes "x") (plain (codes "p") (codes "x"))))
@@ -90,7 +90,7 @@ lists = (
   λ is. false≢true is.2,
 )
 
--- type and subtype are tokens, and the list is well formed
+-- Type and subtype are tokens, and the list is well formed.
 trees :
     IsTail no_list × IsWellFormed (record { top = codes "a"; sub = codes "b"; tail = no_list })
     × ¬ (IsWellFormed (record { top = []; sub = codes "b"; tail = no_list }))

@@ -44,7 +44,7 @@ read_longer : IsReadInUtf8 longer_value
 unfolding encode_utf8
 read_longer = (codes "a/bx", (codes "a/bx", (refl, refl)), reads_longer)
 
--- a value that keeps a capital of its essence isn't read, and one with the byte 255 not from valid UTF-8
+-- A value that keeps a capital of its essence isn't read, and one with the byte 255 not from valid UTF-8.
 not_read_in_utf8 :
     ¬ (IsReadInUtf8 (record plain_value { kept = codes "A/B" }))
     × ¬ (IsReadInUtf8 (record plain_value { pairs = (codes "p", 255 ∷ []) ∷ [] }))

@@ -30,7 +30,7 @@ two_pluses = media (codes "a/b+c+d") 1 (Some 5) [] (codes "a/b+c+d")
 essence_of_parts : EssenceIsParts → codes "a/b+c+d" ≡ type_of two_pluses ++ (codes "/" ++ (subtype_of two_pluses ++ codes "+d"))
 essence_of_parts law = law _ two_pluses plus_twice
 
--- parts are the same whatever the parameters, and differ if one of them does
+-- Parts are the same whatever the parameters, and differ if one of them does.
 same_parts :
     HaveSameParts plain_value (record plain_value { pairs = ([], []) ∷ [] })
     × ¬ (HaveSameParts plain_value (media (codes "c/b") 1 None [] []))
@@ -69,7 +69,7 @@ which_pairs_are_safe : IsSafePair (codes "p", []) × ¬ (IsSafePair ([], codes "
 unfolding is_token_byte is_quoted_byte
 which_pairs_are_safe = ((refl, IsContent-taken [] refl refl), (λ is. is.0), λ is. false≢true (content-taken _ is.1))
 
--- a value with a line feed, without a type or a subtype, with a space in its suffix, or with a parameter without a name isn't safe
+-- A value with a line feed, without a type or a subtype, with a space in its suffix, or with a parameter without a name isn't safe.
 unsafe_values :
     ¬ (IsSafe (record plain_value { kept = codes "a/b\n" })) × ¬ (IsSafe (record plain_value { slash = 0 }))
     × ¬ (IsSafe (record plain_value { essence = codes "a/" })) × ¬ (IsSafe (record two_pluses { essence = codes "a/b+c+ " }))

@@ -113,7 +113,7 @@ viable_in_utf8 = (
   λ is. false≢true (utf8_bytes _ is.1),
 )
 
--- the longest of them has one byte of `a b`, no fewer, and no more; and no more than the text has
+-- The longest of them has one byte of `a b`, no fewer, and no more; and no more than the text has.
 prefixes_in_utf8 :
     IsLongest IsViableInUtf8 (codes "a b") 1 × ¬ (IsLongest IsViableInUtf8 (codes "a b") 0)
     × ¬ (IsLongest IsViableInUtf8 (codes "a b") 3) × ¬ (IsLongest IsViableInUtf8 (codes "a") 2)

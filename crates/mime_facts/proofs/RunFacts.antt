@@ -34,7 +34,7 @@ only_item text value reads piece other items rest cut =
 
 -- ---- what is left
 
--- the first item of `e,A/B` is `e`, and not `A/B`
+-- The first item of `e,A/B` is `e`, and not `A/B`.
 first_items :
     IsFirstItem (codes "e,A/B") (bad (codes "e")) (codes "A/B") × ¬ (IsFirstItem (codes "e,A/B") (good (codes "A/B") plain_value) [])
 first_items = (

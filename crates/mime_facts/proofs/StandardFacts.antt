@@ -160,7 +160,7 @@ pub space_in_type : IsFault (codes "a b") (InvalidToken 1 32)
 unfolding is_token_byte
 space_in_type = dead-from_walk (codes "a") (codes "b") 32 _ refl refl
 
--- bytes at fault, and their positions
+-- These bytes are at fault, at these positions.
 bytes_at_fault :
     -- a subtype has no slash
     IsFault (codes "a//") (InvalidToken 2 47)

@@ -38,7 +38,7 @@ abbrev capitals : SyntaxTree
 capitals = tree_from_parts (codes "A") (codes "B+C")
     (listed (more (codes " ") (plain (codes "P") (codes "X")) (final [] (quoted (codes "Charset") (codes "\\X") (codes " ")))))
 
--- the lowercased form of `A/B+C` keeps the value under `P`, and all spaces
+-- The lowercased form of `A/B+C` keeps the value under `P`, and all spaces.
 lowered_capitals :
     lowered_tree capitals ≡ tree_from_parts (codes "a") (codes "b+c")
     (listed (more (codes " ") (plain (codes "p") (codes "X")) (final [] (quoted (codes "charset") (codes "\\x") (codes " ")))))
@@ -51,7 +51,7 @@ pairs_of_parts : (pair_of (plain (codes "p") (codes "x")) ≡ (codes "p", codes 
     ≡ (codes "q", codes "y") ∷ (codes "p", codes "x") ∷ [])
 pairs_of_parts = (refl, refl, refl, refl)
 
--- the pairs of `A/B+C`, without quotes and with backslashes, the essence, and the kept text with a pair and without one
+-- The pairs of `A/B+C`, without quotes and with backslashes, the essence, and the kept text with a pair and without one.
 parts_of_capitals :
     (pairs_of_tail capitals.tail ≡ (codes "P", codes "X") ∷ (codes "Charset", codes "\\X") ∷ []) × (pairs_of_tail no_list ≡ [])
     × (essence_of capitals ≡ codes "A/B+C") × (kept_text [] capitals ≡ codes "A/B+C")
@@ -153,7 +153,7 @@ low_texts = (
 abbrev IsName : List ℕ → List ℕ → Bool → Type 0
 IsName key name ignores_case = name ≡ key
 
--- the answer of such a key: that of the first item of its name, whatever precedes it, and none if there is no such item
+-- The answer of such a key: that of the first item of its name, whatever precedes it, and none if there is no such item.
 first_answers :
     IsFirstAccepted (IsName (codes "charset")) (exact_item ∷ charset_item ∷ []) (Some (codes "x", true))
     × ¬ (IsFirstAccepted (IsName (codes "charset")) (exact_item ∷ charset_item ∷ []) (Some (codes "X", false)))
@@ -172,14 +172,14 @@ first_answers =
 
 -- ---- names, constants and errors
 
--- a name that ignores ASCII case is a text in any case, whichever of them has capitals; any other name is only its bytes
+-- A name that ignores ASCII case is a text in any case, whichever of them has capitals; any other name is only its bytes.
 names :
     NameIs (codes "text") true (codes "Text") × NameIs (codes "Text") true (codes "text")
     × ¬ (NameIs (codes "text") true (codes "texts")) × NameIs (codes "Abc") false (codes "Abc")
     × ¬ (NameIs (codes "Abc") false (codes "abc"))
 names = (refl, refl, differ (codes "text") (codes "texts") refl, refl, differ (codes "Abc") (codes "abc") refl)
 
--- the constant names, from `*` on
+-- The constant names, from `*` on.
 constant_names :
     name_table ≡ codes "*" ∷ codes "text" ∷ codes "image" ∷ codes "audio" ∷ codes "video"
     ∷ codes "application" ∷ codes "multipart" ∷ codes "message" ∷ codes "model" ∷ codes "font"
@@ -190,7 +190,7 @@ constant_names :
     ∷ codes "basic" ∷ codes "mpeg" ∷ codes "mp4" ∷ codes "ogg" ∷ codes "charset" ∷ codes "boundary" ∷ codes "utf-8" ∷ []
 constant_names = refl
 
--- the texts of the constant media types
+-- The constant media types have these texts.
 constant_texts :
     map atom_text
     (STAR_STAR ∷ TEXT_STAR ∷ TEXT_PLAIN ∷ TEXT_PLAIN_UTF_8 ∷ TEXT_HTML ∷ TEXT_HTML_UTF_8 ∷ TEXT_CSS ∷ TEXT_CSS_UTF_8
@@ -223,7 +223,7 @@ printed_tokens : (fault_text (InvalidToken 10 11) ≡ codes "an invalid token wa
 unfolding digits
 printed_tokens = (refl, refl)
 
--- what a fault prints, with a byte in uppercase hexadecimal without leading zeros
+-- What a fault prints, with a byte in uppercase hexadecimal without leading zeros.
 printed_faults :
     map fault_text (MissingSlash ∷ MissingSubtype ∷ MissingEqual ∷ MissingValue ∷ MissingQuote ∷ InvalidToken 10 11
     ∷ NoMemory ∷ []) ≡ codes "a slash (/) was missing between the type and subtype"

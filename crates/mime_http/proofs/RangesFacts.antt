@@ -36,7 +36,7 @@ weighed ranges offers = map (given_weight (all ranges)) (all offers)
 abbrev best : String → String → Option ℕ
 best ranges offers = best_offer (all ranges) (all offers)
 
--- what covers an offer, and what doesn't
+-- What covers an offer, and what doesn't.
 what_covers :
     -- a range demands each of its parameters, with the same value in the same case, and `text/*` covers no image,
     (covers "text/html;level=1" "text/html;level=1;level=2" ≡ true) × (covers "text/html;level=1" "text/html" ≡ false)
@@ -66,7 +66,7 @@ other_meaning same = search rules
 itself : covers "text/html;level=1;q=0.5;level=2" "text/html;level=1;q=0.5;level=2" ≡ true
 itself = covers_itself (media "text/html;level=1;q=0.5;level=2")
 
--- what ranges give offers
+-- What ranges give offers.
 weights_counted :
     -- `audio/basic` is preferred to any other audio type (RFC 9110, 12.5.1)
     (weighed "audio/*;q=0.2,audio/basic" "audio/basic,audio/mp4" ≡ 1000 ∷ 200 ∷ [])
@@ -85,7 +85,7 @@ weights_counted :
     × (weighed "*/*,text/html;q=0" "text/html" ≡ 0 ∷ []) × (weighed "text/html;q=\\1" "text/html" ≡ 0 ∷ [])
 weights_counted = (refl, refl, refl, refl, refl, refl, refl)
 
--- which offer is the best
+-- Which offer is the best.
 choices :
     -- `text/html` and `text/x-c` are preferred alike, then `text/x-dvi`, then `text/plain` (RFC 9110, 12.5.1)
     (best "text/plain;q=0.5,text/html,text/x-dvi;q=0.8,text/x-c" "text/plain,text/x-dvi,text/x-c" ≡ Some 2)

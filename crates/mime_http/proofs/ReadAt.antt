@@ -75,7 +75,7 @@ are_token_bytes b go = in_ranges TOKEN_STOPS is_token_byte (omega arith) (omega 
 are_bchars : (b : ℕ) → not (is_stop TOKEN_STOPS b) ≡ true → is_bchar b ≡ true
 are_bchars b go = in_ranges TOKEN_STOPS is_bchar (omega arith) (omega arith) (omega arith) refl b (not-true _ go)
 
--- So the bytes after them decide whether all may.
+-- The bytes after plain ones decide whether all may occur in a boundary.
 pub rest_decides : (bytes : List ℕ) (n : ℕ) → let plain : ℕ → Bool = λ b. not (is_stop TOKEN_STOPS b) in n ≡ run_end plain bytes 0
     → list_all is_bchar (take (length bytes - n) (drop n bytes)) ≡ list_all is_bchar bytes
 rest_decides bytes n is =

@@ -10,7 +10,7 @@ use Rattle.mime_search.proofs.Searches.{all_pass}
 abbrev difference_lane : ℕ → ℕ → ℕ
 difference_lane x y = cond (not (eqb x y)) 255 0
 
--- it tells whether they are the same
+-- It tells whether they are the same.
 lane_same : (x y : ℕ) → not (top 7 (difference_lane x y)) ≡ true → x ≡ y
 lane_same x y is = grind (arith, nat_tests, is)
 

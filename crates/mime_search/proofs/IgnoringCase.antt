@@ -5,21 +5,21 @@ use Rattle.std.proofs.{lemmas.List.FromFn.get_or-range_with_len, lemmas.List.len
 use Rattle.std.specs.Prelude.{◌==◌, not, Option, None, Some, IfSome, IsTrue}
 use Rattle.mime_search.specs.Differences.{lowered, difference_bit, DifferFirstAt}
 
--- what holds of all bytes holds of each
+-- What holds of all bytes holds of each.
 pub at_byte : (p : ℕ → Bool) (b : ℕ) → b < 256 → list_all p (range_with_len 0 256) ≡ true → p b ≡ true
 at_byte p b within all =
     subst (λ x. p x ≡ true) (get_or-range_with_len 0 256 b 0 within ∙ zero-add b)
     (AllPass-from_list_all p (range_with_len 0 256) all b 0 within)
 
--- a lowercased text keeps its length
+-- A lowercased text keeps its length.
 pub length-lowered : (text : List ℕ) → length (lowered text) ≡ length text
 length-lowered text = length-map text to_ascii_lowercase
 
--- the text before a position is lowercased by itself
+-- The text before a position is lowercased by itself.
 pub lowered-take : (n : ℕ) (text : List ℕ) → lowered (take n text) ≡ take n (lowered text)
 lowered-take n text = sym (take-map to_ascii_lowercase n text)
 
--- the text after a position is lowercased by itself
+-- The text after a position is lowercased by itself.
 pub lowered-drop : (n : ℕ) (text : List ℕ) → lowered (drop n text) ≡ drop n (lowered text)
 lowered-drop n text = sym (drop-map to_ascii_lowercase n text)
 
@@ -27,25 +27,25 @@ lowered-drop n text = sym (drop-map to_ascii_lowercase n text)
 abbrev pub first_bit_of : List ℕ → ℕ
 first_bit_of bits = position_or_len (λ b. b == 1) bits
 
--- two numbers have no bit together exactly if neither has one
+-- Two numbers have no bit together exactly if neither has one.
 pub together : (n m : ℕ) (P Q Whole : Type 0) → (n ≡ 0) ↔ P → (m ≡ 0) ↔ Q → (P → Q → Whole) → (Whole → P × Q)
     → (bit_or n m ≡ 0) ↔ Whole
 together n m P Q Whole first second whole parts = search (le_or_l, le_or_r, rules)
 
--- the lowercased form of a text's last bytes
+-- The last bytes of a text are lowercased as in the whole text.
 pub lowered_rest : (text : List ℕ) (from : ℕ) → lowered (take (length text - from) (drop from text)) ≡ drop from (lowered text)
 lowered_rest text from = ap lowered (take_rest text from) ∙ lowered-drop from text
 
--- prefixes that are the same have the same shorter prefixes
+-- Prefixes that are the same have the same shorter prefixes.
 pub shorter : (a b : List ℕ) (n m : ℕ) → n ≤ m → take m a ≡ take m b → take n a ≡ take n b
 shorter a b n m less same = sym (take-take n m a less) ∙ ap (take n) same ∙ take-take n m b less
 
--- texts that are the same up to a position, and from there or before on, are the same
+-- Texts that are the same up to a position, and from there or before on, are the same.
 pub lapped : (a b : List ℕ) (n last : ℕ) → last ≤ n → take n a ≡ take n b → drop last a ≡ drop last b → a ≡ b
 lapped a b n last after prefix back =
     sym (take-append-drop last a) ∙ (λ i. shorter a b last n after prefix i ++ back i) ∙ take-append-drop last b
 
--- one more bit
+-- One more pair adds one more bit.
 zip2_push : (f : ℕ → ℕ → ℕ) (xs ys : List ℕ) (x y : ℕ) → length xs ≡ length ys
     → zip2 f (xs ++ (x ∷ [])) (ys ++ (y ∷ [])) ≡ zip2 f xs ys ++ (f x y ∷ [])
 zip2_push f [] [] x y long = refl
@@ -80,11 +80,11 @@ equal_to_bit (x ∷ xs) (y ∷ ys) = go (to_ascii_lowercase x == to_ascii_lowerc
         rw next (λ i. byte i ∷ rest i)
     go false is rest = refl
 
--- a bit is 0 exactly if the bytes are the same ignoring ASCII case
+-- A bit is 0 exactly if the bytes are the same ignoring ASCII case.
 pub no_bit_at : (x y found : ℕ) → found ≡ difference_bit x y → (found ≡ 0) ↔ (to_ascii_lowercase x ≡ to_ascii_lowercase y)
 no_bit_at x y found is = (λ none. grind (arith, nat_tests), λ same. is ∙ ap (λ b. cond b 0 1) (eq-eqb _ _ same))
 
--- if a bit is 1, they differ
+-- If a bit is 1, they differ.
 differ_at_bit : (x y : ℕ) → difference_bit x y ≡ 1 → to_ascii_lowercase x ≢ to_ascii_lowercase y
 differ_at_bit x y is same = absurd (omega (arith, sym is ∙ ap (λ b. cond b 0 1) (eq-eqb _ _ same)))
 
@@ -158,7 +158,7 @@ module _ (a b : List ℕ) (from : ℕ) (before : take from (lowered a) ≡ take 
       at : (text : List ℕ) → get_or (take (length text - from) (drop from text)) n 0 ≡ get_or text (from + n) 0
       at text = ap (λ t. get_or t n 0) (take_rest text from) ∙ get_or-drop from text n 0
 
--- texts of one length are the same ignoring ASCII case exactly if none is found
+-- Texts of one length are the same ignoring ASCII case exactly if none is found.
 pub none_found : (a b : List ℕ) (found : Option ℕ) (none : Bool) → is_some found ≡ not none → length a ≡ length b
     → IfSome found (DifferFirstAt a b) → (found ≡ None → length a ≡ length b → lowered a ≡ lowered b)
     → IsTrue none ↔ (lowered a ≡ lowered b)

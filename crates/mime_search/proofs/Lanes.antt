@@ -38,11 +38,11 @@ range_of_map f range v vs long is =
     zip2_of_maps bit_or (λ b. lane (nat_lt (f b) range.0)) (λ b. lane (nat_lt range.1 (f b))) vs below above
     ∙ (λ i. map (λ b. or_lane (nat_lt (f b) range.0) (nat_lt range.1 (f b)) i) vs)
 
--- a vector as a map of itself
+-- A vector is the map of itself by the identity.
 same_lanes : (vs : List ℕ) → vs ≡ map (λ b. b) vs
 same_lanes vs = grind (arith, common_steps)
 
--- the mask of a vector, as it is computed
+-- The mask of a vector, as it is computed.
 pub outside_lanes : (class : Class) (v : List ℕ) → length v ≡ 16 → mask_l (map (top 7) (zip2 bit_and
     (zip2 bit_and (range_lanes (zip2 bit_or v (replicate 16 class.fold)) class.folded.0 class.folded.1)
     (range_lanes v class.second.0 class.second.1)) (range_lanes v class.third.0 class.third.1))) % 2 ^ 64 ≡ outside class v
@@ -62,7 +62,7 @@ outside_lanes class v long =
     (map-map (top 7) (λ b. lane (is_outside class b)) v ∙ (λ i. map (λ b. top_lane (is_outside class b) i) v))
     ∙ mask_l-mod (map (is_outside class) v) 64 (omega (arith, length-map v (is_outside class), long))
 
--- the bits of the others
+-- The bits of the bytes that fail a test are those that the mask of the others lacks.
 mask-not : (p : ℕ → Bool) (xs : List ℕ) → mask_l (map (λ b. not (p b)) xs) + mask_l (map p xs) + 1 ≡ 2 ^ length xs
 mask-not p [] = refl
 mask-not p (x ∷ xs) = go (p x) (mask-not p xs)
@@ -80,7 +80,7 @@ pub stops_inside : (class : Class) (v : List ℕ) → length v ≡ 16 → class.
     → 65535 - outside class v ≡ stops class v
 stops_inside class v long is = rw is (omega (arith, mask-not (is_outside class) v, ap (λ n. 2 ^ n) long))
 
--- two bytes, as ranges
+-- Two bytes are tested as two ranges.
 pub of_two : (one other b : ℕ) → not (((nat_lt (bit_or b 0) one || nat_lt one (bit_or b 0)) && (nat_lt b other || nat_lt other b))
     && (nat_lt b other || nat_lt other b)) ≡ (b == one || b == other)
 of_two one other b = rw (or_zero_r b) (grind (arith, nat_tests))

@@ -7,7 +7,7 @@ use Rattle.mime_search.proofs.Searches.{mask-drop, no_stop, a_stop, stop_within}
 
 -- ---- masks that are joined
 
--- the mask of bytes and more bytes
+-- The mask of bytes and more bytes has the bits of both.
 mask-append : (xs ys : List Bool) → mask_l (xs ++ ys) ≡ mask_l xs + 2 ^ length xs * mask_l ys
 mask-append [] ys = omega arith
 mask-append (x ∷ xs) ys =

@@ -7,7 +7,7 @@ use Rattle.mime_search.proofs.Searches.{a_stop, no_stop, stop_within}
 use lib.Count.{count_trailing_zeros}
 use Rattle.mime_search.specs.{Classes.is_stop, Classes.end_of_run, declared.class.Class.Class, Quoted.quote, Quoted.backslash, Quoted.len_from, Quoted.meant_from}
 
--- what a position leaves to search for the end of quoted content
+-- What a position leaves to search for the end of quoted content.
 len_from-at : (text : List ℕ) (position : ℕ) → position < length text → len_from false (drop position text)
     ≡ cond (get_or text position 0 == quote) 0 (suc (len_from (get_or text position 0 == backslash) (drop (position + 1) text)))
 len_from-at text position within = ap (len_from false) (drop_more text position 0 within)
@@ -41,12 +41,12 @@ pub search_past_run : (class : Class) → ((b : ℕ) → is_stop class b ≡ is_
 search_past_run class are text from to is =
     search_past_plain_run text from to (is ∙ (λ i. from + prefix_len (λ b. not (are b i)) (drop from text)))
 
--- a first quote or backslash within the text is one
+-- A first quote or backslash within the text is one.
 mark_there : (text : List ℕ) (from to : ℕ) → to ≡ from + plain_len (drop from text) → to < length text
     → is_mark (get_or text to 0) ≡ true
 mark_there text from to is within = search (length-drop, get_or-drop, prefix_len_stops, rules)
 
--- a backslash is passed with the byte that it pairs
+-- A backslash is passed with the byte that it pairs.
 pub search_past_pair : (text : List ℕ) (position whole : ℕ) → position + len_from false (drop position text) ≡ whole
     → position + 1 < length text → get_or text position 0 ≡ backslash
     → position + 2 + len_from false (drop (position + 2) text) ≡ whole

@@ -4,7 +4,7 @@ use Rattle.std.specs.Prelude.{◌==◌}
 use Rattle.std.proofs.{lemmas.List.Sums.passes_at_first, lemmas.Bool.Decides.Decides-eqb, lemmas.Option.slice_get-get_or}
 use Rattle.mime_search.specs.Rests.{first_position}
 
--- the byte that was looked for is at the position found
+-- The byte that was looked for is at the position found.
 pub slice_get-first_position : (byte : ℕ) (text : List ℕ) (position : ℕ) → position ≡ first_position byte text
     → position < length text → slice_get text position ≡ Some byte
 slice_get-first_position byte text position is within =

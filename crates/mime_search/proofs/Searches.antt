@@ -8,11 +8,11 @@ use lib.Count.{count_trailing_zeros}
 
 -- ---- bit masks
 
--- a bit mask without its lowest bit
+-- Halving a bit mask drops its lowest bit.
 half : (b : Bool) (m : ℕ) → (cond b 1 0 + 2 * m) / 2 ≡ m
 half b m = grind (arith, common_steps)
 
--- a bit mask without its lowest bits
+-- Dividing a bit mask by a power of two drops its lowest bits.
 pub mask-drop : (n : ℕ) (ms : List Bool) → mask_l ms / 2 ^ n ≡ mask_l (drop n ms)
 mask-drop zero ms = div-one (mask_l ms)
 mask-drop (suc n) [] = zero-div (2 ^ suc n)
@@ -20,24 +20,24 @@ mask-drop (suc n) (b ∷ ms) =
     ap (λ k. mask_l (b ∷ ms) / k) (pow-suc 2 n ∙ mul_comm (2 ^ n) 2) ∙ sym (div-div-eq-div-mul (mask_l (b ∷ ms)) 2 (2 ^ n))
     ∙ ap (λ k. k / 2 ^ n) (half b (mask_l ms)) ∙ mask-drop n ms
 
--- a bit more, if it isn't set
+-- A bit more, if it isn't set.
 none_fails : (b : Bool) (n l m : ℕ) → n ≤ l → cond (not b) (1 + n) 0 ≡ 1 + l → (n ≡ l → m ≡ 0)
     → cond b 1 0 + 2 * m ≡ 0
 none_fails b n l m le e rest = grind (arith, common_steps)
 
--- if no byte has its bit, the search passes them all
+-- If no byte has its bit, the search passes them all.
 pub all_pass : (p : ℕ → Bool) (xs : List ℕ) → prefix_len (λ x. not (p x)) xs ≡ length xs → mask_l (map p xs) ≡ 0
 all_pass p [] e = refl
 all_pass p (x ∷ xs) e = none_fails (p x) _ (length xs) _ (prefix_len-le-length (λ y. not (p y)) xs) (omega (arith, e)) (all_pass p xs)
 
 -- ---- the first stop
 
--- a run ends within the text
+-- A run ends within the text.
 pub run_within : (p : ℕ → Bool) (text : List ℕ) (from to : ℕ) → from ≤ length text
     → to ≡ from + prefix_len p (drop from text) → to ≤ length text
 run_within p text from to within is = omega (arith, is, prefix_len-le-length p (drop from text), length-drop from text)
 
--- the bits of the last block, without those before a position, are those of the bytes from there on
+-- The bits of the last block, without those before a position, are those of the bytes from there on.
 pub last_bits : (class : Class) (text : List ℕ) (from found : ℕ) → 16 ≤ length text → length text < from + 16
     → from ≤ length text → found ≡ stops class (take 16 (drop (length text - 16) text))
     → found / 2 ^ (from - (length text - 16)) ≡ stops class (take (length text - from) (drop from text))
@@ -98,7 +98,7 @@ module _ (p : ℕ → Bool) (text : List ℕ) (at n found : ℕ) (room : at + n 
       let stops : run (take n (drop at text)) ≢ length (take n (drop at text)) = omega (arith, within some, long) in
       ap (λ k. at + k) (lowest some ∙ sym (split ∙ cond-false _ _ _ (ne_eqb _ _ stops)))
 
--- a search that stops at one byte stops at its first position
+-- A search that stops at one byte stops at its first position.
 pub first_stop-position : (class : Class) (byte : ℕ) → ((b : ℕ) → is_stop class b ≡ (b == byte || b == byte))
     → (text : List ℕ) (from : ℕ) → end_of_run class text from ≡ from + position_or_len (λ b. b == byte) (drop from text)
 first_stop-position class byte are text from = λ i. from + prefix_len (λ b. not ((are b ∙ or_self (b == byte)) i)) (drop from text)

@@ -18,7 +18,7 @@ record BeginsAs (text : List ℕ) (value : MediaType) : Type 0 where
   plus : value.plus ≡ last_plus (length top + 2) (drop 1 sub)
   semicolon : length value.essence ≡ length top + 1 + length sub
 
--- two texts that are equal ignoring ASCII case have as many bytes
+-- Two texts that are equal ignoring ASCII case have as many bytes.
 same_length : (one other : List ℕ) → lowered one ≡ lowered other → length one ≡ length other
 same_length one other is = sym (length-lowered one) ∙ ap length is ∙ length-lowered other
 
@@ -60,7 +60,7 @@ begun kept text value reads (there, same) =
         → text_of (before_list top sub) ++ after ≡ (top ++ (slash_byte ∷ sub)) ++ (semicolon_byte ∷ after)
     regrouped top sub after = simp append_assoc
 
--- what the scanner says of the text is what it says of its list
+-- What the scanner says of the text is what it says of its list.
 pub judged-by_list : (kept text : List ℕ) (value : MediaType) → Reads kept value → StartsWithEssence value.essence text
     → (before : Positions) → before ≡ positions_before_list value
     → (old new : Remaining) (verdict : Scanned) → old.left ≡ drop (length value.essence + 1) text

@@ -15,7 +15,7 @@ stripped text = filter reaches_value (lowered text)
 stripped-append : (xs ys : List ℕ) → stripped (xs ++ ys) ≡ stripped xs ++ stripped ys
 stripped-append xs ys = ap (filter reaches_value) (lowered-append xs ys) ∙ filter-append reaches_value (lowered xs) (lowered ys)
 
--- spaces leave nothing
+-- Spaces leave nothing.
 stripped-spaces : (n : List ℕ) → AreSpaces n → stripped n ≡ []
 stripped-spaces [] white = refl
 stripped-spaces (b ∷ n) white =
@@ -38,7 +38,7 @@ record Begins (prefix whole : List ℕ) : Type 0 where
   rest : List ℕ
   is : whole ≡ prefix ++ rest
 
--- a parameter is stripped to what its pair is
+-- A parameter is stripped to what its pair is.
 stripped-parameter : (p : Parameter) → IsParameter p → stripped (text_of_parameter p) ≡ stripped_pair (pair_of (lowered_parameter p))
 stripped-parameter (plain name value) well =
     stripped-append name (equals_byte ∷ value) ∙ rw (lowered-lowered name, lowered-lowered_value name value) refl
@@ -47,7 +47,7 @@ stripped-parameter (quoted name content n) well =
     ∙ rw (stripped-append content (quote_byte ∷ n), stripped-spaces n well.2, lowered-lowered name, lowered-lowered_value name content)
     (simp append-nil)
 
--- a list is stripped to what its pairs are, except perhaps for the last semicolon
+-- A list is stripped to what its pairs are, except perhaps for the last semicolon.
 stripped-list : (list : Parameters) → AreParameters list
     → Begins (stripped (text_of_list list)) (stripped_pairs (pairs_of_list (lowered_list list)))
 stripped-list (blank n) white = record { rest = []; is = sym (append-nil (stripped n) ∙ stripped-spaces n white) }
@@ -69,19 +69,19 @@ stripped-list (more n p others) (white, well, follow) =
       ) (sym (append_assoc (stripped_pair (pair_of (lowered_parameter p))) (stripped tail) after.rest));
     }
 
--- a tail is stripped to what its pairs are
+-- A tail is stripped to what its pairs are.
 stripped-tail : (tail : Tail) → IsTail tail
     → Begins (stripped (text_of_tail tail)) (semicolon_byte ∷ stripped_pairs (pairs_of_tail (lowered_tail tail)))
 stripped-tail no_list well = record { rest = semicolon_byte ∷ []; is = refl }
 stripped-tail (listed list) well = let parts = stripped-list list well in
     record { rest = parts.rest; is = ap (λ t. semicolon_byte ∷ t) parts.is }
 
--- a text is stripped to what the value is that it is read as
+-- A text is stripped to what the value is that it is read as.
 stripped-reads : (text : List ℕ) (value : MediaType) → Reads text value → Begins (stripped text) (stripped_value value)
 stripped-reads text value reads =
     search (stripped-append, stripped-tail, append_assoc, text_of-essence, lowered-lowered, essence-lowered, rules)
 
--- a stripped text, cut at a byte that stays
+-- A stripped text, cut at a byte that stays.
 stripped-at : (text : List ℕ) (n : ℕ) → n < length text → IsTrue (reaches_value (slice_index text n))
     → stripped text ≡ filter reaches_value (take n (lowered text))
     ++ (to_ascii_lowercase (slice_index text n) ∷ stripped (drop (n + 1) text))
@@ -93,13 +93,13 @@ stripped-at text n within reaches =
     ∙ filter-append reaches_value (take n (lowered text)) (b ∷ lowered (drop (n + 1) text))
     ∙ ap (λ t. filter reaches_value (take n (lowered text)) ++ t) (cond-true (reaches_value b) _ _ (grind (arith, nat_tests, reaches)))
 
--- the bytes after the same prefix
+-- After the same prefix, texts that are the same have the same byte.
 same_byte : (prefix : List ℕ) (x y : ℕ) (xs ys rest others : List ℕ)
     → (prefix ++ (x ∷ xs)) ++ rest ≡ (prefix ++ (y ∷ ys)) ++ others → x ≡ y
 same_byte [] x y xs ys rest others is = cc
 same_byte (f ∷ prefix) x y xs ys rest others is = same_byte prefix x y xs ys rest others cc
 
--- texts whose first difference reaches the value are read as values that aren't equal
+-- Texts whose first difference reaches the value are read as values that aren't equal.
 pub different_values : (one other : List ℕ) (first second : MediaType) → Reads one first → Reads other second
     → DifferInValue one other → ¬ (Same first second)
 different_values one other first second reads also d same =

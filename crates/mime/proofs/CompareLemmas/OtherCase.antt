@@ -5,7 +5,7 @@ use Rattle.std.proofs.{lemmas.Bool.Decides.nat_tests, lemmas.List.take-append-dr
 use Rattle.mime.specs.{Bytes.slash_byte, Bytes.semicolon_byte, Bytes.equals_byte, Bytes.quote_byte, Grammar.is_space, Grammar.Parameter, Grammar.plain, Grammar.quoted, Grammar.Parameters, Grammar.blank, Grammar.final, Grammar.more, Grammar.Tail, Grammar.no_list, Grammar.listed, Grammar.SyntaxTree, Grammar.text_of, Grammar.text_of_parameter, Grammar.text_of_list, Grammar.text_of_tail, Grammar.AreSpaces, Grammar.IsParameter, Grammar.AreParameters, Grammar.IsTail, Grammar.IsWellFormed, Values.MediaType, Values.Reads, Values.value_of, Values.lowered, Values.lowered_value, Values.lowered_tail, Values.is_charset, Values.pair_of, Values.pairs_of_list, Values.pairs_of_tail, Comparison.Same, Inner.KeptText.AreLowPairs, Inner.KeptText.lowered_pair, Inner.ComparedText.IsLoneCharset}
 use Rattle.mime.proofs.{BytesLemmas.cons_parts, GrammarLemmas.Content.IsContent-case, LowercaseLemmas.lowered-lowered, LowercaseLemmas.lowered_value-either, LowercaseLemmas.low_pair-parts, LowercaseLemmas.list_all-case, LowercaseLemmas.IsToken-case, LowercaseLemmas.pairs_of_tail-lowered, ValueLemmas.Utf8.lowered-parts, ValueLemmas.Utf8.is_no_letter, ValueLemmas.Utf8.stays, ValueLemmas.Parts.read-low_pairs}
 
--- lowercasing leaves spaces as they are
+-- Lowercasing leaves spaces as they are.
 AreSpaces-case : (bytes other : List ℕ) → lowered other ≡ lowered bytes → AreSpaces bytes → AreSpaces other
 AreSpaces-case = list_all-case is_space (λ b. grind (arith, nat_tests))
 
@@ -45,7 +45,7 @@ record Case {T V : Type 0} (IsWell : T → Type 0) (text_of_it : T → List ℕ)
   spelled : text_of_it other ≡ text
   same : seen other ≡ seen one
 
--- a parameter
+-- A text that is a parameter's in another case is that of a parameter with the same lowercased pair.
 case_parameter : (text : List ℕ) (p : Parameter) → IsParameter p → lowered text ≡ lowered (text_of_parameter p)
     → Case IsParameter text_of_parameter (λ q. lowercase_pair (pair_of q)) text p
 case_parameter text (plain name value) (named, token) is =
@@ -66,7 +66,7 @@ case_parameter text (quoted name content n) (named, is, white) same =
       same = λ i. (cut.first_is i, inner.first_is i);
     }
 
--- a list
+-- A text that is a list's in another case is that of a list with the same lowercased pairs.
 case_list : (text : List ℕ) (list : Parameters) → AreParameters list → lowered text ≡ lowered (text_of_list list)
     → Case AreParameters text_of_list (λ l. map lowercase_pair (pairs_of_list l)) text list
 case_list text (blank n) white is = record { other = blank text; well_formed = AreSpaces-case n text is white; spelled = refl; same = refl }
@@ -91,7 +91,7 @@ case_list text (more n p rest) (white, well, others) is =
       same = λ i. found.same i ∷ follow.same i;
     }
 
--- a tail
+-- A text that is a tail's in another case is that of a tail with the same lowercased pairs.
 case_tail : (text : List ℕ) (tail : Tail) → IsTail tail → lowered text ≡ lowered (text_of_tail tail)
     → Case IsTail text_of_tail (λ t. map lowercase_pair (pairs_of_tail t)) text tail
 case_tail [] no_list well is = record { other = no_list; well_formed = tt; spelled = refl; same = refl }
@@ -123,11 +123,11 @@ case_tree text tree well is =
 
 -- ---- values
 
--- a value as it is kept, lowercased, is the value lowercased
+-- A value as it is kept, lowercased, is the value lowercased.
 pub lowered-lowered_value : (name value : List ℕ) → lowered (lowered_value name value) ≡ lowered value
 lowered-lowered_value name value = lowered_value-either (λ v. lowered v ≡ lowered value) name value refl (lowered-lowered value)
 
--- pairs as they are kept, in lowercase, are the pairs in lowercase
+-- Pairs as they are kept, in lowercase, are the pairs in lowercase.
 pairs-lowercase : (pairs : List (List ℕ × List ℕ)) → map lowercase_pair (map lowered_pair pairs) ≡ map lowercase_pair pairs
 pairs-lowercase [] = refl
 pairs-lowercase ((name, value) ∷ pairs) = cc (lowered-lowered name, lowered-lowered_value name value, pairs-lowercase pairs)
@@ -157,11 +157,11 @@ case_read text kept value reads is =
           ∙ sym (pairs-lowercase_tail found.other.tail);
     }
 
--- a value has as many pairs as what a text that is its own ignoring ASCII case is read as
+-- A value has as many pairs as what a text that is its own ignoring ASCII case is read as.
 pub case_read-count : (text : List ℕ) (value : MediaType) (is : CaseRead text value) → length value.pairs ≡ length is.read.pairs
 case_read-count text value is = grind (arith, common_steps)
 
--- two charsets as they are kept are the same if they are the same ignoring ASCII case
+-- Two charsets as they are kept are the same if they are the same ignoring ASCII case.
 lone_charset-same : (pairs others : List (List ℕ × List ℕ)) → IsLoneCharset pairs → AreLowPairs pairs → AreLowPairs others
     → map lowercase_pair pairs ≡ map lowercase_pair others → pairs ≡ others
 lone_charset-same pairs others (name, content, lone, charset) low also same =
@@ -180,7 +180,7 @@ lone_charset-same pairs others (name, content, lone, charset) low also same =
         sym (first.1 charset) ∙ ap (λ p. p.1) pair ∙ second.1 (subst (λ n. is_charset n ≡ true) names charset) in
         λ i. (names i, contents i) ∷ []
 
--- a text that is read as a value with a lone charset, ignoring ASCII case, is read as one equal to it
+-- A text that is read as a value with a lone charset, ignoring ASCII case, is read as one equal to it.
 pub case_read-lone_charset : (text kept : List ℕ) (value : MediaType) (is : CaseRead text value) → Reads kept value
     → IsLoneCharset value.pairs → Same value is.read
 case_read-lone_charset text kept value is reads lone = search (lone_charset-same, read-low_pairs, rules)

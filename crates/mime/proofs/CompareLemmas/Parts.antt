@@ -9,11 +9,11 @@ use Rattle.mime_search.proofs.IgnoringCase.{length-lowered}
 
 -- ---- what an accepted text with parameters is read as
 
--- a value's essence is its tree's, lowercased
+-- A value's essence is its tree's, lowercased.
 pub essence-lowered : (tree : SyntaxTree) → (value_of tree).essence ≡ lowered (essence_of tree)
 essence-lowered tree = sym (lowered-append tree.top (slash_byte ∷ tree.sub))
 
--- a value's essence is as long as its tree's
+-- A value's essence is as long as its tree's.
 pub length-value_essence : (tree : SyntaxTree) → length (value_of tree).essence ≡ length tree.top + 1 + length tree.sub
 length-value_essence tree = ap length (essence-lowered tree) ∙ length-lowered (essence_of tree) ∙ length-essence_of tree
 
@@ -42,7 +42,7 @@ read_at-tree top sub (listed list) well end at =
 read_at : (text : List ℕ) (end count : ℕ) → IsAcceptedAt text end count → ReadAt text end count
 read_at text end count is = search (read_at-tree, rules)
 
--- a text that is read as a value with pairs is accepted so
+-- A text that is read as a value with pairs is accepted so.
 accepted_at : (text : List ℕ) (value : MediaType) → Reads text value → value.pairs ≢ []
     → IsAcceptedAt text (length value.essence) (length value.pairs)
 accepted_at text value reads some =
@@ -67,7 +67,7 @@ pub record TextParts (value : MediaType) (text : List ℕ) : Type 0 where
   pub pairs : value.pairs ≡ map lowered_pair (pairs_within (length value.pairs) (drop (length value.essence + 1) text))
   pub accepted : IsAcceptedAt text (length value.essence) (length value.pairs)
 
--- a text is equal to a value with pairs exactly if it has these parts
+-- A text is equal to a value with pairs exactly if it has these parts.
 pub text_is-by_parts : (kept text : List ℕ) (value : MediaType) → Reads kept value → value.pairs ≢ []
     → TextIs value text ↔ TextParts value text
 text_is-by_parts kept text value reads some =
@@ -97,7 +97,7 @@ text_is-by_parts kept text value reads some =
           },
     )
 
--- a text that differs from the kept text only in case is accepted
+-- A text that differs from the kept text only in case is accepted.
 pub accepted_at-case : (kept text : List ℕ) (value : MediaType) → Reads kept value → value.pairs ≢ []
     → lowered kept ≡ lowered text → IsAcceptedAt text (length value.essence) (length value.pairs)
 accepted_at-case kept text value reads some is =
@@ -107,7 +107,7 @@ accepted_at-case kept text value reads some is =
     (subst (IsAcceptedAt text (length found.read.essence)) (sym counted)
     (accepted_at text found.read found.reads (λ none. some (nil_from_length value.pairs (counted ∙ ap length none)))))
 
--- a text that differs from the kept text only in case is equal to the value, if the only parameter is a charset
+-- A text that differs from the kept text only in case is equal to the value, if the only parameter is a charset.
 pub text_is-lone_charset : (kept text : List ℕ) (value : MediaType) → Reads kept value → value.pairs ≢ []
     → lowered kept ≡ lowered text → IsLoneCharset value.pairs → TextIs value text
 text_is-lone_charset kept text value reads some is lone =
@@ -121,13 +121,13 @@ text_is-lone_charset kept text value reads some is lone =
 
 -- ---- a lone charset
 
--- the only pair of a list that begins with ` charset=` is a charset
+-- The only pair of a list that begins with ` charset=` is a charset.
 pub lone_charset : (list : List ℕ) → take 9 list ≡ codes " charset=" → IsLoneCharset (pairs_within 1 list)
 lone_charset list is = search (take-append-drop, cut_of-name, rules)
 
 -- ---- a text against a value without pairs
 
--- the essence of a tree has no semicolon
+-- The essence of a tree has no semicolon.
 bare_essence : (top sub : List ℕ) → IsToken top → IsToken sub → HasNoSemicolon (top ++ (slash_byte ∷ sub))
 bare_essence top sub token sub_token =
     list_all-append (λ b. not (b == semicolon_byte)) top (slash_byte ∷ sub) ∙ cc (
@@ -135,12 +135,12 @@ bare_essence top sub token sub_token =
       are_other-token semicolon_byte semicolon_is_no_token sub (AreTokenBytes-from_token sub sub_token),
     )
 
--- lowercasing keeps semicolons
+-- Lowercasing keeps semicolons.
 HasNoSemicolon-lowered : (text : List ℕ)
     → list_all (λ b. not (b == semicolon_byte)) (lowered text) ≡ list_all (λ b. not (b == semicolon_byte)) text
 HasNoSemicolon-lowered = list_all-lowered (λ b. not (b == semicolon_byte)) (λ b. grind (arith, nat_tests))
 
--- a text that, lowercased, is the essence of a value without pairs is equal to the value
+-- A text that, lowercased, is the essence of a value without pairs is equal to the value.
 pub text_is-from_lowered : (text kept : List ℕ) (value : MediaType) → Reads kept value → value.pairs ≡ []
     → lowered text ≡ value.essence → TextIs value text
 text_is-from_lowered text kept value reads none is =
@@ -159,7 +159,7 @@ text_is-from_lowered text kept value reads none is =
           ∙ HasNoSemicolon-lowered (essence_of tree) ∙ bare;
     }
 
--- a text is equal to a value without pairs exactly if, lowercased, it is the kept text
+-- A text is equal to a value without pairs exactly if, lowercased, it is the kept text.
 pub text_is-bare : (kept : List ℕ) (value : MediaType) → Reads kept value → value.pairs ≡ []
     → (text : List ℕ) → TextIs value text ↔ (lowered text ≡ value.kept)
 text_is-bare kept value reads none text =
@@ -174,7 +174,7 @@ text_is-bare kept value reads none text =
       λ low. text_is-from_lowered text kept value reads none low,
     )
 
--- a text is a value without parameters exactly if it is the kept text ignoring ASCII case
+-- A text is a value without parameters exactly if it is the kept text ignoring ASCII case.
 pub text_is-kept_case : (kept text : List ℕ) (value : MediaType) → Reads kept value → kept ≡ value.kept → value.pairs ≡ []
     → TextIs value text ↔ (lowered kept ≡ lowered text)
 text_is-kept_case kept text value reads is none =
@@ -183,14 +183,14 @@ text_is-kept_case kept text value reads is none =
     let low : lowered kept ≡ value.kept = ap lowered essence ∙ read-low_essence kept value reads ∙ sym essence ∙ is in
     (λ at. low ∙ sym (told.0 at), λ at. told.1 (sym at ∙ low))
 
--- the kept text of a value without parameters has no semicolon
+-- The kept text of a value without parameters has no semicolon.
 kept-no_semicolon : (text : List ℕ) (value : MediaType) → Reads text value → value.pairs ≡ [] → HasNoSemicolon value.kept
 kept-no_semicolon text value reads none =
     let is = kept-essence value text reads (ap length none) in
     let low = read-low_essence text value reads in
     (text_is-from_lowered value.kept text value reads none (ap lowered is ∙ low)).bare none
 
--- a value is equal to the kept text of a value that was read exactly if the two values are equal
+-- A value is equal to the kept text of a value that was read exactly if the two values are equal.
 pub kept_text_is : KeptTextIs
 kept_text_is text value reads other = (
   λ is. subst (Same other) (one_reading value.kept is.read value is.reads (kept_is_read text value reads)) is.same,

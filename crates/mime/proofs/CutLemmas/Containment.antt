@@ -6,22 +6,22 @@ use Rattle.std.specs.Prelude.{IsTrue, map, MatchOption}
 use Rattle.std.specs.List.{list_all, AllByRecursion}
 use Rattle.mime.specs.{Bytes.is_token_byte, Bytes.comma_byte, Bytes.space_byte, Values.MediaType, Values.IsAccepted, Faults.IsViable, Faults.IsUnclosed, declared.scan.fault.ParseError.TheVariants.MissingQuote, Cut.is_following_byte, Cut.BeginsCharacter, Cut.IsCharacter, Cut.IsSplit, Cut.CutItem, Cut.good, Cut.ItemsOf, Cut.is_read, Cut.is_empty, Cut.Cut, Cut.whole, Cut.unfinished, Cut.goes_on, Cut.last, Cut.next, Cut.steps_of, Cut.TakesSteps, CutLaws.OneCut, CutLaws.CutWritesText, CutLaws.IsItem, CutLaws.CutHasItems, CutLaws.OneCount, CutLaws.items_of_rest, CutLaws.CommaContains, CutLaws.joined, CutLaws.IsRead, CutLaws.kept_item, CutLaws.JoinedComesBack, CutLaws.IsHttpList, CutLaws.no_element, CutLaws.separated, CutLaws.one_element, CutLaws.more_elements, CutLaws.HttpListIsCut}
 
--- a text has exactly one cut
+-- A text has exactly one cut.
 pub one_cut : OneCut
 one_cut text = let found = has_cut text in (found.items, found.rest, found.cut, cut_unique text found.items found.rest found.cut)
 
 -- ---- items
 
--- items that are followed by others
+-- Items that are followed by others.
 are_items-append : (items others : List CutItem) → AllByRecursion IsItem items → AllByRecursion IsItem others
     → AllByRecursion IsItem (items ++ others)
 are_items-append items others are more = grind (arith, common_steps)
 
--- the items of a viable piece
+-- A viable piece has well-formed items.
 are_items-of : (piece : List ℕ) (items : List CutItem) → IsViable piece → ItemsOf piece items → AllByRecursion IsItem items
 are_items-of piece items viable is = search rules
 
--- each item of a cut is one
+-- Each item of a cut is one.
 pub cut_has_items : CutHasItems
 cut_has_items text items rest (whole t value reads) = ((reads, tt), empty_is_viable, empty-rejected)
 cut_has_items text items rest (unfinished t viable is) = (tt, viable, is)
@@ -32,7 +32,7 @@ cut_has_items text items rest (goes_on t p c l first others r split of_piece cut
 
 -- ---- pieces
 
--- a cut writes its text as pieces
+-- A cut writes its text as pieces.
 pub cut_writes_text : CutWritesText
 cut_writes_text text items rest (whole t v reads) = ([], t, last t (accepted_is_viable t (v, reads)), refl, inl (v, reads))
 cut_writes_text text items rest (unfinished t viable is) = ([], t, last t viable, refl, inr refl)
@@ -40,7 +40,7 @@ cut_writes_text text items rest (goes_on t p c l first others r split of_piece c
     let (pieces, end, found, spelled, last_is) = cut_writes_text l others r cut in
     ((p, c) ∷ pieces, end, next t p c l pieces end split found, ap (λ t. p ++ (c ++ t)) spelled ∙ sym split.spelled, last_is)
 
--- a text is cut in one number of steps
+-- A text is cut in one number of steps.
 pub one_count : OneCount
 one_count text =
     let has = has_cut text in
@@ -50,7 +50,7 @@ one_count text =
 
 -- ---- what may precede a piece
 
--- a byte that begins no type is passed
+-- A byte that begins no type is passed.
 dead-inv : (b : ℕ) (bytes : List ℕ) (rest : Following bytes) (items : List CutItem) (end : List ℕ)
     → grow (in_type []) b ≡ None → Cut (b ∷ bytes) items end → Cut rest.left items end
 dead-inv b bytes rest items end dead cut =
@@ -58,7 +58,7 @@ dead-inv b bytes rest items end dead cut =
     let leaves = split_inv (b ∷ bytes) [] (b ∷ rest.following) rest.left [] items end split (is_empty refl) cut in
     subst (λ i. Cut rest.left i end) (sym leaves.appended) leaves.cut
 
--- bytes that only follow, passed with the character before them, leave a cut as it is
+-- Bytes that only follow, passed with the character before them, leave a cut as it is.
 cut-after_following : (bytes : List ℕ) (rest : Following bytes) (items : List CutItem) (end : List ℕ)
     → Cut bytes items end → Cut rest.left items end
 cut-after_following bytes rest items end cut =
@@ -73,7 +73,7 @@ cut-after_following bytes rest items end cut =
         (record { following = following; left = left; spelled = refl; of_class = parts.1; begins = begins }) items end
         (cond-false (is_token_byte b) _ _ (foreign-from_high b (following-low b parts.0).0).token) cut
 
--- a byte that begins no type, passed with what follows it, leaves a cut as it is
+-- A byte that begins no type, passed with what follows it, leaves a cut as it is.
 cut-after_dead : (b : ℕ) (bytes : List ℕ) (items : List CutItem) (end : List ℕ) → grow (in_type []) b ≡ None
     → Cut bytes items end → Cut (b ∷ bytes) items end
 cut-after_dead b bytes items end dead cut =
@@ -83,12 +83,12 @@ cut-after_dead b bytes items end dead cut =
 
 -- ---- the comma
 
--- a comma is foreign to the grammar
+-- A comma is foreign to the grammar.
 comma-foreign : IsForeign comma_byte
 unfolding is_token_byte
 comma-foreign = record { token = refl; space = refl; slash = refl; semicolon = refl; equals = refl; quote = refl }
 
--- a comma leads nowhere but in an open quoted value
+-- A comma leads nowhere but in an open quoted value.
 comma-dead : (text : List ℕ) (begun : Begun) → walk text ≡ Some begun → ¬ (IsUnclosed text) → grow begun comma_byte ≡ None
 comma-dead text begun walked closed =
     elim (grow begun comma_byte) as (λ o. MatchOption o (Unit {0}) (λ after. IsOpen begun × IsOpen after) → o ≡ None) [
@@ -96,24 +96,24 @@ comma-dead text begun walked closed =
       | Some after ↦ λ leads. absurd (closed (lacks-from_walk text _ (walked ∙ ap (λ s. Some s) leads.0.is) refl))
     ] (grow-foreign begun comma_byte comma-foreign)
 
--- a viable text that a comma follows is split at the comma
+-- A viable text that a comma follows is split at the comma.
 comma-split : (text bytes : List ℕ) (rest : Following bytes) → IsViable text → ¬ (IsUnclosed text)
     → IsSplit (text ++ (comma_byte ∷ bytes)) text (comma_byte ∷ rest.following) rest.left
 comma-split text bytes rest viable closed =
     let reached = walk-from_viable text viable in
     split-from_dead text bytes comma_byte reached.0 rest reached.1 (comma-dead text reached.0 reached.1 closed)
 
--- an accepted text isn't open
+-- An accepted text isn't open.
 accepted-closed : (text : List ℕ) → IsAccepted text → ¬ (IsUnclosed text)
 accepted-closed text accepted unclosed = completed_is_rejected text MissingQuote unclosed accepted
 
--- a prefix of a viable text is viable
+-- A prefix of a viable text is viable.
 take-viable : (text : List ℕ) (k n : ℕ) → k ≤ n → IsViable (take n text) → IsViable (take k text)
 take-viable text k n le viable =
     subst IsViable (take-take k n text le) (prefix_of_viable_is_viable (take k (take n text)) (drop k (take n text))
     (subst IsViable (sym (take-append-drop k (take n text))) viable))
 
--- more bytes after a split text leave its split as it is
+-- More bytes after a split text leave its split as it is.
 split-append : (text p c l more : List ℕ) → BeginsCharacter more → IsSplit text p c l → IsSplit (text ++ more) p c (l ++ more)
 split-append text p c l more begins split =
     let size = split-size text p c l split in
@@ -139,7 +139,7 @@ split-append text p c l more begins split =
     still [] l one = absurd one
     still (b ∷ f) l one = (one.0, begins_still l one.1)
 
--- a viable text is cut off by a comma, unless it is open
+-- A viable text is cut off by a comma, unless it is open.
 comma-cut : (text after : List ℕ) (first others : List CutItem) (end : List ℕ) → IsViable text → ¬ (IsUnclosed text)
     → ItemsOf text first → Cut after others end → Cut (text ++ (comma_byte ∷ after)) (first ++ others) end
 comma-cut text after first others end viable closed of_text cut =
@@ -147,7 +147,7 @@ comma-cut text after first others end viable closed of_text cut =
     goes_on (text ++ (comma_byte ∷ after)) text (comma_byte ∷ spared.following) spared.left first others end
     (comma-split text after spared viable closed) of_text (cut-after_following after spared others end cut)
 
--- a comma ends whatever precedes it
+-- A comma ends whatever precedes it.
 pub comma_contains : CommaContains
 comma_contains before after items others rest end (whole t v reads) closed cut =
     comma-cut t after (good t v ∷ []) others end (accepted_is_viable t (v, reads)) (accepted-closed t (v, reads)) (is_read v reads) cut
@@ -160,7 +160,7 @@ comma_contains before after items others rest end (goes_on t p c l first own r s
 
 -- ---- a printed list
 
--- a list as HTTP writes it is cut into its elements
+-- A list as HTTP writes it is cut into its elements.
 pub http_list_is_cut : HttpListIsCut
 unfolding is_token_byte
 http_list_is_cut text elements no_element = empty-cut
@@ -172,7 +172,7 @@ http_list_is_cut text elements (more_elements first value list others reads more
     comma-cut first list (good first value ∷ []) others [] (accepted_is_viable first (value, reads))
     (accepted-closed first (value, reads)) (is_read value reads) (http_list_is_cut list others more)
 
--- joined kept texts are such a list
+-- Joined kept texts are such a list.
 joined_is_list : (values : List MediaType) → AllByRecursion IsRead values → IsHttpList (joined values) (map kept_item values)
 joined_is_list [] are = no_element
 joined_is_list (value ∷ []) are = one_element value.kept value (kept_is_read are.0.0 value are.0.1)
@@ -180,6 +180,6 @@ joined_is_list (value ∷ (second ∷ values)) are =
     more_elements value.kept value _ _ (kept_is_read are.0.0 value are.0.1)
     (separated space_byte _ _ refl (joined_is_list (second ∷ values) are.1))
 
--- values come back from their joined kept texts
+-- Values come back from their joined kept texts.
 pub joined_comes_back : JoinedComesBack
 joined_comes_back values are = http_list_is_cut (joined values) (map kept_item values) (joined_is_list values are)

@@ -31,7 +31,7 @@ following_of (b ∷ bytes) = onward (is_following_byte b) refl (following_of byt
     }
     onward false other rest = record { following = []; left = b ∷ bytes; spelled = refl; of_class = refl; begins = other }
 
--- how many bytes follow a character's first
+-- How many bytes follow a character's first.
 following_len : (f l : List ℕ) → IsTrue (list_all is_following_byte f) → BeginsCharacter l
     → prefix_len is_following_byte (f ++ l) ≡ length f
 following_len [] [] all begins = refl
@@ -40,12 +40,12 @@ following_len (b ∷ f) l all begins =
     let parts = and_parts (is_following_byte b) (list_all is_following_byte f) all in
     rw (parts.0, following_len f l parts.1 begins) (omega arith)
 
--- the text determines how long its character is
+-- The text determines how long its character is.
 character_len : (c l : List ℕ) → IsCharacter c l → suc (prefix_len is_following_byte (drop 1 (c ++ l))) ≡ length c
 character_len [] l one = absurd one
 character_len (b ∷ f) l one = ap suc (following_len f l one.0 one.1)
 
--- a text is cut in one way into parts of given lengths
+-- A text is cut in one way into parts of given lengths.
 parts_unique : (xs ys us vs : List ℕ) → xs ++ ys ≡ us ++ vs → length xs ≡ length us → (xs ≡ us) × (ys ≡ vs)
 parts_unique xs ys us vs e size = (
   sym (take-append_seam xs ys) ∙ ap (λ n. take n (xs ++ ys)) size ∙ ap (take (length us)) e ∙ take-append_seam us vs,
@@ -70,24 +70,24 @@ split_unique text p c l q d m one two =
     ∙ character_len d m two.is_character) in
     record { piece = parts.0; character = same.0; left = same.1 }
 
--- piece, character and what is left make up the text
+-- Piece, character and what is left make up the text.
 pub split-size : (text p c l : List ℕ) → IsSplit text p c l → (length text ≡ length p + (length c + length l)) × (0 < length c)
 split-size text p c l split = grind (arith, common_steps)
 
--- what is split isn't viable
+-- What is split isn't viable.
 pub split-not_viable : (text p c l : List ℕ) → IsSplit text p c l → IsViable text → ⊥
 split-not_viable text p c l split viable =
     let size = split-size text p c l split in
     split.prefix.longest (length text) (omega (arith, size.0, size.1)) (omega arith) (subst IsViable (sym (take-length text)) viable)
 
--- a byte that leads nowhere splits a text
+-- A byte that leads nowhere splits a text.
 pub split-from_dead : (prefix bytes : List ℕ) (b : ℕ) (begun : Begun) (rest : Following bytes) → walk prefix ≡ Some begun
     → grow begun b ≡ None → IsSplit (prefix ++ (b ∷ bytes)) prefix (b ∷ rest.following) rest.left
 split-from_dead prefix bytes b begun rest walked dead = search (prefix-from_walk, rules)
 
 -- ---- which rule applies to a text
 
--- a text is accepted or rejected
+-- A text is accepted or rejected.
 pub accepted_or_rejected : (text : List ℕ) → IsAccepted text ⊎ IsRejected text
 accepted_or_rejected text =
     by_option (walk text) (λ stopped. inr (stopped-from_walk text stopped))
@@ -95,7 +95,7 @@ accepted_or_rejected text =
     by_option (tree_of begun) (λ is. inr (rejected-from_walk text begun walked is))
     (λ tree is. inl (accepted-from_complete text begun tree walked is)))
 
--- a text that can't be walked is split
+-- A text that can't be walked is split.
 split-from_walk : (text : List ℕ) → walk text ≡ None → (p : List ℕ) × (c : List ℕ) × (l : List ℕ) × IsSplit text p c l
 split-from_walk text stopped =
     let stop = stop-from_walk (in_type []) text stopped in
@@ -113,7 +113,7 @@ split-from_walk text stopped =
 pub empty-rejected : IsRejected []
 empty-rejected = rejected-from_walk [] (in_type []) refl refl
 
--- the empty text has no item
+-- The empty text has no item.
 pub empty-cut : Cut [] [] []
 empty-cut = unfinished [] empty_is_viable empty-rejected
 
@@ -123,12 +123,12 @@ pub record HasCut (text : List ℕ) : Type 0 where
   pub rest : List ℕ
   pub cut : Cut text items rest
 
--- a rejected piece is a bad piece, or empty
+-- A rejected piece is a bad piece, or empty.
 pub items-from_rejected : (piece : List ℕ) → IsRejected piece → ItemsOf piece (items_of_rest piece)
 items-from_rejected [] is = is_empty refl
 items-from_rejected (b ∷ piece) is = is_rejected is (λ e. absurd (omega (arith, ap length e)))
 
--- the items of a piece, whichever they are
+-- The items of a piece, whichever they are.
 has_items : (piece : List ℕ) → (first : List CutItem) × ItemsOf piece first
 has_items piece =
     ⊎_elim (λ accepted. (_, is_read accepted.0 accepted.1)) (λ is. (_, items-from_rejected piece is)) (accepted_or_rejected piece)
@@ -154,7 +154,7 @@ has_cut text = cut_within (suc (length text)) text (omega arith)
 
 -- ---- and only one
 
--- a piece has one list of items
+-- A piece has one list of items.
 pub items_of_unique : (piece : List ℕ) (one two : List CutItem) → ItemsOf piece one → ItemsOf piece two → one ≡ two
 items_of_unique piece one two (is_read v reads) (is_read w again) = ap (λ x. good piece x ∷ []) (one_reading piece v w reads again)
 items_of_unique piece one two (is_read v reads) (is_rejected is some) = absurd (is (v, reads))
@@ -186,7 +186,7 @@ split_inv text p c l first items rest split has (goes_on t q d m own others r ag
       cut = subst (λ x. Cut x others r) same.left cut;
     }
 
--- a text has one cut
+-- A text has one cut.
 pub cut_unique : (text : List ℕ) (items : List CutItem) (rest : List ℕ) → Cut text items rest
     → (others : List CutItem) (left : List ℕ) → Cut text others left → (others ≡ items) × (left ≡ rest)
 cut_unique text items rest (whole t v reads) others left (whole u w again) =
@@ -205,7 +205,7 @@ cut_unique text items rest (goes_on t p c l first own r split of_piece cut) othe
 
 -- ---- the steps
 
--- a split counts a step for each byte of its piece and one for the character
+-- A split counts a step for each byte of its piece and one for the character.
 pub takes-split : (text p c l : List ℕ) (n : ℕ) → IsSplit text p c l → TakesSteps l n → TakesSteps text (length p + 1 + n)
 takes-split text p c l n split takes =
     record {
@@ -215,11 +215,11 @@ takes-split text p c l n split takes =
       counted = ap (λ k. length p + 1 + k) takes.counted;
     }
 
--- a viable text counts one for each byte
+-- A viable text counts one for each byte.
 pub takes-viable : (text : List ℕ) → IsViable text → TakesSteps text (length text)
 takes-viable text viable = record { pieces = []; end = text; cut = last text viable; counted = refl }
 
--- a text has one list of pieces
+-- A text has one list of pieces.
 pieces_unique : (text : List ℕ) (pieces : List (List ℕ × List ℕ)) (end : List ℕ) → Pieces text pieces end
     → (others : List (List ℕ × List ℕ)) (stop : List ℕ) → Pieces text others stop → (others ≡ pieces) × (stop ≡ end)
 pieces_unique text pieces end (last t viable) others stop (last u too) = (refl, refl)

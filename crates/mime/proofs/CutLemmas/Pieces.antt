@@ -12,7 +12,7 @@ use Rattle.mime.proofs.{GrammarLemmas.Characters.prefix_ends_between_characters,
 abbrev IsAfterCharacter : List ℕ → List ℕ → Type 0
 IsAfterCharacter text left = (character : List ℕ) × (text ≡ character ++ left) × IsCharacter character left
 
--- a byte that follows is none before which a text may be cut
+-- A byte that follows is none before which a text may be cut.
 not_following : (b : ℕ) (bytes : List ℕ) → IsCharBoundary (b ∷ bytes) 0 → IsFalse (is_following_byte b)
 not_following b bytes border = search rules
 
@@ -32,7 +32,7 @@ follow_to (b ∷ bytes) (suc n) border none =
         ⊎_elim (λ is. is) (λ isnt. absurd (none (omega arith, λ within high. grind (arith, nat_tests, isnt, high))))
         (cases_Bool (is_following_byte b))
 
--- the text from the first position after its first byte where it may be cut is the rest after its first character
+-- The text from the first position after its first byte where it may be cut is the rest after its first character.
 after_character : (text : List ℕ) (at : ℕ) → 0 < length text → 1 ≤ at → IsCharBoundary text at
     → ((i : ℕ) → 1 ≤ i → i < at → ¬ (IsCharBoundary text i)) → IsAfterCharacter text (drop at text)
 after_character [] at some past border none = absurd (omega arith)
@@ -49,7 +49,7 @@ after_character (b ∷ bytes) (suc n) some past border none = (
 
 -- ---- the first piece of a text
 
--- what the scanner found in a text that a reader counted on from somewhere
+-- What the scanner found judges a text, also if its reader counted on from somewhere.
 pub judged-from_scan : (old new : Remaining) (text : List ℕ) (from steps : ℕ) (verdict : Scanned) → Scans old new verdict
     → old.left ≡ text → old.count ≡ from → steps ≡ new.count → Judges text (steps - from) verdict
 judged-from_scan old new text from steps verdict scans left begin end = rw (left, begin, sym end) at scans.judged
@@ -62,7 +62,7 @@ stopped-boundary text steps at byte positions utf8 (some, dead, before) is_at = 
   omega (arith, length-drop at text, is_at, slice_get_within text (steps - 1) byte dead.there),
 )
 
--- a text that was read to its end
+-- A text that was read to its end.
 under_way-viable : (text : List ℕ) → IsViable text → IsUnderWay text [] false (length text)
 under_way-viable text viable = record {
   few = omega arith;
@@ -71,7 +71,7 @@ under_way-viable text viable = record {
       subst (TakesSteps text) (omega (arith, none)) (takes-viable text viable);
 }
 
--- an accepted text is its first piece
+-- An accepted text is its first piece.
 pub passes-whole : (text : List ℕ) (positions : Positions) (steps : ℕ) → Judges text steps (Accepted positions)
     → ReadsPiece text text (Some positions) [] steps
 passes-whole text positions steps (is, has) =
@@ -89,7 +89,7 @@ passes-whole text positions steps (is, has) =
       under_way = subst (IsUnderWay text [] false) (sym is) (under_way-viable text (accepted_is_viable text accepted));
     }
 
--- an unfinished text has no piece
+-- An unfinished text has no piece.
 pub passes-unfinished : (text : List ℕ) (fault : ParseError) (steps : ℕ) → Judges text steps (Unfinished fault)
     → ReadsPiece text [] None [] steps
 passes-unfinished text fault steps (is, fault_is, viable) = record {
@@ -102,7 +102,7 @@ passes-unfinished text fault steps (is, fault_is, viable) = record {
   under_way = subst (IsUnderWay text [] false) (sym is) (under_way-viable text viable);
 }
 
--- a character that can't follow ends the piece
+-- A character that can't follow ends the piece.
 passes-split : (text piece character left : List ℕ) (positions : Option Positions) → IsSplit text piece character left
     → MatchOption positions (IsRejected piece) (λ p. HasPositions piece p) → ReadsPiece text piece positions left (length piece + 1)
 passes-split text piece character left positions split is =
@@ -129,11 +129,11 @@ passes-split text piece character left positions split is =
     first None is some = on (bad piece ∷ []) (is_rejected is some)
     first (Some p) has some = (has, λ value reads. on (good piece value ∷ []) (is_read value reads))
 
--- a text may be cut in what follows a position where it may be cut after that position
+-- A text may be cut in what follows a position where it may be cut after that position.
 border_in_rest : (text : List ℕ) (at n : ℕ) → IsCharBoundary text (at + n) → IsCharBoundary (drop at text) n
 border_in_rest text at n border = grind (arith, common_steps)
 
--- the text from the first position after a given one where it may be cut is the rest after the character there
+-- The text from the first position after a given one where it may be cut is the rest after the character there.
 after_position : (text : List ℕ) (at end : ℕ) → at < length text → at + 1 ≤ end → IsCharBoundary text end
     → ((i : ℕ) → at + 1 ≤ i → i < end → ¬ (IsCharBoundary text i)) → IsAfterCharacter (drop at text) (drop end text)
 after_position text at end there past border near =
@@ -144,7 +144,7 @@ after_position text at end there past border near =
     (λ i one before cut.
     near (at + i) (omega (arith, one)) (omega (arith, before)) (IsCharBoundary-from_rest text at i (omega (arith, there)) cut)))
 
--- a text is split where the scanner stops
+-- A text is split where the scanner stops.
 pub passes-stopped : (text piece left : List ℕ) (steps at end byte : ℕ) (positions : Option Positions)
     → StopsAt text steps byte positions → at ≡ steps - 1 → piece ≡ take at text → left ≡ drop end text
     → (at + 1 ≤ length text → at + 1 ≤ end) → IsCharBoundary text end
@@ -233,7 +233,7 @@ module _ (rest : List ℕ) (begins : BeginsCharacter rest) where
         };
       }
 
--- nothing is read of the empty text
+-- Nothing is read of the empty text.
 pub passes-nothing : ReadsPiece [] [] None [] 0
 passes-nothing = record {
   empty = λ none. record { carries = λ some. absurd (some refl); ends = λ end. ([], empty-cut) };
@@ -242,11 +242,11 @@ passes-nothing = record {
   under_way = under_way-viable [] empty_is_viable;
 }
 
--- separators are ASCII
+-- Separators are ASCII.
 separators_are_ascii : (run : List ℕ) → IsTrue (list_all is_ascii_not_token run) → IsAscii run
 separators_are_ascii run all = grind (arith, nat_tests, common_steps)
 
--- a text may be cut after separators
+-- A text may be cut after separators.
 pub separators-boundary : (text run rest : List ℕ) → IsUtf8 text → text ≡ run ++ rest → IsTrue (list_all is_ascii_not_token run)
     → IsCharBoundary text (length run)
 separators-boundary text run rest utf8 is all =
@@ -254,7 +254,7 @@ separators-boundary text run rest utf8 is all =
     (subst IsUtf8 (sym (ap (take (length run)) is ∙ take_at run rest (length run) refl))
     (IsUtf8-from_ascii run (separators_are_ascii run all)))
 
--- what follows separators begins with a character
+-- What follows separators begins with a character.
 pub separators-begins : (text run rest : List ℕ) → IsUtf8 text → text ≡ run ++ rest → IsTrue (list_all is_ascii_not_token run)
     → BeginsCharacter rest
 separators-begins text run [] utf8 is all = tt

@@ -139,12 +139,12 @@ lacking (in_list top sub list) = lacking_list list.position
 
 -- ---- by any step
 
--- a walk takes a step and goes on
+-- A walk takes a step and goes on.
 pub walk_by-step : {S : Type 0} (step : S → ℕ → Option S) (state next : S) (b : ℕ) (bytes : List ℕ) → step state b ≡ Some next
     → walk_by step state (b ∷ bytes) ≡ walk_by step next bytes
 walk_by-step step state next b bytes taken = ap (option_and_then (λ s. walk_by step s bytes)) taken
 
--- a joined text is walked part by part
+-- A joined text is walked part by part.
 pub walk_by-append : {S : Type 0} (step : S → ℕ → Option S) (state : S) (xs ys : List ℕ)
     → walk_by step state (xs ++ ys) ≡ option_and_then (λ next. walk_by step next ys) (walk_by step state xs)
 walk_by-append step state [] ys = refl
@@ -153,12 +153,12 @@ walk_by-append step state (b ∷ xs) ys =
     ≡ option_and_then (λ next. walk_by step next ys) (option_and_then (λ next. walk_by step next xs) o))
     [ None ↦ refl | Some next ↦ walk_by-append step next xs ys ]
 
--- the walk goes on from where the first part led
+-- The walk goes on from where the first part led.
 pub walk_by-append_some : {S : Type 0} (step : S → ℕ → Option S) (state next : S) (xs ys : List ℕ)
     → walk_by step state xs ≡ Some next → walk_by step state (xs ++ ys) ≡ walk_by step next ys
 walk_by-append_some step state next xs ys e = walk_by-append step state xs ys ∙ ap (option_and_then (λ s. walk_by step s ys)) e
 
--- a state that each byte of a class lengthens takes a run of the class
+-- A state that each byte of a class lengthens takes a run of the class.
 walk_by-run : {S : Type 0} (step : S → ℕ → Option S) (class : ℕ → Bool) (position : List ℕ → S)
     → ((taken : List ℕ) (b : ℕ) → IsTrue (class b) → step (position taken) b ≡ Some (position (taken ++ (b ∷ []))))
     → (taken run : List ℕ) → IsTrue (list_all class run) → walk_by step (position taken) run ≡ Some (position (taken ++ run))
@@ -169,7 +169,7 @@ walk_by-run step class position takes taken (b ∷ run) all =
     ∙ walk_by-run step class position takes (taken ++ (b ∷ [])) run parts.1
     ∙ ap (λ t. Some (position t)) (append_assoc taken (b ∷ []) run)
 
--- a token is walked, first its first byte and then the others
+-- A token is walked, first its first byte and then the others.
 walk_by-token : {S : Type 0} (step : S → ℕ → Option S) (start : S) (position : List ℕ → S)
     → ((b : ℕ) → IsTrue (is_token_byte b) → step start b ≡ Some (position (b ∷ [])))
     → ((b : ℕ) (taken : List ℕ) (c : ℕ) → IsTrue (is_token_byte c)
@@ -183,7 +183,7 @@ walk_by-token step start position first others (b ∷ run) token =
 
 -- ---- from a begun tree
 
--- after the subtype's semicolon the list alone is walked
+-- After the subtype's semicolon the list alone is walked.
 pub walk_from-in_list : (top sub : List ℕ) (list : BegunList) (xs : List ℕ)
     → walk_from (in_list top sub list) xs ≡ option_map (in_list top sub) (walk_list list xs)
 walk_from-in_list top sub list [] = refl
@@ -192,35 +192,35 @@ walk_from-in_list top sub list (b ∷ xs) =
     ≡ option_map (in_list top sub) (option_and_then (λ next. walk_list next xs) o))
     [ None ↦ refl | Some next ↦ walk_from-in_list top sub next xs ]
 
--- a token is walked to a type
+-- A token is walked to a type.
 pub walk-type : (top : List ℕ) → IsToken top → walk top ≡ Some (in_type top)
 walk-type = walk_by-token grow (in_type []) in_type (λ b yes. cond-true _ _ _ yes) (λ b taken c yes. cond-true _ _ _ yes)
 
--- a token after the slash leads to a subtype
+-- A token after the slash leads to a subtype.
 pub walk_from-subtype : (top sub : List ℕ) → IsToken sub → walk_from (in_subtype top []) sub ≡ Some (in_subtype top sub)
 walk_from-subtype top =
     walk_by-token grow (in_subtype top []) (in_subtype top) (λ b yes. cond-true _ _ _ yes) (λ b taken c yes. cond-true _ _ _ yes)
 
 -- ---- within a list
 
--- spaces go on after a semicolon
+-- Spaces go on after a semicolon.
 pub walk_list-spaces : (closed : Closed) (n run : List ℕ) → IsTrue (list_all is_space run)
     → walk_list (list_at closed (in_spaces n)) run ≡ at_state closed (in_spaces (n ++ run))
 walk_list-spaces closed = walk_by-run grow_list is_space (λ n. list_at closed (in_spaces n)) (λ n b yes. cond-true _ _ _ yes)
 
--- a token is walked to a parameter's name
+-- A token is walked to a parameter's name.
 pub walk_list-name : (closed : Closed) (n name : List ℕ) → IsToken name
     → walk_list (list_at closed (in_spaces n)) name ≡ at_state closed (in_name n name)
 walk_list-name closed n =
     walk_by-token grow_list (list_at closed (in_spaces n)) (λ name. list_at closed (in_name n name))
     (λ b yes. cond-false _ _ _ (token_byte-not_space b yes) ∙ cond-true _ _ _ yes) (λ b taken c yes. cond-true _ _ _ yes)
 
--- a token after the equals sign leads to a plain value
+-- A token after the equals sign leads to a plain value.
 pub walk_list-value : (closed : Closed) (n name value : List ℕ) → IsToken value
     → walk_list (list_at closed (in_value n name [])) value ≡ at_state closed (in_value n name value)
 walk_list-value closed n name = search (walk_by-token, cond-true, rules)
 
--- bytes that a quoted value takes go on in it
+-- Bytes that a quoted value takes go on in it.
 pub walk_list-open : (closed : Closed) (n name taken run : List ℕ) → IsTrue (takes_all (awaits_after false taken) run)
     → walk_list (list_at closed (in_quotes n name taken)) run ≡ at_state closed (in_quotes n name (taken ++ run))
 walk_list-open closed n name taken [] all = ap (λ t. at_state closed (in_quotes n name t)) (sym (append-nil taken))
@@ -231,7 +231,7 @@ walk_list-open closed n name taken (b ∷ run) all =
     (subst (λ a. IsTrue (takes_all a run)) (sym (awaits_after-append false taken (b ∷ []))) parts.1)
     ∙ ap (λ t. at_state closed (in_quotes n name t)) (append_assoc taken (b ∷ []) run)
 
--- spaces go on after a quoted value
+-- Spaces go on after a quoted value.
 pub walk_list-after_quotes : (closed : Closed) (n name content m run : List ℕ) → IsTrue (list_all is_space run)
     → walk_list (list_at closed (after_quotes n name content m)) run ≡ at_state closed (after_quotes n name content (m ++ run))
 walk_list-after_quotes closed n name content =

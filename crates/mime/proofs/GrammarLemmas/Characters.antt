@@ -26,29 +26,29 @@ pub record IsOpen (begun : Begun) : Type 0 where
   pub content : List ℕ
   pub is : begun ≡ in_list top sub (list_at closed (in_quotes spaces name content))
 
--- from any begun tree a foreign byte leads nowhere, or from open quotes into open quotes
+-- From any begun tree a foreign byte leads nowhere, or from open quotes into open quotes.
 pub grow-foreign : (begun : Begun) (b : ℕ) → IsForeign b
     → MatchOption (grow begun b) (Unit {0}) (λ next. IsOpen begun × IsOpen next)
 grow-foreign begun b foreign = search rules
 
 -- ---- bytes foreign to the grammar
 
--- a byte that is no tab and isn't from the space to the tilde is no token byte, no space and no delimiter
+-- A byte that is no tab and isn't from the space to the tilde is no token byte, no space and no delimiter.
 pub IsForeign-outside : (b : ℕ) → IsFalse (b == tab_byte || nat_le space_byte b && nat_le b 126) → IsForeign b
 unfolding is_token_byte
 IsForeign-outside b outside = search rules
 
--- a byte past ASCII is foreign, too
+-- A byte past ASCII is foreign, too.
 pub foreign-from_high : (b : ℕ) → 128 ≤ b → IsForeign b
 foreign-from_high b high = IsForeign-outside b (grind (arith, nat_tests))
 
--- a byte past ASCII that an open quoted value doesn't take begins a character
+-- A byte past ASCII that an open quoted value doesn't take begins a character.
 high-untaken : (begun : Begun) (b : ℕ) → IsOpen begun → grow begun b ≡ None → 128 ≤ b → 192 ≤ b
 high-untaken begun b quotes dead high = search (none-some, in_list, grow, takes-high, rules)
 
 -- ---- the prefix
 
--- a byte of a text, by what is left from its position on
+-- A byte of a text, by what is left from its position on.
 byte_at : (text : List ℕ) (at b : ℕ) (rest : List ℕ) → drop at text ≡ b ∷ rest
     → (at < length text) × (get_or text at 0 ≡ b) × (drop (at + 1) text ≡ rest)
 byte_at text at b rest left =
@@ -56,7 +56,7 @@ byte_at text at b rest left =
     let same = sym (drop_more text at 0 within) ∙ left in
     (within, ap (λ t. get_or t 0 0) same, ap (λ t. drop 1 t) same)
 
--- after a byte that was walked a character ends, or the quotes are open
+-- After a byte that was walked a character ends, or the quotes are open.
 border-after : (text : List ℕ) (at b : ℕ) (rest : List ℕ) (begun next : Begun) → IsUtf8 text → drop at text ≡ b ∷ rest
     → grow begun b ≡ Some next → IsCharBoundary text (at + 1) ⊎ IsOpen next
 border-after text at b rest begun next utf8 left grown =
@@ -65,7 +65,7 @@ border-after text at b rest begun next utf8 left grown =
     (λ high. inr (MatchOption-at_some (Unit {0}) (λ n. IsOpen begun × IsOpen n) next grown
     (grow-foreign begun b (foreign-from_high b high))).1) (cases_lt b 128)
 
--- before a byte that leads nowhere a character ends
+-- Before a byte that leads nowhere a character ends.
 border-before_dead : (text : List ℕ) (at : ℕ) (bytes rest : List ℕ) (b : ℕ) (start begun : Begun) → IsUtf8 text
     → drop at text ≡ bytes ++ (b ∷ rest) → walk_from start bytes ≡ Some begun → grow begun b ≡ None
     → IsCharBoundary text at ⊎ IsOpen start → IsCharBoundary text (at + length bytes)
@@ -88,7 +88,7 @@ border-before_dead text at (c ∷ bytes) rest b start begun utf8 left walked dea
     (border-before_dead text (at + 1) bytes rest b next begun utf8 (byte_at text at c (bytes ++ (b ∷ rest)) left).2 goes dead
     (border-after text at c (bytes ++ (b ∷ rest)) start next utf8 left grown)))
 
--- the longest viable prefix ends between characters
+-- The longest viable prefix ends between characters.
 pub prefix_ends_between_characters : PrefixEndsBetweenCharacters
 prefix_ends_between_characters text count utf8 prefix =
     by_option (walk text)
@@ -103,20 +103,20 @@ prefix_ends_between_characters text count utf8 prefix =
     subst (IsCharBoundary text) (prefix_unique text (length text) count (whole_prefix-from_walk text begun walked) prefix)
     (IsCharBoundary-end text))
 
--- a byte that only follows is from 128 to 191
+-- A byte that only follows is from 128 to 191.
 pub following-low : (b : ℕ) → IsTrue (is_following_byte b) → (128 ≤ b) × (b < 192)
 following-low b follows = (grind (arith, nat_tests, follows), grind (arith, nat_tests, follows))
 
--- a text may be cut after a character
+-- A text may be cut after a character.
 character-border : (c l : List ℕ) → IsCharacter c l → IsCharBoundary (c ++ l) (length c)
 character-border c l one = grind (arith, common_steps)
 
--- between the bytes of a character a text may not be cut
+-- Between the bytes of a character a text may not be cut.
 no-border : (b : ℕ) (f : List ℕ) (i : ℕ) → IsTrue (list_all is_following_byte f) → 1 ≤ i → i < length (b ∷ f)
     → IsCharBoundary (b ∷ f) i → ⊥
 no-border b f i all above within border = grind (arith, common_steps)
 
--- the bytes of a character in valid UTF-8 are one character
+-- The bytes of a character in valid UTF-8 are one character.
 single : (c l : List ℕ) → IsCharacter c l → IsUtf8 c → (char : ℕ) × IsScalar char × (c ≡ encode_utf8 char)
 single [] l one utf8 = absurd one
 single (b ∷ f) l one utf8 = by_chars utf8.0 utf8.1.0 utf8.1.1
@@ -136,7 +136,7 @@ single (b ∷ f) l one utf8 = by_chars utf8.0 utf8.1.0 utf8.1.1
         absurd (no-border b f (0 + len_utf8 x) one.0 (omega (arith, bounds.0))
         (omega (arith, size, size_rest, whole, length-encode x, length-encode y, more.0)) border)
 
--- what is passed in valid UTF-8 is one character
+-- What is passed in valid UTF-8 is one character.
 pub passes_one_character : PassesOneCharacter
 passes_one_character text p c l utf8 split =
     let border = prefix_ends_between_characters text (length p) utf8 split.prefix in

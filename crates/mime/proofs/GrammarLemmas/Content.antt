@@ -7,51 +7,51 @@ use Rattle.mime.specs.{Bytes.is_quoted_byte, Bytes.is_quoted_text_byte, Bytes.qu
 
 -- ---- one byte
 
--- a quote is taken where a byte is awaited, and closes the value elsewhere
+-- A quote is taken where a byte is awaited, and closes the value elsewhere.
 takes-quote : (awaiting : Bool) → takes awaiting quote_byte ≡ awaiting
 unfolding is_quoted_byte
 takes-quote awaiting = search rules
 
--- a byte past ASCII that isn't taken is 192 or above
+-- A byte past ASCII that isn't taken is 192 or above.
 pub takes-high : (awaiting : Bool) (b : ℕ) → IsFalse (takes awaiting b) → 128 ≤ b → 192 ≤ b
 unfolding is_quoted_byte
 takes-high awaiting b not_taken high = search rules
 
--- a value takes a byte exactly if it takes its lowercase letter
+-- A value takes a byte exactly if it takes its lowercase letter.
 takes-of_lowercase : (awaiting : Bool) (b : ℕ) → takes awaiting (to_ascii_lowercase b) ≡ takes awaiting b
 unfolding is_quoted_byte
 takes-of_lowercase awaiting b = search rules
 
--- after a byte of a value another is awaited exactly if one is after its lowercase letter
+-- After a byte of a value another is awaited exactly if one is after its lowercase letter.
 awaits_next-lowercase : (awaiting : Bool) (b : ℕ) → awaits_next awaiting (to_ascii_lowercase b) ≡ awaits_next awaiting b
 awaits_next-lowercase awaiting b = search rules
 
--- what is taken closes nothing
+-- What is taken closes nothing.
 pub taken-closes_not : (awaiting : Bool) (b : ℕ) → IsTrue (takes awaiting b) → not awaiting && b == quote_byte ≡ false
 taken-closes_not awaiting b taken = search rules
 
 -- ---- quoted text and pairs
 
--- quoted text is taken
+-- Quoted text is taken.
 takes-text : (b : ℕ) → IsTrue (is_quoted_text_byte b) → IsTrue (takes false b)
 takes-text b text = grind (arith, nat_tests)
 
--- quoted text awaits no byte
+-- Quoted text awaits no byte.
 awaits_next-text : (b : ℕ) → IsTrue (is_quoted_text_byte b) → awaits_next false b ≡ false
 awaits_next-text b text = grind (arith, nat_tests)
 
--- a backslash is taken
+-- A backslash is taken.
 pub takes-backslash : IsTrue (takes false backslash_byte)
 unfolding is_quoted_byte
 takes-backslash = refl
 
--- no other byte is taken
+-- No other byte is taken.
 pub not_taken : (b : ℕ) → IsFalse (is_quoted_text_byte b) → IsFalse (b == backslash_byte) → IsFalse (takes false b)
 not_taken b no_text other = grind (arith, nat_tests)
 
 -- ---- content is what is taken and awaits no more
 
--- content is taken
+-- Content is taken.
 pub content-taken : (content : List ℕ) → IsContent content → IsOpenContent content
 content-taken bytes no_byte = refl
 content-taken bytes (text_byte b content text more) =
@@ -61,7 +61,7 @@ content-taken bytes (quoted_pair b content fits more) =
     and_from (takes false backslash_byte) _ takes-backslash
     (and_from (takes true b) (takes_all false content) fits (content-taken content more))
 
--- after content no byte is awaited
+-- After content no byte is awaited.
 pub content-awaits : (content : List ℕ) → IsContent content → awaits_after false content ≡ false
 content-awaits bytes no_byte = refl
 content-awaits bytes (text_byte b content text more) =
@@ -73,7 +73,7 @@ abbrev ContentFrom : Bool → List ℕ → Type 0
 ContentFrom true bytes = IsContent (backslash_byte ∷ bytes)
 ContentFrom false bytes = IsContent bytes
 
--- what is taken and awaits no more makes content
+-- What is taken and awaits no more makes content.
 content_from : (awaiting : Bool) (bytes : List ℕ) → IsTrue (takes_all awaiting bytes) → awaits_after awaiting bytes ≡ false
     → ContentFrom awaiting bytes
 content_from true [] all done = absurd (true≢false done)
@@ -96,7 +96,7 @@ IsContent-taken content all done = content_from false content all done
 
 -- ---- byte after byte
 
--- whether a byte is awaited after joined bytes, and whether they are taken
+-- Whether a byte is awaited after joined bytes, and whether they are taken.
 pub awaits_after-append : (awaiting : Bool) (run more : List ℕ)
     → awaits_after awaiting (run ++ more) ≡ awaits_after (awaits_after awaiting run) more
 awaits_after-append awaiting [] more = refl
@@ -110,12 +110,12 @@ takes_all-append awaiting (b ∷ run) more all taken =
     let parts = and_parts (takes awaiting b) (takes_all (awaits_next awaiting b) run) all in
     and_from (takes awaiting b) _ parts.0 (takes_all-append (awaits_next awaiting b) run more parts.1 taken)
 
--- a byte that continues open content leaves it open
+-- A byte that continues open content leaves it open.
 pub IsOpenContent-push : (content : List ℕ) (b : ℕ) → IsOpenContent content → IsTrue (continues content b)
     → IsOpenContent (content ++ b ∷ [])
 IsOpenContent-push content b all taken = takes_all-append false content (b ∷ []) all (and_from (continues content b) true taken refl)
 
--- quoted text is taken, and awaits nothing
+-- Quoted text is taken, and awaits nothing.
 pub takes_all-text : (run : List ℕ) → IsTrue (list_all is_quoted_text_byte run) → IsTrue (takes_all false run)
 takes_all-text [] all = refl
 takes_all-text (b ∷ run) all =
@@ -130,18 +130,18 @@ awaits_after-text (b ∷ run) all =
     let parts = and_parts (is_quoted_text_byte b) (list_all is_quoted_text_byte run) all in
     ap (λ (awaiting : Bool). awaits_after awaiting run) (awaits_next-text b parts.0) ∙ awaits_after-text run parts.1
 
--- open content that a quote doesn't continue is content
+-- Open content that a quote doesn't continue is content.
 pub IsContent-closed : (content : List ℕ) (b : ℕ) → IsOpenContent content → IsFalse (continues content b)
     → IsTrue (b == quote_byte) → IsContent content
 IsContent-closed content b all stopped same =
     IsContent-taken content all
     (sym (takes-quote (awaits_after false content)) ∙ ap (continues content) (sym (eqb-true b quote_byte same)) ∙ stopped)
 
--- a quote doesn't continue content
+-- A quote doesn't continue content.
 pub content-closed : (content : List ℕ) → IsContent content → IsFalse (continues content quote_byte)
 content-closed content is = takes-quote (awaits_after false content) ∙ content-awaits content is
 
--- quoted text is taken where a byte is awaited too
+-- Quoted text is taken where a byte is awaited too.
 pub takes_all-any : (awaiting : Bool) (run : List ℕ) → IsTrue (list_all is_quoted_text_byte run) → IsTrue (takes_all awaiting run)
 takes_all-any awaiting [] all = refl
 takes_all-any false run all = takes_all-text run all
@@ -149,13 +149,13 @@ takes_all-any true (b ∷ run) all =
     let parts = and_parts (is_quoted_text_byte b) (list_all is_quoted_text_byte run) all in
     and_from (is_quoted_byte b) _ (and_parts (is_quoted_byte b) _ parts.0).0 (takes_all-text run parts.1)
 
--- a quote after a letter closes the value
+-- A quote after a letter closes the value.
 pub closed-letter : (content : List ℕ) → IsFalse (continues (content ++ 120 ∷ []) quote_byte)
 closed-letter content = search (takes-quote, awaits_after-append, rules)
 
 -- ---- lowercasing
 
--- byte after byte
+-- Lowercasing doesn't change whether bytes are content.
 takes_all-lowered : (awaiting : Bool) (bytes : List ℕ) → takes_all awaiting (lowered bytes) ≡ takes_all awaiting bytes
 takes_all-lowered awaiting [] = refl
 takes_all-lowered awaiting (b ∷ bytes) =
@@ -169,7 +169,7 @@ awaits_after-lowered awaiting (b ∷ bytes) =
     ap (λ (a : Bool). awaits_after a (lowered bytes)) (awaits_next-lowercase awaiting b)
     ∙ awaits_after-lowered (awaits_next awaiting b) bytes
 
--- content in another case is content
+-- Content in another case is content.
 pub IsContent-case : (content other : List ℕ) → lowered other ≡ lowered content → IsContent content → IsContent other
 IsContent-case content other same is =
     IsContent-taken other

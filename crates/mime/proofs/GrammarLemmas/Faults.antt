@@ -8,11 +8,11 @@ use Rattle.mime.proofs.{GrammarLemmas.Content.takes_all-any, GrammarLemmas.Begun
 
 -- ---- a begun tree lacks one thing only
 
--- a completion that fails completes nothing
+-- A completion that fails completes nothing.
 never : {X : Type 0} → IsTrue false → X
 never fails = absurd (false≢true fails)
 
--- a completion that fails completes nothing, whatever byte the text ends in
+-- A completion that fails completes nothing, whatever byte the text ends in.
 nor : {X E : Type 0} → IsTrue false → E → X
 nor fails ends = never fails
 
@@ -20,7 +20,7 @@ nor fails ends = never fails
 abbrev IsOwn : Begun → ParseError → Type 0
 IsOwn begun fault = (fault ≡ lacking begun) × (tree_of begun ≡ None)
 
--- each of the five faults is tried
+-- Each of the five faults is tried.
 own-by_fault : (text : List ℕ) (begun : Begun) → walk text ≡ Some begun
     → (IsTrue (completes begun (codes "x/x")) → IsOwn begun MissingSlash)
     → (IsTrue (completes begun (codes "x")) → EndsIn text slash_byte → IsOwn begun MissingSubtype)
@@ -40,7 +40,7 @@ own-by_fault text begun walked slash subtype equal value quote MissingQuote lack
     quote (completes-from_accepted text (codes "x\"") begun walked lacks.0)
 own-by_fault text begun walked slash subtype equal value quote other lacks = absurd lacks.0
 
--- a text that ends in bytes of a class ends in no byte outside it
+-- A text that ends in bytes of a class ends in no byte outside it.
 ends_not : {X : Type 0} (class : ℕ → Bool) (text before run : List ℕ) (b : ℕ) → before ++ run ≡ text → 0 < length run
     → IsTrue (list_all class run) → IsFalse (class b) → EndsIn text b → X
 ends_not class text before run b spelled some all outside (prefix, ends) =
@@ -54,14 +54,14 @@ ends_not class text before run b spelled some all outside (prefix, ends) =
     (sym (list_all-append class (drop (length before) prefix) (b ∷ [])) ∙ sym (ap (list_all class) last) ∙ all) in
     never (sym outside ∙ (and_parts (class b) _ parts.1).0)
 
--- bytes that an open quoted value takes complete nothing
+-- Bytes that an open quoted value takes complete nothing.
 not_completes-open : {X : Type 0} (top sub : List ℕ) (closed : Closed) (n name content more : List ℕ)
     → IsTrue (takes_all (awaits_after false content) more)
     → IsTrue (completes (in_list top sub (list_at closed (in_quotes n name content))) more) → X
 not_completes-open top sub closed n name content more all passes =
     never (sym (ap (λ o. is_some (option_and_then tree_of o)) (walk_from-open top sub closed n name content more all)) ∙ passes)
 
--- a text lacks only what the state at its end says
+-- A text lacks only what the state at its end says.
 lacks_own : (text : List ℕ) (begun : Begun) → walk text ≡ Some begun → (fault : ParseError) → Lacks text fault
     → IsOwn begun fault
 unfolding is_token_byte is_quoted_byte
@@ -113,25 +113,25 @@ lacks_own text (in_list top sub list) walked = at list.position list.closed walk
         completes_not = not_completes-open top sub closed n name content
     at other closed walked = own-by_fault text _ walked never nor never nor never
 
--- a text that a completion makes an accepted one is rejected
+-- A text that a completion makes an accepted one is rejected.
 pub completed_is_rejected : CompletedIsRejected
 completed_is_rejected text fault lacks accepted =
     let found = walk-accepted text accepted in
     none-some found.1 (sym (lacks_own text found.0 found.2.0 fault lacks).1 ∙ found.2.1)
 
--- a text lacks at most one thing
+-- A text lacks at most one thing.
 lacks_unique : (text : List ℕ) (first second : ParseError) → Lacks text first → Lacks text second → first ≡ second
 lacks_unique text first second one two =
     let reached = walk-from_viable text (viable-from_lacks text first one) in
     (lacks_own text reached.0 reached.1 first one).0 ∙ sym (lacks_own text reached.0 reached.1 second two).0
 
--- a rejected text that can be walked lacks what the state at its end says
+-- A rejected text that can be walked lacks what the state at its end says.
 lacks-from_rejected : (text : List ℕ) (begun : Begun) → walk text ≡ Some begun → IsRejected text → Lacks text (lacking begun)
 lacks-from_rejected text begun walked rejected =
     by_option (tree_of begun) (lacks-from_walk text begun walked)
     (λ tree complete. absurd (rejected (accepted-from_complete text begun tree walked complete)))
 
--- exactly one completion makes a viable rejected text an accepted one
+-- Exactly one completion makes a viable rejected text an accepted one.
 pub one_completion : OneCompletion
 one_completion text viable rejected =
     let reached = walk-from_viable text viable in
@@ -140,11 +140,11 @@ one_completion text viable rejected =
 
 -- ---- the fault
 
--- what a text lacks is its fault
+-- What a text lacks is its fault.
 pub fault-from_lacks : (text : List ℕ) (fault : ParseError) → Lacks text fault → IsFault text fault
 fault-from_lacks text fault lacks = search rules
 
--- a text has at most one position at fault
+-- A text has at most one position at fault.
 dead_unique : (text : List ℕ) (pos at byte there : ℕ) → IsDeadAt text pos byte → IsDeadAt text at there
     → InvalidToken pos byte ≡ InvalidToken at there
 dead_unique text pos at byte there first second =
@@ -152,14 +152,14 @@ dead_unique text pos at byte there first second =
     let bytes : byte ≡ there = same_Some byte there (sym first.there ∙ ap (slice_get text) positions ∙ second.there) in
     ap (λ p. InvalidToken p byte) positions ∙ ap (λ x. InvalidToken at x) bytes
 
--- two faults of a text are the same
+-- Two faults of a text are the same.
 fault_unique : (text : List ℕ) (first second : ParseError) → IsFault text first → IsFault text second → first ≡ second
 fault_unique text (InvalidToken pos byte) (InvalidToken at there) one two = dead_unique text pos at byte there one two
 fault_unique text (InvalidToken pos byte) other one two = absurd (not_viable-at_dead text pos byte one (viable-from_lacks text other two))
 fault_unique text other (InvalidToken pos byte) one two = absurd (not_viable-at_dead text pos byte two (viable-from_lacks text other one))
 fault_unique text first second one two = lacks_unique text first second one two
 
--- a rejected text has exactly one fault
+-- A rejected text has exactly one fault.
 pub one_fault : OneFault
 one_fault text rejected =
     let found : (fault : ParseError) × IsFault text fault =
@@ -169,7 +169,7 @@ one_fault text rejected =
     (λ begun walked. (lacking begun, fault-from_lacks text (lacking begun) (lacks-from_rejected text begun walked rejected))) in
     (found.0, found.1, λ other is. fault_unique text other found.0 is found.1)
 
--- a text has exactly one longest viable prefix
+-- A text has exactly one longest viable prefix.
 pub one_longest_prefix : OneLongestPrefix
 one_longest_prefix text =
     let found : (count : ℕ) × IsLongestPrefix text count =

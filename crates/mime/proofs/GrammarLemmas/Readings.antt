@@ -5,7 +5,7 @@ use Rattle.std.specs.Option.{option_map}
 use Rattle.mime.specs.{Bytes.is_token_byte, Bytes.slash_byte, Bytes.semicolon_byte, Bytes.equals_byte, Bytes.quote_byte, Grammar.Parameter, Grammar.plain, Grammar.quoted, Grammar.Parameters, Grammar.blank, Grammar.final, Grammar.more, Grammar.Tail, Grammar.no_list, Grammar.listed, Grammar.SyntaxTree, Grammar.AreSpaces, Grammar.text_of_parameter, Grammar.text_of_list, Grammar.text_of, Grammar.IsToken, Grammar.IsContent, Grammar.IsParameter, Grammar.AreParameters, Grammar.IsTail, Grammar.IsWellFormed, Values.MediaType, Values.value_of, Values.Reads, Values.IsAccepted, Values.IsRejected, Inner.Quoted.continues}
 use Rattle.mime.proofs.{GrammarLemmas.Content.content-taken, GrammarLemmas.Content.content-closed, GrammarLemmas.Begun.Closed, GrammarLemmas.Begun.Begun, GrammarLemmas.Begun.in_type, GrammarLemmas.Begun.in_subtype, GrammarLemmas.Begun.in_list, GrammarLemmas.Begun.BegunList, GrammarLemmas.Begun.ListState, GrammarLemmas.Begun.in_spaces, GrammarLemmas.Begun.in_name, GrammarLemmas.Begun.in_value, GrammarLemmas.Begun.in_quotes, GrammarLemmas.Begun.after_quotes, GrammarLemmas.Begun.begun_list, GrammarLemmas.Begun.list_at, GrammarLemmas.Begun.at_state, GrammarLemmas.Begun.grow, GrammarLemmas.Begun.grow_list, GrammarLemmas.Begun.walk, GrammarLemmas.Begun.walk_from, GrammarLemmas.Begun.walk_list, GrammarLemmas.Begun.with_closed, GrammarLemmas.Begun.ended_list, GrammarLemmas.Begun.tree_of, GrammarLemmas.Begun.walk_by-step, GrammarLemmas.Begun.walk_by-append_some, GrammarLemmas.Begun.walk_from-in_list, GrammarLemmas.Begun.walk-type, GrammarLemmas.Begun.walk_from-subtype, GrammarLemmas.Begun.walk_list-spaces, GrammarLemmas.Begun.walk_list-name, GrammarLemmas.Begun.walk_list-value, GrammarLemmas.Begun.walk_list-open, GrammarLemmas.Begun.walk_list-after_quotes, GrammarLemmas.Spelling.text_of_begun, GrammarLemmas.Spelling.walk_from-lengthens, GrammarLemmas.Spelling.tree_of-spelled}
 
--- a text that is walked to a complete tree is spelled by it
+-- A text that is walked to a complete tree is spelled by it.
 pub accepted-from_walk : (text : List ℕ) (begun : Begun) (tree : SyntaxTree)
     → walk text ≡ Some begun → tree_of begun ≡ Some tree → IsWellFormed tree × (text_of tree ≡ text)
 accepted-from_walk text begun tree walked complete =
@@ -27,7 +27,7 @@ begun_of closed (blank n) = list_at closed (in_spaces n)
 begun_of closed (final n parameter) = list_at closed (state_of n parameter)
 begun_of closed (more n parameter rest) = begun_of ((n, parameter) ∷ closed) rest
 
--- the begun list that a parameter list leads to ends as that list
+-- The begun list that a parameter list leads to ends as that list.
 ended_list-begun_of : (closed : Closed) (list : Parameters) → AreParameters list
     → ended_list (begun_of closed list) ≡ Some (with_closed closed list)
 ended_list-begun_of closed (blank n) fine = refl
@@ -36,7 +36,7 @@ ended_list-begun_of closed (final n (plain name (v ∷ value))) fine = refl
 ended_list-begun_of closed (final n (quoted name content m)) fine = refl
 ended_list-begun_of closed (more n parameter rest) fine = ended_list-begun_of ((n, parameter) ∷ closed) rest fine.2
 
--- the walk over a name and its equals sign, after spaces
+-- The walk over a name and its equals sign, after spaces.
 walk_list-named : (closed : Closed) (n name rest : List ℕ) → IsToken name
     → walk_list (list_at closed (in_spaces n)) (name ++ (equals_byte ∷ rest)) ≡ walk_list (list_at closed (in_value n name [])) rest
 unfolding is_token_byte
@@ -44,7 +44,7 @@ walk_list-named closed n name rest token =
     walk_by-append_some grow_list (list_at closed (in_spaces n)) (list_at closed (in_name n name)) name (equals_byte ∷ rest)
     (walk_list-name closed n name token)
 
--- the walk over a quoted value with the spaces after it
+-- The walk over a quoted value and the spaces after it leads behind its quotes.
 walk_list-quoted : (closed : Closed) (n name content m : List ℕ) → IsContent content → AreSpaces m
     → walk_list (list_at closed (in_value n name [])) (quote_byte ∷ (content ++ (quote_byte ∷ m)))
     ≡ at_state closed (after_quotes n name content m)
@@ -56,7 +56,7 @@ walk_list-quoted closed n name content m fine white =
     (cond-false (continues content quote_byte) _ _ (content-closed content fine))
     ∙ walk_list-after_quotes closed n name content [] m white
 
--- the walk over a parameter
+-- The walk over a parameter leads to the parameter's state.
 walk_list-parameter : (closed : Closed) (n : List ℕ) (parameter : Parameter) → IsParameter parameter
     → walk_list (list_at closed (in_spaces n)) (text_of_parameter parameter) ≡ at_state closed (state_of n parameter)
 walk_list-parameter closed n (plain name value) fine =
@@ -65,7 +65,7 @@ walk_list-parameter closed n (quoted name content m) fine =
     walk_list-named closed n name (quote_byte ∷ (content ++ (quote_byte ∷ m))) fine.0
     ∙ walk_list-quoted closed n name content m fine.1 fine.2
 
--- the walk over the text of a list
+-- The walk over the text of a list leads to the begun list.
 walk_list-text : (closed : Closed) (list : Parameters) → AreParameters list
     → walk_list (list_at closed (in_spaces [])) (text_of_list list) ≡ Some (begun_of closed list)
 unfolding is_token_byte
@@ -82,14 +82,14 @@ walk_list-text closed (more n parameter rest) fine =
     semicolon_byte (text_of_list rest) (search rules)
     ∙ walk_list-text ((n, parameter) ∷ closed) rest fine.2
 
--- the walk over a type and its slash
+-- The walk over a type and its slash leads to an empty subtype.
 walk-slash : (top rest : List ℕ) → IsToken top → walk (top ++ (slash_byte ∷ rest)) ≡ walk_from (in_subtype top []) rest
 unfolding is_token_byte
 walk-slash [] rest token = absurd token
 walk-slash (t ∷ top) rest token =
     walk_by-append_some grow (in_type []) (in_type (t ∷ top)) (t ∷ top) (slash_byte ∷ rest) (walk-type (t ∷ top) token)
 
--- the walk over a type, a subtype and the semicolon
+-- The walk over a type, a subtype and the semicolon leads to a list.
 pub walk-head : (top sub rest : List ℕ) → IsToken top → IsToken sub
     → walk (top ++ (slash_byte ∷ (sub ++ (semicolon_byte ∷ rest)))) ≡ walk_from (in_list top sub begun_list) rest
 unfolding is_token_byte
@@ -99,7 +99,7 @@ walk-head top sub rest top_token sub_token =
     (walk_from-subtype top sub sub_token)
     ∙ walk_by-step grow (in_subtype top sub) (in_list top sub begun_list) semicolon_byte rest (search rules)
 
--- the text of a well-formed tree is walked to that tree
+-- The text of a well-formed tree is walked to that tree.
 walk-text_of : (tree : SyntaxTree) → IsWellFormed tree
     → (begun : Begun) × ((walk (text_of tree) ≡ Some begun) × (tree_of begun ≡ Some tree))
 walk-text_of tree well_formed = with_tail tree.tail well_formed.2
@@ -125,7 +125,7 @@ walk-text_of tree well_formed = with_tail tree.tail well_formed.2
       ),
     )
 
--- at most one well-formed tree spells a text
+-- At most one well-formed tree spells a text.
 pub one_tree : (first second : SyntaxTree) → IsWellFormed first → IsWellFormed second
     → text_of first ≡ text_of second → first ≡ second
 one_tree first second fine fine_too same =
@@ -134,14 +134,14 @@ one_tree first second fine fine_too same =
     let begun : one.0 ≡ two.0 = same_Some one.0 two.0 (sym one.1.0 ∙ ap walk same ∙ two.1.0) in
     same_Some first second (sym one.1.1 ∙ ap tree_of begun ∙ two.1.1)
 
--- a text is read as at most one value
+-- A text is read as at most one value.
 pub one_reading : (text : List ℕ) (first second : MediaType) → Reads text first → Reads text second → first ≡ second
 one_reading text first second reads again =
     sym reads.valued
     ∙ ap value_of (one_tree reads.tree again.tree reads.well_formed again.well_formed (reads.spelled ∙ sym again.spelled))
     ∙ again.valued
 
--- an accepted text is walked to a tree
+-- An accepted text is walked to a tree.
 pub walk-accepted : (text : List ℕ) → IsAccepted text
     → (begun : Begun) × (tree : SyntaxTree) × ((walk text ≡ Some begun) × (tree_of begun ≡ Some tree))
 walk-accepted text accepted =
@@ -149,14 +149,14 @@ walk-accepted text accepted =
     let found = walk-text_of reads.tree reads.well_formed in
     (found.0, reads.tree, (ap walk (sym reads.spelled) ∙ found.1.0, found.1.1))
 
--- a text that may not end where it ends is rejected
+-- A text that may not end where it ends is rejected.
 pub rejected-from_walk : (text : List ℕ) (begun : Begun) → walk text ≡ Some begun → tree_of begun ≡ None → IsRejected text
 rejected-from_walk text begun walked unfinished accepted =
     let found = walk-accepted text accepted in
     let same : found.0 ≡ begun = same_Some found.0 begun (sym found.2.0 ∙ walked) in
     none-some found.1 (sym unfinished ∙ ap tree_of (sym same) ∙ found.2.1)
 
--- a text that can't be walked is rejected
+-- A text that can't be walked is rejected.
 pub stopped-from_walk : (text : List ℕ) → walk text ≡ None → IsRejected text
 stopped-from_walk text stopped accepted =
     let found = walk-accepted text accepted in none-some found.0 (sym stopped ∙ found.2.0)

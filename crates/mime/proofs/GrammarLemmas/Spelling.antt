@@ -63,23 +63,23 @@ IsBegun (in_list top sub list) = IsBegunTail top sub list
 
 -- ---- a walk spells what it walked
 
--- bytes of a class with one more byte of the class are of the class
+-- Bytes of a class with one more byte of the class are of the class.
 list_all-push : (class : ℕ → Bool) (xs : List ℕ) (b : ℕ) → IsTrue (list_all class xs) → IsTrue (class b)
     → IsTrue (list_all class (xs ++ (b ∷ [])))
 list_all-push class xs b all passes = list_all-append class xs (b ∷ []) ∙ and_from _ _ all (and_from (class b) true passes refl)
 
--- a token with one more token byte is a token
+-- A token with one more token byte is a token.
 IsToken-push : (name : List ℕ) (b : ℕ) → IsToken name → IsTrue (is_token_byte b) → IsToken (name ++ (b ∷ []))
 IsToken-push name b token passes = grind (arith, common_steps)
 
--- how a list with a first byte is joined, for `simp`, which doesn't compute it
+-- How a list with a first byte is joined, for `simp`, which doesn't compute it.
 pub cons-append : (b : ℕ) (xs ys : List ℕ) → (b ∷ xs) ++ ys ≡ b ∷ (xs ++ ys)
 cons-append b xs ys = refl
 
 -- to group joined lists anew
 pub ruleset regroup = (append_assoc, append-nil, cons-append)
 
--- a byte of a class leads on one way, a delimiter another
+-- A byte of a class leads on one way, a delimiter another.
 pub by_class : {X : Type 0} (P : ℕ → X → Type 0) (class : ℕ → Bool) (other b : ℕ) (x y : X)
     → (IsTrue (class b) → P b x) → (IsFalse (class other) → P other y)
     → MatchOption (if class b then Some x else (if b == other then Some y else None)) (Unit {0}) (P b)
@@ -89,12 +89,12 @@ by_class P class other b x y passes stops = search rules
 abbrev Lengthens : List ℕ → ℕ → BegunList → Type 0
 Lengthens text b next = IsBegunList next × (text_of_begun_list next ≡ text ++ (b ∷ []))
 
--- a begun list of well-formed parts
+-- Well-formed parts make a begun list.
 same_positions : {closed : Closed} {position : ListState} → AreClosed closed → IsState position
     → IsBegunList (list_at closed position)
 same_positions before here = record { closed = before; position = here }
 
--- each byte that may come at a state lengthens the text by itself
+-- Each byte that may come at a state lengthens the text by itself.
 grow_state-lengthens : (closed : Closed) (position : ListState) (b : ℕ) → AreClosed closed → IsState position
     → MatchOption (grow_state closed position b) (Unit {0}) (Lengthens (text_of_closed closed ++ text_of_state position) b)
 grow_state-lengthens closed (in_spaces n) b before here =
@@ -128,7 +128,7 @@ grow_state-lengthens closed (after_quotes n name content m) b before here =
 abbrev Grows : List ℕ → ℕ → Begun → Type 0
 Grows text b next = IsBegun next × (text_of_begun next ≡ text ++ (b ∷ []))
 
--- each byte that may come at a begun tree lengthens the text by itself
+-- Each byte that may come at a begun tree lengthens the text by itself.
 grow-lengthens : (begun : Begun) (b : ℕ) → IsBegun begun → MatchOption (grow begun b) (Unit {0}) (Grows (text_of_begun begun) b)
 grow-lengthens (in_type []) b here =
     cond_both (is_token_byte b) _ _ (λ o. MatchOption o (Unit {0}) (Grows [] b))
@@ -153,7 +153,7 @@ grow-lengthens (in_list top sub list) b here =
       )
     ] (grow_state-lengthens list.closed list.position b here.list.closed here.list.position)
 
--- a walk spells the bytes that it passed
+-- A walk spells the bytes that it passed.
 pub walk_from-lengthens : (begun : Begun) (bytes : List ℕ) (last : Begun) → IsBegun begun
     → walk_from begun bytes ≡ Some last → IsBegun last × (text_of_begun last ≡ text_of_begun begun ++ bytes)
 walk_from-lengthens begun [] last here walked =
@@ -166,7 +166,7 @@ walk_from-lengthens begun (b ∷ bytes) last here walked =
     let after = walk_from-lengthens next bytes last longer.0 goes in
     (after.0, after.1 ∙ ap (λ t. t ++ bytes) longer.1 ∙ append_assoc (text_of_begun begun) (b ∷ []) bytes))
 
--- what is walked from the start of a text is well formed so far, and spells it
+-- What is walked from the start of a text is well formed so far, and spells it.
 pub begun-from_walk : (text : List ℕ) (begun : Begun) → walk text ≡ Some begun → IsBegun begun
 begun-from_walk text begun walked = (walk_from-lengthens (in_type []) text begun refl walked).0
 
@@ -174,7 +174,7 @@ begun-from_walk text begun walked = (walk_from-lengthens (in_type []) text begun
 pub spelled-from_walk : (text : List ℕ) (begun : Begun) → walk text ≡ Some begun → text_of_begun begun ≡ text
 spelled-from_walk text begun walked = (walk_from-lengthens (in_type []) text begun refl walked).1
 
--- a text that ends in a subtype, cut after its slash
+-- A text that ends in a subtype, cut after its slash.
 pub text-in_subtype : (top sub : List ℕ) → (top ++ (slash_byte ∷ [])) ++ sub ≡ text_of_begun (in_subtype top sub)
 text-in_subtype top sub = simp regroup
 
@@ -190,25 +190,25 @@ text-in_value top sub closed n name value = simp regroup
 
 -- ---- a tree that may end is spelled
 
--- the text of the closed parameters and then of the rest
+-- A list with closed parameters has their text, and then that of the rest.
 text_of_list-with_closed : (closed : Closed) (rest : Parameters)
     → text_of_list (with_closed closed rest) ≡ text_of_closed closed ++ text_of_list rest
 text_of_list-with_closed [] rest = refl
 text_of_list-with_closed (item ∷ closed) rest = text_of_list-with_closed closed (more item.0 item.1 rest) ∙ simp regroup
 
--- closed parameters and the rest are a well-formed list if each is well formed
+-- Closed parameters and the rest are a well-formed list if each is well formed.
 AreParameters-with_closed : (closed : Closed) (rest : Parameters) → AreClosed closed → AreParameters rest
     → AreParameters (with_closed closed rest)
 AreParameters-with_closed [] rest before here = here
 AreParameters-with_closed (item ∷ closed) rest before here =
     AreParameters-with_closed closed (more item.0 item.1 rest) before.2 (before.0, before.1, here)
 
--- a list that ends in a state spells that state's text
+-- A list that ends in a state spells that state's text.
 list_at_end-spelled : (position : ListState) → IsState position
     → MatchOption (list_at_end position) (Unit {0}) (λ rest. AreParameters rest × (text_of_list rest ≡ text_of_state position))
 list_at_end-spelled position fine = search rules
 
--- the tree of a text that may end spells the text
+-- The tree of a text that may end spells the text.
 pub tree_of-spelled : (begun : Begun) → IsBegun begun
     → MatchOption (tree_of begun) (Unit {0}) (λ tree. IsWellFormed tree × (text_of tree ≡ text_of_begun begun))
 tree_of-spelled (in_type top) here = tt

@@ -6,13 +6,13 @@ use Rattle.std.specs.Option.{option_and_then, option_map}
 use Rattle.mime.specs.{Bytes.is_token_byte, Bytes.is_quoted_byte, Bytes.quote_byte, Grammar.SyntaxTree, Values.value_of, Values.IsAccepted, Values.IsRejected, Faults.IsViable, Faults.IsLongest, Faults.IsLongestPrefix, Faults.Lacks, Faults.IsDeadAt, Faults.IsFault, Laws.EmptyIsViable, Laws.PrefixOfViableIsViable, Laws.AcceptedIsViable, declared.scan.fault.ParseError.ParseError, declared.scan.fault.ParseError.TheVariants.InvalidToken, Inner.Quoted.takes_all, Inner.Quoted.awaits_after, Inner.Quoted.continues}
 use Rattle.mime.proofs.{GrammarLemmas.Begun.Closed, GrammarLemmas.Begun.Begun, GrammarLemmas.Begun.in_type, GrammarLemmas.Begun.in_subtype, GrammarLemmas.Begun.in_list, GrammarLemmas.Begun.ListState, GrammarLemmas.Begun.in_name, GrammarLemmas.Begun.in_value, GrammarLemmas.Begun.in_quotes, GrammarLemmas.Begun.list_at, GrammarLemmas.Begun.grow, GrammarLemmas.Begun.walk, GrammarLemmas.Begun.walk_from, GrammarLemmas.Begun.tree_of, GrammarLemmas.Begun.lacking, GrammarLemmas.Begun.lacking_list, GrammarLemmas.Begun.walk_by-step, GrammarLemmas.Begun.walk_by-append, GrammarLemmas.Begun.walk_by-append_some, GrammarLemmas.Begun.walk_from-in_list, GrammarLemmas.Begun.walk_list-open, GrammarLemmas.Content.takes_all-any, GrammarLemmas.Content.closed-letter, GrammarLemmas.Spelling.before_equals, GrammarLemmas.Spelling.spelled-from_walk, GrammarLemmas.Spelling.text-in_value, GrammarLemmas.Readings.accepted-from_walk, GrammarLemmas.Readings.walk-accepted, GrammarLemmas.Readings.stopped-from_walk, BytesLemmas.slice_get-prefix}
 
--- an option is none or some
+-- An option is none or some.
 pub by_option : {X P : Type 0} (o : Option X) → (o ≡ None → P) → ((x : X) → o ≡ Some x → P) → P
 by_option o none some = search rules
 
 -- ---- what may still become a media type
 
--- a text that is walked to a complete tree is accepted
+-- A text that is walked to a complete tree is accepted.
 pub accepted-from_complete : (text : List ℕ) (begun : Begun) (tree : SyntaxTree) → walk text ≡ Some begun
     → tree_of begun ≡ Some tree → IsAccepted text
 accepted-from_complete text begun tree walked complete =
@@ -23,7 +23,7 @@ accepted-from_complete text begun tree walked complete =
 abbrev pub completes : Begun → List ℕ → Bool
 completes begun more = is_some (option_and_then tree_of (walk_from begun more))
 
--- a continuation that does makes the text an accepted one
+-- A continuation that does makes the text an accepted one.
 accepted-from_completes : (text more : List ℕ) (begun : Begun) → walk text ≡ Some begun → IsTrue (completes begun more)
     → IsAccepted (text ++ more)
 accepted-from_completes text more begun walked passes =
@@ -34,7 +34,7 @@ accepted-from_completes text more begun walked passes =
     (λ last goes complete.
     accepted-from_complete (text ++ more) last tree (walk_by-append_some grow (in_type []) begun text more walked ∙ goes) complete))
 
--- what makes a walked text an accepted one completes its begun tree
+-- What makes a walked text an accepted one completes its begun tree.
 pub completes-from_accepted : (text more : List ℕ) (begun : Begun) → walk text ≡ Some begun → IsAccepted (text ++ more)
     → IsTrue (completes begun more)
 completes-from_accepted text more begun walked accepted =
@@ -42,14 +42,14 @@ completes-from_accepted text more begun walked accepted =
     ap (λ o. is_some (option_and_then tree_of o)) (sym (walk_by-append_some grow (in_type []) begun text more walked) ∙ found.2.0)
     ∙ ap (λ o. is_some o) found.2.1
 
--- what an open quoted value takes leaves it open
+-- What an open quoted value takes leaves it open.
 pub walk_from-open : (top sub : List ℕ) (closed : Closed) (n name content more : List ℕ)
     → IsTrue (takes_all (awaits_after false content) more)
     → walk_from (in_list top sub (list_at closed (in_quotes n name content))) more
     ≡ Some (in_list top sub (list_at closed (in_quotes n name (content ++ more))))
 walk_from-open top sub closed n name content more all = search (in_list, in_quotes, list_at, walk_from-in_list, walk_list-open, rules)
 
--- a letter and a quote complete an open quoted value
+-- A letter and a quote complete an open quoted value.
 completes-open_quotes : (top sub : List ℕ) (closed : Closed) (n name content : List ℕ)
     → IsTrue (completes (in_list top sub (list_at closed (in_quotes n name content))) (codes "x\""))
 unfolding is_quoted_byte
@@ -60,7 +60,7 @@ completes-open_quotes top sub closed n name content =
     ∙ ap (λ o. is_some (option_and_then tree_of (option_and_then (λ next. walk_from next []) (option_map (in_list top sub) o))))
     (cond-false (continues (content ++ (120 ∷ [])) quote_byte) _ _ (closed-letter content))
 
--- a text that may not end where it ends lacks what the state at its end says
+-- A text that may not end where it ends lacks what the state at its end says.
 pub lacks-from_walk : (text : List ℕ) (begun : Begun) → walk text ≡ Some begun → tree_of begun ≡ None
     → Lacks text (lacking begun)
 unfolding is_token_byte
@@ -92,48 +92,48 @@ lacks-from_walk text (in_list top sub list) walked unfinished = at list.position
     )
     at other closed walked unfinished = absurd (none-some _ (sym unfinished))
 
--- a text with a completion is viable
+-- A text with a completion is viable.
 pub viable-from_lacks : (text : List ℕ) (fault : ParseError) → Lacks text fault → IsViable text
 viable-from_lacks text fault lacks = search rules
 
--- an accepted text is viable
+-- An accepted text is viable.
 pub accepted_is_viable : AcceptedIsViable
 accepted_is_viable text accepted = ([], subst IsAccepted (sym (append-nil text)) accepted)
 
--- a text that can be walked is viable
+-- A text that can be walked is viable.
 pub viable-from_walk : (text : List ℕ) (begun : Begun) → walk text ≡ Some begun → IsViable text
 viable-from_walk text begun walked =
     by_option (tree_of begun)
     (λ unfinished. viable-from_lacks text (lacking begun) (lacks-from_walk text begun walked unfinished))
     (λ tree complete. accepted_is_viable text (accepted-from_complete text begun tree walked complete))
 
--- a text that can't be walked isn't viable
+-- A text that can't be walked isn't viable.
 not_viable-from_walk : (text : List ℕ) → walk text ≡ None → IsViable text → ⊥
 not_viable-from_walk text stopped viable =
     stopped-from_walk (text ++ viable.0)
     (walk_by-append grow (in_type []) text viable.0 ∙ ap (option_and_then (λ next. walk_from next viable.0)) stopped)
     viable.1
 
--- a viable text can be walked
+-- A viable text can be walked.
 pub walk-from_viable : (text : List ℕ) → IsViable text → (begun : Begun) × (walk text ≡ Some begun)
 walk-from_viable text viable =
     by_option (walk text) (λ stopped. absurd (not_viable-from_walk text stopped viable)) (λ begun walked. (begun, walked))
 
--- the empty text is viable
+-- The empty text is viable.
 pub empty_is_viable : EmptyIsViable
 empty_is_viable = viable-from_walk [] (in_type []) refl
 
--- each prefix of a viable text is viable
+-- Each prefix of a viable text is viable.
 pub prefix_of_viable_is_viable : PrefixOfViableIsViable
 prefix_of_viable_is_viable prefix more viable = (more ++ viable.0, subst IsAccepted (append_assoc prefix more viable.0) viable.1)
 
 -- ---- the prefix
 
--- the whole text is its prefix if it can be walked
+-- The whole text is its prefix if it can be walked.
 pub whole_prefix-from_walk : (text : List ℕ) (begun : Begun) → walk text ≡ Some begun → IsLongestPrefix text (length text)
 whole_prefix-from_walk text begun walked = search (viable-from_walk, take-length, rules)
 
--- the prefix ends before the first byte that leads nowhere
+-- The prefix ends before the first byte that leads nowhere.
 pub prefix-from_walk : (prefix rest : List ℕ) (b : ℕ) (begun : Begun) → walk prefix ≡ Some begun → grow begun b ≡ None
     → IsLongestPrefix (prefix ++ (b ∷ rest)) (length prefix)
 prefix-from_walk prefix rest b begun walked dead = record {
@@ -157,18 +157,18 @@ prefix_unique text m n first second =
 
 -- ---- the fault
 
--- the fault of a text that goes on with a byte that leads nowhere
+-- The fault of a text that goes on with a byte that leads nowhere.
 pub dead-from_walk : (prefix rest : List ℕ) (b : ℕ) (begun : Begun) → walk prefix ≡ Some begun → grow begun b ≡ None
     → IsFault (prefix ++ (b ∷ rest)) (InvalidToken (length prefix) b)
 dead-from_walk prefix rest b begun walked dead = search (prefix-from_walk, slice_get-prefix, rules)
 
--- a text with a byte at fault isn't viable
+-- A text with a byte at fault isn't viable.
 pub not_viable-at_dead : (text : List ℕ) (pos byte : ℕ) → IsDeadAt text pos byte → ¬ (IsViable text)
 not_viable-at_dead text pos byte dead viable =
     dead.prefix.longest (length text) (slice_get_within text pos byte dead.there) (omega arith)
     (subst IsViable (sym (take-length text)) viable)
 
--- a text with a byte at fault is rejected
+-- A text with a byte at fault is rejected.
 pub rejected-at_dead : (text : List ℕ) (pos byte : ℕ) → IsDeadAt text pos byte → IsRejected text
 rejected-at_dead text pos byte dead accepted = not_viable-at_dead text pos byte dead (accepted_is_viable text accepted)
 
@@ -182,7 +182,7 @@ pub record Stop (start : Begun) (text : List ℕ) : Type 0 where
   pub walked : walk_from start prefix ≡ Some begun
   pub dead : grow begun byte ≡ None
 
--- a text that can't be walked has a first byte that leads nowhere
+-- A text that can't be walked has a first byte that leads nowhere.
 pub stop-from_walk : (start : Begun) (text : List ℕ) → walk_from start text ≡ None → Stop start text
 stop-from_walk start [] stopped = absurd (none-some start (sym stopped))
 stop-from_walk start (b ∷ bytes) stopped =
@@ -203,7 +203,7 @@ stop-from_walk start (b ∷ bytes) stopped =
           }
     ]) refl stopped
 
--- the byte where a walk stops is at fault
+-- The byte where a walk stops is at fault.
 pub dead-from_stop : (text : List ℕ) (stop : Stop (in_type []) text) → IsDeadAt text (length stop.prefix) stop.byte
 dead-from_stop text stop =
     subst (λ t. IsDeadAt t (length stop.prefix) stop.byte) (sym stop.spelled)

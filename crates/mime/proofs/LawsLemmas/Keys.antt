@@ -5,15 +5,15 @@ use Rattle.std.specs.Prelude.{◌&&◌}
 use Rattle.std.specs.{Str.bytes_eq, Bool.Decides, Bool.beq, Cmp.booleans_Decides}
 use Rattle.mime.specs.{Values.lowered, Items.Item, Items.IsFirstAccepted, Names.NameIs, Laws.IsDecided, Laws.OneAnswer, Laws.HasAnswer}
 
--- what a test decides is so or isn't
+-- What a test decides is so or isn't.
 decided_by : {P : Type 0} (test : Bool) → Decides test P → P ⊎ ¬ P
 decided_by test decides = search rules
 
--- what is so or isn't, and can't be otherwise, is so
+-- What is so or isn't, and can't be otherwise, is so.
 is_so : {P : Type 0} → P ⊎ ¬ P → ¬ (¬ P) → P
 is_so is never = search rules
 
--- two answers that can't differ are the same
+-- Two answers that can't differ are the same.
 same_answer : (one other : Option (List ℕ × Bool)) → ¬ (one ≢ other) → one ≡ other
 same_answer None None never = refl
 same_answer None (Some y) never = absurd (never (λ same. none-some y same))
@@ -25,7 +25,7 @@ same_answer (Some (x, f)) (Some (y, g)) never =
     let flags : f ≡ g = is_so (decided_by (beq f g) (booleans_Decides f g)) (λ differ. never (λ same. differ (parts same).1)) in
     ap (λ t. Some (t, f)) texts ∙ ap (λ t. Some (y, t)) flags
 
--- a key finds at most one answer
+-- A key finds at most one answer.
 pub one_answer : (Accepts : List ℕ → Bool → Type 0) → OneAnswer Accepts
 one_answer Accepts items found other is also = same_answer other found (never items is also)
   where
@@ -35,7 +35,7 @@ one_answer Accepts items found other is also = same_answer other found (never it
         let rejects : ¬ (Accepts item.name item.name_ignores_case) = λ accepts. differ (also.0 accepts ∙ sym (is.0 accepts)) in
         never items (is.1 rejects) (also.1 rejects) differ
 
--- a key that decides of each name finds an answer
+-- A key that decides of each name finds an answer.
 pub has_answer : (Accepts : List ℕ → Bool → Type 0) → HasAnswer Accepts
 has_answer Accepts decided [] = (None, refl)
 has_answer Accepts decided (item ∷ items) =
@@ -43,12 +43,12 @@ has_answer Accepts decided (item ∷ items) =
     (λ rejects. let rest = has_answer Accepts decided items in (rest.0, (λ is. absurd (rejects is), λ isnt. rest.1)))
     (decided item.name item.name_ignores_case)
 
--- that a name is a text is decided
+-- Whether a name is a text is decided.
 pub text_decides : (text : List ℕ) → IsDecided (λ name ignores_case. NameIs name ignores_case text)
 text_decides text name true = decided_by (bytes_eq (lowered name) (lowered text)) (bytes_eq-Decides (lowered name) (lowered text))
 text_decides text name false = decided_by (bytes_eq name text) (bytes_eq-Decides name text)
 
--- that it is a name is too
+-- Whether a key is a name is decided.
 pub name_decides : (text : List ℕ) (flag : Bool) → IsDecided (λ name ignores_case. (name ≡ text) × (ignores_case ≡ flag))
 name_decides text flag name ignores_case =
     decided_by (bytes_eq name text && beq ignores_case flag)

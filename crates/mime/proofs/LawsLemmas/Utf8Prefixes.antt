@@ -7,7 +7,7 @@ use Rattle.mime.specs.{Values.IsAccepted, Faults.IsViable, Faults.IsLongest, Fau
 use Rattle.mime.proofs.{GrammarLemmas.Characters.prefix_ends_between_characters, CutLemmas.Cuts.accepted_or_rejected, GrammarLemmas.Faults.one_completion, GrammarLemmas.Faults.one_longest_prefix, GrammarLemmas.Viability.prefix_unique}
 use lib.Utf8.{encode}
 
--- what completes a text is ASCII
+-- What completes a text is ASCII.
 completion-utf8 : (fault : ParseError) → MatchOption (completion_of fault) (Unit {0}) IsUtf8
 unfolding encode
 completion-utf8 MissingSlash = (codes "x/x", (refl, refl))
@@ -26,7 +26,7 @@ completed_in_utf8 prefix fault utf8 lacks =
       | Some more ↦ λ ascii completed. (more, IsUtf8-append prefix more utf8 ascii, completed)
     ]) (completion-utf8 fault) lacks.0
 
--- a viable text of valid UTF-8 is completed to one
+-- A viable text of valid UTF-8 is completed to one.
 viable-in_utf8 : (prefix : List ℕ) → IsUtf8 prefix → IsViable prefix → IsViableInUtf8 prefix
 viable-in_utf8 prefix utf8 viable =
     ⊎_elim
@@ -34,7 +34,7 @@ viable-in_utf8 prefix utf8 viable =
     (λ is. let lacks = one_completion prefix viable is in completed_in_utf8 prefix lacks.0 utf8 lacks.1)
     (accepted_or_rejected prefix)
 
--- the longest viable prefix is completed to a text of valid UTF-8
+-- The longest viable prefix is completed to a text of valid UTF-8.
 prefix-in_utf8 : (text : List ℕ) (count : ℕ) → IsUtf8 text → IsLongestPrefix text count → IsLongest IsViableInUtf8 text count
 prefix-in_utf8 text count utf8 prefix = record {
   within = prefix.within;
@@ -43,7 +43,7 @@ prefix-in_utf8 text count utf8 prefix = record {
   longest = λ n above within viable. prefix.longest n above within (viable.0, viable.2);
 }
 
--- the two fronts are the same
+-- The two fronts are the same.
 pub prefix_is_in_utf8 : PrefixIsInUtf8
 prefix_is_in_utf8 text count utf8 = (
   prefix-in_utf8 text count utf8,

@@ -7,7 +7,7 @@ use Rattle.mime.specs.{Bytes.slash_byte, Bytes.plus_byte, Bytes.is_token_byte, B
 use Rattle.mime.proofs.{LowercaseLemmas.lowered-lowered, LowercaseLemmas.IsToken-lowered, LowercaseLemmas.lowered_tree-lowered_tree, LowercaseLemmas.IsWellFormed-lowered_tree, ValueLemmas.ListText.ended, ValueLemmas.ListText.drop_past, ValueLemmas.Parts.slash_in, ValueLemmas.Parts.plus_in, ValueLemmas.Parts.subtype_end, GrammarLemmas.Readings.one_reading, GrammarLemmas.Readings.walk-accepted, GrammarLemmas.Begun.Begun, GrammarLemmas.Begun.in_type, GrammarLemmas.Begun.in_list, GrammarLemmas.Begun.in_quotes, GrammarLemmas.Begun.list_at, GrammarLemmas.Begun.grow, GrammarLemmas.Begun.walk_from, BytesLemmas.list_all-wider, BytesLemmas.list_all-parts, BytesLemmas.AreTokenBytes-from_token, BytesLemmas.token-size, GrammarLemmas.Characters.IsForeign, GrammarLemmas.Characters.IsForeign-outside, GrammarLemmas.Characters.IsOpen, GrammarLemmas.Characters.grow-foreign, ValueLemmas.KeptText.value_of_low, ValueLemmas.KeptText.value_of-lowering, ValueLemmas.KeptText.kept_is_read, GrammarLemmas.Content.IsContent-taken, GrammarLemmas.Content.takes_all-text, GrammarLemmas.Content.awaits_after-text}
 use Rattle.mime_search.proofs.IgnoringCase.{length-lowered}
 
--- the essence of a value that was read is read as the value without its parameters
+-- The essence of a value that was read is read as the value without its parameters.
 pub essence_is_read : EssenceIsRead
 essence_is_read text value reads =
     let bare : SyntaxTree = record { top = reads.tree.top; sub = reads.tree.sub; tail = no_list } in
@@ -20,7 +20,7 @@ essence_is_read text value reads =
           ∙ ap without_parameters reads.valued;
     }
 
--- the bytes from a position on begin with the byte there
+-- The bytes from a position on begin with the byte there.
 drop-from : (bytes : List ℕ) (p b : ℕ) → slice_get bytes p ≡ Some b → drop p bytes ≡ b ∷ drop (p + 1) bytes
 drop-from bytes p b there =
     drop_more bytes p b (slice_get_within bytes p b there) ∙ ap (λ x. x ∷ drop (p + 1) bytes) (get_or_from_slice_get bytes p b b there)
@@ -34,7 +34,7 @@ after_slash-read text value reads =
     subst (λ (v : MediaType). drop (v.slash + 1) v.essence ≡ sub) reads.valued
     (drop_past slash_byte top (slash_byte ∷ sub) sub _ (ended sub) (length-lowered reads.tree.top))
 
--- what follows the slash is the subtype, and a plus with the suffix if there is one
+-- What follows the slash is the subtype, and a plus with the suffix if there is one.
 after_slash : (text : List ℕ) (value : MediaType) (plus : Option ℕ) → Reads text value → value.plus ≡ plus
     → drop (value.slash + 1) value.essence ≡ slice_range value.essence (value.slash + 1) (unwrap_or plus (length value.essence))
     ++ suffix_text (option_map (λ position. drop (position + 1) value.essence) plus)
@@ -54,7 +54,7 @@ essence_is_parts text value reads =
     (drop-from value.essence value.slash slash_byte (slash_in text value.essence value reads refl)
     ∙ ap (λ rest. slash_byte ∷ rest) (after_slash text value value.plus reads refl))
 
--- values of one essence have one type, subtype and suffix, and those make up the essence
+-- Values of one essence have one type, subtype and suffix, and those make up the essence.
 pub same_essence : SameEssence
 same_essence one other first second reads again = (
   λ same.
@@ -68,11 +68,11 @@ same_essence one other first second reads again = (
 
 -- ---- the bytes of an accepted text
 
--- it may occur in no quoted value
+-- It may occur in no quoted value.
 unsafe-untaken : (awaiting : Bool) (b : ℕ) → IsFalse (is_quoted_byte b) → IsFalse (takes awaiting b)
 unsafe-untaken awaiting b unsafe = search rules
 
--- a byte that a header doesn't have leads nowhere
+-- A byte that a header doesn't have leads nowhere.
 unsafe-dead : (begun : Begun) (b : ℕ) → IsFalse (is_quoted_byte b) → grow begun b ≡ None
 unfolding is_quoted_byte
 unsafe-dead begun b unsafe =
@@ -90,7 +90,7 @@ unsafe-dead begun b unsafe =
         (cond-false (continues at.content b) _ _ (unsafe-untaken (awaits_after false at.content) b unsafe)
         ∙ cond-false (b == quote_byte) _ None foreign.quote)
 
--- a text that is walked has no such byte
+-- A text that is walked has no such byte.
 pub walked-safe : (start last : Begun) (text : List ℕ) → walk_from start text ≡ Some last → AreHeaderBytes text
 walked-safe start last [] walked = refl
 walked-safe start last (b ∷ text) walked =
@@ -101,7 +101,7 @@ walked-safe start last (b ∷ text) walked =
 
 -- ---- the parts
 
--- a token is quoted content
+-- A token is quoted content.
 pub content-from_token : (bytes : List ℕ) → IsToken bytes → IsContent bytes
 unfolding is_token_byte is_quoted_byte
 content-from_token bytes token =
@@ -110,7 +110,7 @@ content-from_token bytes token =
     (AreTokenBytes-from_token bytes token) in
     IsContent-taken bytes (takes_all-text bytes text) (awaits_after-text bytes text)
 
--- the pairs of a well-formed list, lowercased
+-- A well-formed parameter has a safe pair.
 safe_pair : (p : Parameter) → IsParameter p → IsSafePair (pair_of p)
 safe_pair (plain name value) well = (well.0, content-from_token value well.1)
 safe_pair (quoted name content n) well = (well.0, well.1)
@@ -121,14 +121,14 @@ safe_pairs (blank n) well = tt
 safe_pairs (final n p) well = (safe_pair p well.1, tt)
 safe_pairs (more n p rest) well = (safe_pair p well.1, safe_pairs rest well.2)
 
--- a prefix of a token
+-- A token's prefix is a token, unless it is empty.
 token-take : (n : ℕ) (bytes : List ℕ) → 0 < n → IsToken bytes → IsToken (take n bytes)
 token-take n [] some token = absurd token
 token-take zero (b ∷ bytes) some token = absurd (omega (arith, some))
 token-take (suc n) (b ∷ bytes) some token =
     (list_all-parts is_token_byte (b ∷ take n bytes) (drop n bytes) (rw (take-append-drop n bytes) token)).0
 
--- the subtype isn't empty
+-- The subtype isn't empty.
 subtype_some : (text : List ℕ) (value : MediaType) (plus : Option ℕ) → Reads text value → value.plus ≡ plus
     → 0 < unwrap_or plus (length value.essence) - (value.slash + 1)
 subtype_some text value None reads is =
@@ -136,11 +136,11 @@ subtype_some text value None reads is =
     omega (arith, size, ap length (after_slash-read text value reads), length-drop (value.slash + 1) value.essence)
 subtype_some text value (Some p) reads is = omega (arith, (plus_in text value.essence value p reads refl is).above)
 
--- the suffix has token bytes
+-- The suffix has token bytes.
 suffix_bytes : (suffix : Option (List ℕ)) → AreTokenBytes (suffix_text suffix) → IfSome suffix AreTokenBytes
 suffix_bytes suffix all = search rules
 
--- a value that was read is safe in a header
+-- A value that was read is safe in a header.
 pub kept_is_safe : KeptIsSafe
 kept_is_safe text value reads =
     let walked = walk-accepted value.kept (value, kept_is_read text value reads) in
@@ -160,7 +160,7 @@ kept_is_safe text value reads =
 
 -- ---- a parameter
 
--- an essence with a parameter after it is read as the value with that parameter
+-- An essence with a parameter after it is read as the value with that parameter.
 pub parameter_is_read : ParameterIsRead
 parameter_is_read text value name content reads named is =
     let top = lowered reads.tree.top in

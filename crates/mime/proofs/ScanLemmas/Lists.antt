@@ -6,11 +6,11 @@ use Rattle.std.proofs.lemmas.Bool.{and_from, cond-true, cond-false}
 use Rattle.mime.specs.{Bytes.is_token_byte, Bytes.quote_byte, Bytes.semicolon_byte, Values.last_plus, Inner.Remaining.Remaining, declared.scan.Positions.Positions, declared.scan.Scanned.Scanned, Inner.Scanning.Given, Inner.Scanning.GivesFirst, Inner.Scanning.Passes, Inner.Scanning.positions_of, Inner.Scanning.before_list, Inner.Scanning.ScansList, Inner.Scanning.Scans, Inner.Scanning.PassesContent, Grammar.is_space, Grammar.Parameter, Grammar.plain, Grammar.quoted, Inner.Quoted.continues}
 use Rattle.mime.proofs.{GrammarLemmas.Begun.in_type, GrammarLemmas.Begun.in_subtype, GrammarLemmas.Begun.in_list, GrammarLemmas.Begun.begun_list, GrammarLemmas.Begun.walk-type, GrammarLemmas.Begun.ListState, GrammarLemmas.Begun.in_spaces, GrammarLemmas.Begun.in_name, GrammarLemmas.Begun.in_value, GrammarLemmas.Begun.in_quotes, GrammarLemmas.Begun.after_quotes, GrammarLemmas.Begun.BegunList, GrammarLemmas.Begun.grow_state, GrammarLemmas.Begun.grow_list, GrammarLemmas.Begun.close, GrammarLemmas.Begun.walk_by-step, GrammarLemmas.Begun.walk_list-spaces, GrammarLemmas.Begun.walk_list-name, GrammarLemmas.Begun.walk_list-value, GrammarLemmas.Begun.walk_list-open, GrammarLemmas.Begun.walk_list-after_quotes, ScanLemmas.Passing.given_then, ScanLemmas.Passing.given_whole, ScanLemmas.Passing.given_sum, GrammarLemmas.Spelling.walk_from-lengthens, ScanLemmas.Verdicts.Leads, ScanLemmas.Verdicts.positions_of_list, ScanLemmas.Verdicts.ListLeads, ScanLemmas.Verdicts.list_run, ScanLemmas.Verdicts.list_byte, BytesLemmas.quote_is_no_token, BytesLemmas.semicolon_is_no_token}
 
--- nothing was walked yet
+-- Nothing was walked yet.
 pub none_walked : {old new : Remaining} {first : Option ℕ} → GivesFirst old new first → Leads (in_type []) old new first (in_type [])
 none_walked g = record { run = []; given = g.0; walked = refl }
 
--- a type was walked
+-- A type was walked.
 pub type_walked : {old mid new : Remaining} {b : ℕ} {stop : Option ℕ} → GivesFirst old mid (Some b) → is_token_byte b ≡ true
     → (q : Passes is_token_byte mid new stop) → Leads (in_type []) old new stop (in_type (b ∷ q.run))
 type_walked {b = b} g f q = record {
@@ -31,13 +31,13 @@ pub record Subtyped (top : List ℕ) (b : ℕ) (plus : Option ℕ) (old now : Re
 abbrev essence_positions : ℕ → Option ℕ → Positions
 essence_positions slash plus = record { slash = slash; plus = plus; semicolon = None; pair_count = 0 }
 
--- the positions of a text that ends in its subtype are those of its parts
+-- The positions of a text that ends in its subtype are those of its parts.
 pub essence_is : (slash : ℕ) (plus : Option ℕ) (top others : List ℕ) → slash ≡ length top
     → plus ≡ last_plus (length top + 2) others
     → essence_positions slash plus ≡ essence_positions (length top) (last_plus (length top + 2) others)
 essence_is slash plus top others e f = rw (e, f)
 
--- the answer on the list is the answer on the text
+-- The answer on the list is the answer on the text.
 pub scans_list : {old mid new : Remaining} {top sub : List ℕ} {before : Positions} {verdict : Scanned}
     → Leads (in_type []) old mid None (in_list top sub begun_list) → before ≡ positions_of (before_list top sub)
     → ScansList before mid new verdict → Scans old new verdict
@@ -52,18 +52,18 @@ pub record Turn (before positions : Positions) (old now : Remaining) : Type 0 wh
   pub same_positions : positions ≡ record before { pair_count = before.pair_count + (length closed + 0) }
   pub room : length closed + length now.left ≤ length old.left
 
--- one parameter more is counted
+-- One parameter more is counted.
 pub one_pair_more : (before positions : Positions) (n : ℕ) → positions ≡ record before { pair_count = before.pair_count + (n + 0) }
     → record positions { pair_count = positions.pair_count + 1 } ≡ record before { pair_count = before.pair_count + (n + 1) }
 one_pair_more before positions n e = rw e (ap (λ (count : ℕ). record before { pair_count = count }) (omega arith))
 
--- the spaces before a parameter were walked
+-- The spaces before a parameter were walked.
 pub spaces_walked : {before positions : Positions} {old mid new : Remaining} {stop : Option ℕ}
     → (t : Turn before positions old mid) → (p : Passes is_space mid new stop)
     → ListLeads old new stop (record { closed = t.closed; position = in_spaces p.run })
 spaces_walked t p = list_run t.walked p.given (walk_list-spaces t.closed [] p.run p.of_class)
 
--- a parameter's name was walked
+-- A parameter's name was walked.
 pub name_walked : {before positions : Positions} {old mid from new : Remaining} {b : ℕ} {stop : Option ℕ}
     → (t : Turn before positions old mid) → (p : Passes is_space mid from (Some b)) → is_token_byte b ≡ true
     → (q : Passes is_token_byte from new stop)
@@ -74,7 +74,7 @@ name_walked {b = b} t p f q =
     (sym (walk_by-step grow_list (record { closed = t.closed; position = in_spaces p.run }) _ b q.run first)
     ∙ walk_list-name t.closed p.run (b ∷ q.run) (and_from _ _ f q.of_class))
 
--- a parameter's quoted content was walked
+-- A parameter's quoted content was walked.
 pub quotes_walked : {closed : List (List ℕ × Parameter)} {spaces name : List ℕ} {old mid from new : Remaining} {b : ℕ}
     {stop : Option ℕ}
     → ListLeads old mid None (record { closed = closed; position = in_value spaces name [] }) → GivesFirst mid from (Some b)
@@ -96,13 +96,13 @@ pub record Valued (closed : List (List ℕ × Parameter)) (spaces : List ℕ) (o
   pub stopped : MatchOption stop (now.left ≡ []) (λ b. b ≢ semicolon_byte → grow_state closed position b ≡ None)
   pub less : length now.left ≤ length mid.left
 
--- a byte outside a class that goes on, and no semicolon, leads nowhere
+-- A byte outside a class that goes on, and no semicolon, leads nowhere.
 only_semicolon : (class : ℕ → Bool) (left : List ℕ) (stop : Option ℕ) (go closed : ℕ → Option BegunList)
     → MatchOption stop (left ≡ []) (λ b. IsFalse (class b)) → MatchOption stop (left ≡ [])
     (λ b. b ≢ semicolon_byte → (if class b then go b else (if b == semicolon_byte then closed b else None)) ≡ None)
 only_semicolon class left stop go closed s = search rules
 
--- a plain value was walked
+-- A plain value was walked.
 pub valued_token : {closed : List (List ℕ × Parameter)} {spaces name : List ℕ} {old mid from new : Remaining} {b : ℕ}
     {stop : Option ℕ}
     → ListLeads old mid None (record { closed = closed; position = in_value spaces name [] }) → GivesFirst mid from (Some b)
@@ -117,7 +117,7 @@ valued_token {closed} {spaces} {name} {new = new} {b = b} {stop = stop} r g f q 
   less = omega (arith, given_sum g.0, given_sum q.given);
 }
 
--- a quoted value and the spaces after it were walked
+-- A quoted value and the spaces after it were walked.
 pub valued_quotes : {closed : List (List ℕ × Parameter)} {spaces name : List ℕ} {old mid from to new : Remaining} {b c : ℕ}
     {stop : Option ℕ}
     → ListLeads old mid None (record { closed = closed; position = in_value spaces name [] }) → GivesFirst mid from (Some b)

@@ -6,26 +6,26 @@ use Rattle.std.specs.{List.list_all, List.prefix_len, Option.option_eq}
 use Rattle.mime.specs.{Bytes.is_quoted_byte, Bytes.is_quoted_text_byte, Bytes.backslash_byte, Inner.Quoted.awaits_next, Inner.Quoted.takes, Inner.Quoted.takes_all, Inner.Quoted.awaits_after, Inner.Quoted.IsOpenContent, Inner.Quoted.continues, Inner.Remaining.Remaining, Inner.Remaining.reader_at, Inner.Scanning.Given, Inner.Scanning.GivesFirst, Inner.Scanning.Reaches, Inner.Scanning.Passing, Inner.Scanning.Passes, Inner.Scanning.PassesContent}
 use Rattle.mime.proofs.{BytesLemmas.list_all-wider, GrammarLemmas.Content.takes-backslash, GrammarLemmas.Content.takes_all-text, GrammarLemmas.Content.awaits_after-text, GrammarLemmas.Content.awaits_after-append, GrammarLemmas.Content.takes_all-append, GrammarLemmas.Content.not_taken}
 
--- a run, and what was given from where it ended
+-- A run, and what was given from where it ended.
 pub given_then : {old mid new : Remaining} {xs ys : List ℕ} {stop : Option ℕ}
     → Given old mid xs None → Given mid new ys stop → Given old new (xs ++ ys) stop
 given_then {new} {xs} {ys} {stop} g h = grind (arith, common_steps)
 
--- a run with the byte that ended it is a run
+-- A run with the byte that ended it is a run.
 pub given_whole : {old new : Remaining} {xs : List ℕ} {b : ℕ} → Given old new xs (Some b) → Given old new (xs ++ b ∷ []) None
 given_whole {new} {xs} {b} g = grind (arith, common_steps)
 
--- a run of a class, and the next byte or the end
+-- A run of a class, and the next byte or the end.
 pub reaches_next : {class : ℕ → Bool} {old mid new : Remaining} {stop : Option ℕ} → Passing class old mid
     → GivesFirst mid new stop → Reaches class old new stop
 reaches_next p first = record { run = p.run; of_class = p.of_class; given = rw (sym (append-nil p.run)) (given_then p.given first.0) }
 
--- what is counted and what is left make one sum
+-- What is counted and what is left make one sum.
 pub given_sum : {old new : Remaining} {xs : List ℕ} {stop : Option ℕ} → Given old new xs stop
     → new.count + length new.left ≡ old.count + length old.left
 given_sum g = omega (arith, g.counted, simp length-append at (ap length g.bytes))
 
--- what was given is no longer left
+-- What was given is no longer left.
 pub given_less : {old new : Remaining} {xs : List ℕ} {b : ℕ} → Given old new xs (Some b) → length new.left < length old.left
 given_less g = omega (arith, g.counted, given_sum g)
 
@@ -33,7 +33,7 @@ given_less g = omega (arith, g.counted, given_sum g)
 pub stopped_by : (byte : ℕ) (stop : Option ℕ) → option_eq eqb stop (Some byte) ≡ true → stop ≡ Some byte
 stopped_by byte stop test = search rules
 
--- all bytes before the first that fails a test pass it
+-- All bytes before the first that fails a test pass it.
 passes_before : (p : ℕ → Bool) (xs : List ℕ) (n : ℕ) → n ≤ prefix_len p xs → list_all p (take n xs) ≡ true
 passes_before p xs zero within = refl
 passes_before p [] (suc n) within = refl
@@ -66,7 +66,7 @@ pub gives_at : (text : List ℕ) (at before : ℕ) → at < length text
     → GivesFirst (reader_at text at before) (reader_at text (at + 1) before) (Some (get_or text at 0))
 gives_at text at before room = grind (arith, common_steps)
 
--- nothing was skipped
+-- Nothing was skipped.
 pub passing_none : (class : ℕ → Bool) (now : Remaining) → Passing class now now
 passing_none class now = record { run = []; of_class = refl; given = record { bytes = refl; counted = omega arith } }
 
@@ -132,11 +132,11 @@ pub record Taking (awaiting : Bool) (old now : Remaining) : Type 0 where
   pub awaits : awaits_after false run ≡ awaiting
   pub given : Given old now run None
 
--- no content was given yet
+-- No content was given yet.
 pub taking_none : (now : Remaining) → Taking false now now
 taking_none now = record { run = []; of_class = refl; awaits = refl; given = record { bytes = refl; counted = omega arith } }
 
--- more content was given
+-- More content was given.
 taking_run : {awaiting : Bool} {old mid new : Remaining} {run : List ℕ} → Taking awaiting old mid → Given mid new run None
     → IsTrue (takes_all awaiting run) → Taking (awaits_after awaiting run) old new
 taking_run {run} p g taken = record {
@@ -146,7 +146,7 @@ taking_run {run} p g taken = record {
   given = given_then p.given g;
 }
 
--- quoted text, and a backslash, which awaits a byte
+-- Quoted text is taken, and a backslash after it awaits a byte.
 pub taking_backslash : {old mid new : Remaining} {stop : Option ℕ} → Taking false old mid
     → Passes is_quoted_text_byte mid new stop → option_eq eqb stop (Some backslash_byte) ≡ true → Taking true old new
 taking_backslash {old} {mid} {new} {stop} p passes test =
@@ -158,17 +158,17 @@ taking_backslash {old} {mid} {new} {stop} p passes test =
     (subst (λ awaiting. IsTrue (takes_all awaiting (backslash_byte ∷ []))) (sym text)
     (and_from (takes false backslash_byte) true takes-backslash refl))))
 
--- a backslash was given, and the byte that it pairs
+-- A backslash was given, and the byte that it pairs.
 pub taking_paired : {old mid new : Remaining} {b : ℕ} → Taking true old mid → GivesFirst mid new (Some b)
     → IsTrue (is_quoted_byte b) → Taking false old new
 taking_paired {b} p g fits = taking_run p (given_whole g.0) (and_from (is_quoted_byte b) true fits refl)
 
--- the text ended after a backslash, or a byte came that it doesn't pair
+-- The text ended after a backslash, or a byte came that it doesn't pair.
 pub content_pair : {old mid new : Remaining} {stop : Option ℕ} → Taking true old mid → GivesFirst mid new stop
     → MatchOption stop (new.left ≡ []) (λ b. IsFalse (is_quoted_byte b)) → PassesContent old new stop
 content_pair p g stopped = search rules
 
--- quoted text up to the end, or to a byte that is no backslash
+-- Quoted text up to the end, or to a byte that is no backslash.
 pub content_text : {old mid new : Remaining} (stop : Option ℕ) → Taking false old mid → Passes is_quoted_text_byte mid new stop
     → option_eq eqb stop (Some backslash_byte) ≡ false → PassesContent old new stop
 content_text {new = new} stop p passes other = record {

@@ -13,7 +13,7 @@ pub record Leads (start : Begun) (old now : Remaining) (stop : Option ℕ) (begu
   pub given : Given old now run stop
   pub walked : walk_from start run ≡ Some begun
 
--- one more run was given
+-- One more run was given.
 pub reaches_run : {start begun next : Begun} {old mid new : Remaining} {stop : Option ℕ} {run : List ℕ}
     → Leads start old mid None begun → Given mid new run stop → walk_from begun run ≡ Some next → Leads start old new stop next
 reaches_run {start} {begun} {run = run} r g e = record {
@@ -22,7 +22,7 @@ reaches_run {start} {begun} {run = run} r g e = record {
   walked = walk_by-append_some grow start begun r.run run r.walked ∙ e;
 }
 
--- the byte after a run was given
+-- The byte after a run was given.
 pub reaches_byte : {start begun next : Begun} {old now : Remaining} {b : ℕ}
     → Leads start old now (Some b) begun → grow begun b ≡ Some next → Leads start old now None next
 reaches_byte {start} {begun} {b = b} r e = record {
@@ -35,13 +35,13 @@ reaches_byte {start} {begun} {b = b} r e = record {
 abbrev pub ListLeads : Remaining → Remaining → Option ℕ → BegunList → Type 0
 ListLeads old now stop list = (top sub : List ℕ) → Leads (in_list top sub begun_list) old now stop (in_list top sub list)
 
--- one more run in a list was given
+-- One more run in a list was given.
 pub list_run : {list next : BegunList} {old mid new : Remaining} {stop : Option ℕ} {run : List ℕ}
     → ListLeads old mid None list → Given mid new run stop → walk_list list run ≡ Some next → ListLeads old new stop next
 list_run {list} {run = run} r g e = λ top sub.
     reaches_run (r top sub) g (walk_from-in_list top sub list run ∙ ap (option_map (in_list top sub)) e)
 
--- the byte after a run in a list was given
+-- The byte after a run in a list was given.
 pub list_byte : {list next : BegunList} {old now : Remaining} {b : ℕ}
     → ListLeads old now (Some b) list → grow_list list b ≡ Some next → ListLeads old now None next
 list_byte r e = λ top sub. reaches_byte (r top sub) (ap (option_map (in_list top sub)) e)
@@ -55,31 +55,31 @@ verdict_at None (Some positions) fault = Accepted positions
 verdict_at (Some b) None fault = Stopped b
 verdict_at (Some b) (Some positions) fault = Followed positions b
 
--- that at a byte says of the text what is known of it
+-- A verdict at a byte says of the text what is known of it.
 judges-stop : (text : List ℕ) (count b : ℕ) (positions : Option Positions) (fault : ParseError) → StopsAt text count b positions
     → Judges text count (verdict_at (Some b) positions fault)
 judges-stop text count b positions fault stops = search rules
 
--- a text that is walked to a complete tree has that tree's positions
+-- A text that is walked to a complete tree has that tree's positions.
 has_positions : (text : List ℕ) (begun : Begun) (tree : SyntaxTree) → walk text ≡ Some begun → tree_of begun ≡ Some tree
     → HasPositions text (positions_of tree)
 has_positions text begun tree w e =
     let found = accepted-from_walk text begun tree w e in
     record { tree = tree; well_formed = found.0; spelled = found.1; same_positions = refl }
 
--- a text that is walked is judged by the tree that it makes, if any
+-- A text that is walked is judged by the tree that it makes, if any.
 judged : (text : List ℕ) (begun : Begun) (tree : Option SyntaxTree) → walk text ≡ Some begun → tree_of begun ≡ tree
     → Judges text (length text) (verdict_at None (option_map positions_of tree) (lacking begun))
 judged text begun None w e = (refl, fault-from_lacks text _ (lacks-from_walk text begun w e), viable-from_walk text begun w)
 judged text begun (Some tree) w e = (refl, has_positions text begun tree w e)
 
--- the text before a byte that leads nowhere is judged by the tree that it makes, if any
+-- The text before a byte that leads nowhere is judged by the tree that it makes, if any.
 judged_before : (text : List ℕ) (begun : Begun) (tree : Option SyntaxTree) → walk text ≡ Some begun → tree_of begun ≡ tree
     → MatchOption (option_map positions_of tree) (IsRejected text) (λ positions. HasPositions text positions)
 judged_before text begun None w e = rejected-from_walk text begun w e
 judged_before text begun (Some tree) w e = has_positions text begun tree w e
 
--- the scanner's answer where it stops, at the end or at a byte that leads nowhere
+-- The scanner's answer where it stops, at the end or at a byte that leads nowhere.
 pub scans_at : {old now : Remaining} {stop : Option ℕ} {begun : Begun} (positions : Option Positions)
     → Leads (in_type []) old now stop begun
     → MatchOption stop (now.left ≡ []) (λ b. grow begun b ≡ None) → positions ≡ option_map positions_of (tree_of begun)
@@ -102,7 +102,7 @@ scans_at {old} {now} {stop = Some b} {begun} positions r dead e =
 
 -- ---- a text that ends at a begun list
 
--- how many pairs the closed parameters and the rest have
+-- How many pairs the closed parameters and the rest have.
 length-with_closed : (closed : List (List ℕ × Parameter)) (rest : Parameters)
     → length (pairs_of_list (with_closed closed rest)) ≡ length closed + length (pairs_of_list rest)
 length-with_closed [] rest = omega arith
@@ -114,12 +114,12 @@ positions_of_list before list =
     option_map (λ rest. record before { pair_count = before.pair_count + (length list.closed + length (pairs_of_list rest)) })
     (list_at_end list.position)
 
--- the positions of a text that ends in a list are those of its tree
+-- The positions of a text that ends in a list are those of its tree.
 positions_of_list-tree : (top sub : List ℕ) (list : BegunList)
     → positions_of_list (positions_of (before_list top sub)) list ≡ option_map positions_of (tree_of (in_list top sub list))
 positions_of_list-tree top sub list = search (length-with_closed, with_closed, list_at_end, rules)
 
--- the scanner's answer on a list where it stops
+-- The scanner's answer on a list where it stops.
 pub list_scans_at : {before : Positions} {old new : Remaining} {stop : Option ℕ} {list : BegunList} (positions : Option Positions)
     → ListLeads old new stop list → MatchOption stop (new.left ≡ []) (λ b. grow_list list b ≡ None)
     → positions ≡ positions_of_list before list → ScansList before old new (verdict_at stop positions (lacking_list list.position))

@@ -14,7 +14,7 @@ use lib.Utf8.{scalars, scalar, encodes, encode}
 abbrev AreTextBytes : List ℕ → Type 0
 AreTextBytes bytes = list_all (is_other 255) bytes ≡ true
 
--- bytes none of which is 255, and their parts
+-- Bytes none of which is 255, and their parts.
 text_parts : (prefix back : List ℕ) → AreTextBytes (prefix ++ back) → AreTextBytes prefix × AreTextBytes back
 text_parts = list_all-parts (is_other 255)
 
@@ -22,14 +22,14 @@ text_parts = list_all-parts (is_other 255)
 text_join : (prefix back : List ℕ) → AreTextBytes prefix → AreTextBytes back → AreTextBytes (prefix ++ back)
 text_join prefix back first second = list_all-append (is_other 255) prefix back ∙ and_from _ _ first second
 
--- no character has the byte 255
+-- No character has the byte 255.
 character_bytes : (c : ℕ) → scalar c ≡ true → AreTextBytes (encode c)
 character_bytes c is = ⊎_elim
     (λ ascii. subst AreTextBytes (sym (encode_ascii c ascii)) (grind (arith, nat_tests)))
     (λ above. list_all-wider _ (is_other 255) (λ b high. grind (arith, nat_tests)) (encode c) (high_bytes c is above))
     (cases_lt c 128)
 
--- no valid UTF-8 has it
+-- No valid UTF-8 has it.
 characters_bytes : (characters : List ℕ) → scalars characters ≡ true → AreTextBytes (encodes characters)
 characters_bytes [] are = refl
 characters_bytes (c ∷ characters) are =
@@ -40,11 +40,11 @@ characters_bytes (c ∷ characters) are =
 pub utf8_bytes : (text : List ℕ) → IsUtf8 text → AreTextBytes text
 utf8_bytes text utf8 = subst AreTextBytes utf8.1.1 (characters_bytes utf8.0 utf8.1.0)
 
--- lowercasing adds none
+-- Lowercasing adds none.
 lowered_bytes : (text : List ℕ) → AreTextBytes text → AreTextBytes (lowered text)
 lowered_bytes text all = list_all-lowered (is_other 255) (λ b. grind (arith, nat_tests)) text ∙ all
 
--- two runs up to the first byte 255 are the same, and so is what follows
+-- Two runs up to the first byte 255 are the same, and so is what follows.
 first_end : (xs ys m n : List ℕ) → AreTextBytes xs → AreTextBytes ys → xs ++ (255 ∷ m) ≡ ys ++ (255 ∷ n)
     → (xs ≡ ys) × (m ≡ n)
 first_end xs ys m n one other same = (
@@ -60,7 +60,7 @@ first_end xs ys m n one other same = (
 abbrev IsFedPair : List ℕ × List ℕ → Type 0
 IsFedPair (name, value) = AreTokenBytes name × AreTextBytes value
 
--- those of a text without the byte 255 are such pairs
+-- Those of a text without the byte 255 are such pairs.
 fed_pair : (p : Parameter) → IsParameter p → AreTextBytes (text_of_parameter p) → IsFedPair (pair_of (lowered_parameter p))
 fed_pair (plain name value) well all =
     let bytes = (text_parts (61 ∷ []) value (text_parts name (61 ∷ value) all).1).1 in
@@ -78,7 +78,7 @@ fed_list (more n p rest) well all =
     let bytes = text_parts (text_of_parameter p) (59 ∷ text_of_list rest) (text_parts n _ all).1 in
     (fed_pair p well.1 bytes.0, fed_list rest well.2 bytes.1)
 
--- a text with a slash is no token
+-- A text with a slash is no token.
 slash_is_no_token : (prefix back : List ℕ) → ¬ (AreTokenBytes (prefix ++ (slash_byte ∷ back)))
 unfolding is_token_byte
 slash_is_no_token prefix back all = let parts = list_all-parts is_token_byte prefix (slash_byte ∷ back) all in absurd cc
@@ -117,17 +117,17 @@ fed_pairs_bytes (pair ∷ pairs) =
     ap concat (flat_map-cons pair_input pair pairs) ∙ concat-append (pair_input pair) (flat_map pair_input pairs)
     ∙ ap (λ bytes. pair_bytes pair ++ bytes) (fed_pairs_bytes pairs) ∙ sym (flat_map-cons pair_bytes pair pairs)
 
--- a value feeds the bytes of its pairs, its essence, and the byte 255
+-- A value feeds the bytes of its pairs, its essence, and the byte 255.
 media_bytes : (media : MediaType) (after : List ℕ)
     → concat (media_input media) ++ after ≡ flat_map pair_bytes media.pairs ++ (media.essence ++ (255 ∷ after))
 media_bytes media after = search (fed_pairs_bytes, concat-append, append_assoc, rules)
 
--- the bytes of pairs, and what follows them
+-- The bytes of pairs, and what follows them.
 more_bytes : (pair : List ℕ × List ℕ) (pairs : List (List ℕ × List ℕ)) (after : List ℕ)
     → flat_map pair_bytes (pair ∷ pairs) ++ after ≡ pair.0 ++ (255 ∷ (pair.1 ++ (255 ∷ (flat_map pair_bytes pairs ++ after))))
 more_bytes pair pairs after = grind (arith, common_steps)
 
--- pairs and essences whose bytes begin with the same are the same
+-- Pairs and essences whose bytes begin with the same are the same.
 pairs_same : (xs ys : List (List ℕ × List ℕ)) (one other m n : List ℕ) → AllByRecursion IsFedPair xs
     → AllByRecursion IsFedPair ys → AreTextBytes one → AreTextBytes other → ¬ (AreTokenBytes one) → ¬ (AreTokenBytes other)
     → flat_map pair_bytes xs ++ (one ++ (255 ∷ m)) ≡ flat_map pair_bytes ys ++ (other ++ (255 ∷ n))
@@ -147,7 +147,7 @@ pairs_same (x ∷ xs) (y ∷ ys) one other m n first second text also slash slas
     let rest = pairs_same xs ys one other m n first.1 second.1 text also slash slashed valued.1 in
     (rest.0, λ i. (named.0 i, valued.0 i) ∷ rest.1 i)
 
--- what values feed is prefix-free
+-- What values feed is prefix-free.
 pub hash_is_prefix_free : IsPrefixFree (λ value. media_input value.media)
 hash_is_prefix_free first second after one other same =
     let x = first.media in

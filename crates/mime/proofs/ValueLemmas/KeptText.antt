@@ -10,34 +10,34 @@ use Rattle.mime_search.proofs.IgnoringCase.{length-lowered}
 abbrev tree_with : List ℕ → List ℕ → Tail → SyntaxTree
 tree_with top sub tail = record { top = top; sub = sub; tail = tail }
 
--- the text of a tree is its essence and what follows that
+-- The text of a tree is its essence and what follows that.
 pub text_of-essence : (tree : SyntaxTree) → text_of tree ≡ essence_of tree ++ text_of_tail tree.tail
 text_of-essence tree = sym (append_assoc tree.top (slash_byte ∷ tree.sub) (text_of_tail tree.tail))
 
--- the length of a tree's essence
+-- A tree's essence is as long as its type, a slash and its subtype.
 pub length-essence_of : (tree : SyntaxTree) → length (essence_of tree) ≡ length tree.top + 1 + length tree.sub
 length-essence_of tree = omega (arith, length-append tree.top (slash_byte ∷ tree.sub))
 
--- the essence is the text before that position
+-- The essence is the text before that position.
 pub take-essence : (tree : SyntaxTree) → take (length tree.top + 1 + length tree.sub) (text_of tree) ≡ essence_of tree
 take-essence tree = search (text_of-essence, length-essence_of, take_at, rules)
 
--- a text is its head, which ends in the semicolon, and the rest
+-- A text is its head, which ends in the semicolon, and the rest.
 semicolon_split : (top sub after : List ℕ)
     → top ++ (slash_byte ∷ (sub ++ (semicolon_byte ∷ after))) ≡ text_of (before_list top sub) ++ after
 semicolon_split top sub after = simp append_assoc
 
--- the length of the head
+-- A head is as long as its type, a slash, its subtype and a semicolon.
 pub length-before_list : (top sub : List ℕ) → length (text_of (before_list top sub)) ≡ length top + 1 + length sub + 1
 length-before_list top sub = grind (arith, common_steps)
 
--- the head of a text
+-- A text begins with its head.
 take-to_semicolon : (top sub after : List ℕ)
     → take (length top + 1 + length sub + 1) (top ++ (slash_byte ∷ (sub ++ (semicolon_byte ∷ after))))
     ≡ text_of (before_list top sub)
 take-to_semicolon top sub after = ap (take _) (semicolon_split top sub after) ∙ take_at _ after _ (length-before_list top sub)
 
--- the rest of a text after its head
+-- What follows the head of a text is its list.
 drop-to_semicolon : (top sub after : List ℕ)
     → drop (length top + 1 + length sub + 1) (top ++ (slash_byte ∷ (sub ++ (semicolon_byte ∷ after)))) ≡ after
 drop-to_semicolon top sub after = ap (drop _) (semicolon_split top sub after) ∙ drop_at _ after _ (length-before_list top sub)
@@ -52,7 +52,7 @@ value_of_low low = record {
   kept = kept_text (pairs_of_tail low.tail) low;
 }
 
--- a tree's value is that of it in lowercase
+-- A tree's value is that of it in lowercase.
 pub value_of-lowering : (tree : SyntaxTree) → value_of tree ≡ value_of_low (lowered_tree tree)
 value_of-lowering tree = rw (length-lowered tree.top)
 
@@ -61,7 +61,7 @@ pub record Keeps (tree : SyntaxTree) (text : List ℕ) (positions : Positions) :
   pub is_kept : IsKept text positions
   pub valued : value_of tree ≡ value_of is_kept.has.tree
 
--- a tree is kept as another that has its value: the tree itself, or the one that its essence spells
+-- A tree is kept as another that has its value: the tree itself, or the one that its essence spells.
 keeps_as : (tree kept : SyntaxTree) (text : List ℕ) → IsWellFormed kept → kept_positions (positions_of kept) ≡ positions_of kept
     → text_of (lowered_tree kept) ≡ text → value_of tree ≡ value_of kept → Keeps tree text (positions_of kept)
 keeps_as tree kept text well holds spelled valued = record {
@@ -79,19 +79,19 @@ keeps_as tree kept text well holds spelled valued = record {
       ∙ sym (value_of-lowering (lowered_tree kept) ∙ ap value_of_low (lowered_tree-lowered_tree kept));
 }
 
--- the lowercased text of a tree with a list: lowercased up to the semicolon, and then pair by pair
+-- The lowercased text of a tree with a list is lowercased up to the semicolon, and then pair by pair.
 whole_text : (top sub : List ℕ) (list : Parameters) → AreParameters list → text_of (lowered_tree (tree_with top sub (listed list)))
     ≡ lowered (take (length top + 1 + length sub + 1) (text_of (tree_with top sub (listed list))))
     ++ lowered_within (length (pairs_of_list list)) (drop (length top + 1 + length sub + 1) (text_of (tree_with top sub (listed list))))
 whole_text top sub list well =
     search (take-to_semicolon, drop-to_semicolon, append_assoc, lowered-append, lowered_within-text_of_list, rules)
 
--- the lowercased text of a tree without a list: the essence lowercased
+-- The lowercased text of a tree without a list is its essence, lowercased.
 essence_text : (top sub text : List ℕ) → text ≡ top ++ (slash_byte ∷ sub)
     → text_of (lowered_tree (tree_with top sub no_list)) ≡ lowered text
 essence_text top sub text is = rw (is, lowered-append top (slash_byte ∷ sub), append-nil (lowered sub)) refl
 
--- every accepted text is kept so
+-- Every accepted text is kept so.
 keeps_parts : (top sub : List ℕ) (tail : Tail) → IsWellFormed (tree_with top sub tail) → Keeps (tree_with top sub tail)
     (kept_text_of (length (pairs_of_tail tail)) (semicolon_of (length top + 1 + length sub) tail) (text_of (tree_with top sub tail)))
     (kept_positions (positions_of (tree_with top sub tail)))
@@ -105,25 +105,25 @@ keeps_parts top sub (listed (final n p)) well =
 keeps_parts top sub (listed (more n p rest)) well =
     keeps_as _ (tree_with top sub (listed (more n p rest))) _ well refl (whole_text top sub (more n p rest) well.2) refl
 
--- the same, by the positions of the tree
+-- A tree's parts are kept by the positions of the tree.
 pub keeps-tree : (tree : SyntaxTree) → IsWellFormed tree
     → Keeps tree (kept_text_of (positions_of tree).pair_count (positions_of tree).semicolon (text_of tree))
     (kept_positions (positions_of tree))
 keeps-tree tree well = keeps_parts tree.top tree.sub tree.tail well
 
--- the pairs of a tree with a list, cut out of its text
+-- The pairs of a tree with a list, cut out of its text.
 pub pairs_within-text_of : (top sub : List ℕ) (list : Parameters) → AreParameters list
     → pairs_within (length (pairs_of_list list)) (drop (length top + 1 + length sub + 1) (text_of (tree_with top sub (listed list))))
     ≡ pairs_of_list list
 pairs_within-text_of top sub list well = rw (drop-to_semicolon top sub (text_of_list list)) (pairs_within-text_of_list list well)
 
--- the value of a tree with a parameter, cut out of its text
+-- The value of a tree with a parameter, cut out of its text.
 media_whole : (top sub : List ℕ) (list : Parameters) → AreParameters list
     → let tree = tree_with top sub (listed list) in kept_text (pairs_of_list list) tree ≡ text_of tree
     → value_of_low tree ≡ media_of (text_of tree) (positions_of tree)
 media_whole top sub list well kept = cc (kept, take-essence (tree_with top sub (listed list)), pairs_within-text_of top sub list well)
 
--- the value of a kept tree is that of its text and its positions
+-- The value of a kept tree is that of its text and its positions.
 media_parts : (top sub : List ℕ) (tail : Tail) → IsTail tail
     → let positions = positions_of (tree_with top sub tail) in kept_positions positions ≡ positions
     → value_of_low (tree_with top sub tail) ≡ media_of (text_of (tree_with top sub tail)) (positions_of (tree_with top sub tail))
@@ -133,53 +133,53 @@ media_parts top sub (listed (blank n)) well holds = absurd (let none = ap (λ (p
 media_parts top sub (listed (final n p)) well holds = media_whole top sub (final n p) well refl
 media_parts top sub (listed (more n p rest)) well holds = media_whole top sub (more n p rest) well refl
 
--- the value of a kept text's tree is that of its positions
+-- The value of a kept text's tree is that of its positions.
 pub media_of-kept : (text : List ℕ) (positions : Positions) (is_kept : IsKept text positions)
     → value_of is_kept.has.tree ≡ media_of text positions
 media_of-kept text positions is_kept = search (value_of-lowering, media_parts, rules)
 
--- an accepted text reads as its tree's value
+-- An accepted text reads as its tree's value.
 pub reads_as : {text : List ℕ} {positions : Positions} {value : MediaType} (has : HasPositions text positions)
     → value_of has.tree ≡ value → Reads text value
 reads_as has valued = record { tree = has.tree; well_formed = has.well_formed; spelled = has.spelled; valued = valued }
 
--- a kept text is read as the value of its parts
+-- A kept text is read as the value of its parts.
 pub reads-from_kept : (text : List ℕ) (positions : Positions) → IsKept text positions → Reads text (media_of text positions)
 reads-from_kept text positions is_kept = reads_as is_kept.has (media_of-kept text positions is_kept)
 
--- a text that keeps a tree has the tree's value
+-- A text that keeps a tree has the tree's value.
 kept_media : (tree : SyntaxTree) (text : List ℕ) (positions : Positions) → Keeps tree text positions
     → value_of tree ≡ media_of text positions
 kept_media tree text positions keeps = keeps.valued ∙ media_of-kept text positions keeps.is_kept
 
--- what holds of the text and the positions of a tree holds of an accepted text
+-- What holds of the text and the positions of a tree holds of an accepted text.
 at_tree : (P : List ℕ → Positions → Type 0) (text : List ℕ) (positions : Positions) (has : HasPositions text positions)
     → P (text_of has.tree) (positions_of has.tree) → P text positions
 at_tree P text positions has here = subst (λ x. P x positions) has.spelled (subst (P (text_of has.tree)) has.same_positions here)
 
--- an accepted text keeps its tree
+-- An accepted text keeps its tree.
 keeps-accepted : (text : List ℕ) (positions : Positions) (has : HasPositions text positions)
     → Keeps has.tree (kept_text_of positions.pair_count positions.semicolon text) (kept_positions positions)
 keeps-accepted text positions has = search (keeps-tree, at_tree, rules)
 
--- the kept text of an accepted text is kept
+-- The kept text of an accepted text is kept.
 pub kept-from_positions : (text : List ℕ) (positions : Positions) → HasPositions text positions
     → IsKept (kept_text_of positions.pair_count positions.semicolon text) (kept_positions positions)
 kept-from_positions text positions has = (keeps-accepted text positions has).is_kept
 
--- an accepted text is read as the value of its kept text
+-- An accepted text is read as the value of its kept text.
 pub kept_reads : (text : List ℕ) (positions : Positions) → HasPositions text positions
     → Reads text (media_of (kept_text_of positions.pair_count positions.semicolon text) (kept_positions positions))
 kept_reads text positions has = reads_as has (kept_media has.tree _ _ (keeps-accepted text positions has))
 
--- the kept text of a value that was read reads as the value
+-- The kept text of a value that was read reads as the value.
 pub kept_is_read : (text : List ℕ) (value : MediaType) → Reads text value → Reads value.kept value
 kept_is_read text value reads =
     let keeps = keeps-tree reads.tree reads.well_formed in
     let is = sym reads.valued ∙ kept_media reads.tree _ _ keeps in
     subst (λ (v : MediaType). Reads v.kept v) (sym is) (reads-from_kept _ _ keeps.is_kept)
 
--- the semicolon is at its position in the tree
+-- The semicolon is at its position in the tree.
 semicolon-there : (top sub : List ℕ) (tail : Tail) (s : ℕ) → semicolon_of (length top + 1 + length sub) tail ≡ Some s
     → slice_get (text_of (tree_with top sub tail)) s ≡ Some semicolon_byte
 semicolon-there top sub no_list s is = absurd cc
@@ -189,12 +189,12 @@ semicolon-there top sub (listed list) s is =
     ap (λ t. slice_get t s) (text_of-essence tree)
     ∙ slice_get-prefix (essence_of tree) semicolon_byte (text_of_list list) s (omega (arith, position, length-essence_of tree))
 
--- an accepted text has a semicolon where its positions say so
+-- An accepted text has a semicolon where its positions say so.
 pub slice_get-semicolon : (text : List ℕ) (positions : Positions) (s : ℕ) → HasPositions text positions
     → positions.semicolon ≡ Some s → slice_get text s ≡ Some semicolon_byte
 slice_get-semicolon text positions s has is = search (at_tree, semicolon-there, rules)
 
--- the kept text of a text with a pair is that text with some parts lowercased
+-- The kept text of a text with a pair is that text with some parts lowercased.
 pub kept-in_part : (count s : ℕ) (text : List ℕ) → IsLoweredInPart text (with_pairs_lowered count s text)
 kept-in_part count s text =
     subst (λ t. IsLoweredInPart t (with_pairs_lowered count s text)) (take-append-drop (s + 1) text)

@@ -12,7 +12,7 @@ pub data IsFollow (byte : ℕ) : List ℕ → List ℕ → Type 0 where
   nothing : IsFollow byte [] []
   ended : (rest : List ℕ) → IsFollow byte (byte ∷ rest) rest
 
--- a run of a class ends at the first byte outside it
+-- A run of a class ends at the first byte outside it.
 run_to : (class : ℕ → Bool) (run : List ℕ) (b : ℕ) (after : List ℕ) → list_all class run ≡ true → class b ≡ false
     → prefix_len class (run ++ b ∷ after) ≡ length run
 run_to class [] b after all out = cond-false (class b) _ 0 out
@@ -20,7 +20,7 @@ run_to class (x ∷ run) b after all out =
     let parts = and_parts (class x) (list_all class run) all in
     cond-true (class x) _ 0 parts.0 ∙ omega (arith, run_to class run b after parts.1 out)
 
--- the search for a byte passes a run without it, up to the byte or to the end
+-- The search for a byte passes a run without it, up to the byte or to the end.
 position_to : (byte : ℕ) (run follow rest : List ℕ) → list_all (is_other byte) run ≡ true → IsFollow byte follow rest
     → prefix_len (is_other byte) (run ++ follow) ≡ length run
 position_to byte run follow rest all (ended _) = run_to (is_other byte) run byte rest all (grind (arith, nat_tests))
@@ -29,12 +29,12 @@ position_to byte (x ∷ run) follow rest all nothing =
     let parts = and_parts (is_other byte x) (list_all (is_other byte) run) all in
     cond-true (is_other byte x) _ 0 parts.0 ∙ omega (arith, position_to byte run [] [] parts.1 nothing)
 
--- the text before it
+-- The text before a byte is the run that has no such byte.
 pub before_byte-run : (byte : ℕ) (run follow rest : List ℕ) → list_all (is_other byte) run ≡ true → IsFollow byte follow rest
     → before_byte byte (run ++ follow) ≡ run
 before_byte-run byte run follow rest all follows = take_at run follow _ (omega (arith, position_to byte run follow rest all follows))
 
--- what is left after a run and a byte
+-- What is left after a run and a byte.
 pub drop_past : (byte : ℕ) (run follow rest : List ℕ) (n : ℕ) → IsFollow byte follow rest → length run ≡ n
     → drop (n + 1) (run ++ follow) ≡ rest
 drop_past byte run follow rest n follows long =
@@ -43,13 +43,13 @@ drop_past byte run follow rest n follows long =
     past : (follow rest : List ℕ) → IsFollow byte follow rest → drop 1 follow ≡ rest
     past follow rest follows = search rules
 
--- the text after it
+-- The text after a byte is what follows the run and the byte.
 pub after_byte-run : (byte : ℕ) (run follow rest : List ℕ) → list_all (is_other byte) run ≡ true → IsFollow byte follow rest
     → after_byte byte (run ++ follow) ≡ rest
 after_byte-run byte run follow rest all follows =
     drop_past byte run follow rest _ follows (omega (arith, position_to byte run follow rest all follows))
 
--- a plain value is cut up to the semicolon or the end
+-- A plain value is cut up to the semicolon or the end.
 cut_value-plain : (whole : ℕ) (name value follow rest : List ℕ) → AreTokenBytes value → IsFollow semicolon_byte follow rest
     → cut_after_equals whole name (value ++ follow)
     ≡ record { name = name; value_start = whole - length (value ++ follow); value = value; rest = rest }
@@ -65,7 +65,7 @@ cut_value-plain whole name (v ∷ value) follow rest all follows =
       after_byte-run semicolon_byte (v ∷ value) follow rest others follows,
     )
 
--- a quoted value is cut up to its closing quote
+-- A quoted value is cut up to its closing quote.
 cut_value-quoted : (whole : ℕ) (name content n follow rest : List ℕ) → IsContent content → AreSpaces n
     → IsFollow semicolon_byte follow rest → cut_after_equals whole name (quote_byte ∷ (content ++ (quote_byte ∷ (n ++ follow))))
     ≡ record { name = name; value_start = whole - length (content ++ (quote_byte ∷ (n ++ follow))); value = content; rest = rest }
@@ -79,7 +79,7 @@ cut_value-quoted whole name content n follow rest is white follows =
     ∙ after_byte-run semicolon_byte n follow rest (are_other is_space semicolon_byte refl n white) follows in
     cc
 
--- the spaces before a name are cut off
+-- The spaces before a name are cut off.
 without_spaces-token : (n name after : List ℕ) → AreSpaces n → IsToken name
     → without_spaces (n ++ (name ++ after)) ≡ name ++ after
 without_spaces-token n [] after white is = absurd is
@@ -116,7 +116,7 @@ abbrev end_of : Parameter → List ℕ
 end_of (plain name value) = []
 end_of (quoted name content n) = quote_byte ∷ n
 
--- the text of a parameter in its parts
+-- A parameter's text consists of its head, its value and its end.
 text_of_parameter-parts : (p : Parameter) (after : List ℕ)
     → text_of_parameter p ++ after ≡ head_of p ++ ((pair_of p).1 ++ (end_of p ++ after))
 text_of_parameter-parts p after = grind (arith, common_steps)
@@ -126,7 +126,7 @@ head_counted : (n name opening after : List ℕ)
     → length (n ++ (name ++ (opening ++ after))) - length after ≡ length (n ++ (name ++ opening))
 head_counted n name opening after = grind (arith, common_steps)
 
--- the first pair cut from the text of a parameter and what follows it
+-- The first pair cut from the text of a parameter and what follows it.
 cut_of-parameter : (n : List ℕ) (p : Parameter) (follow rest : List ℕ) → AreSpaces n → IsParameter p
     → IsFollow semicolon_byte follow rest → cut_of (n ++ (text_of_parameter p ++ follow))
     ≡ record { name = (pair_of p).0; value_start = length (n ++ head_of p); value = (pair_of p).1; rest = rest }
@@ -144,7 +144,7 @@ cut_of-parameter n (quoted name content m) follow rest white (named, is, blanks)
     ∙ ap (λ h. record { name = name; value_start = h; value = content; rest = rest })
     (head_counted n name (equals_byte ∷ quote_byte ∷ []) after)
 
--- the pairs of a parameter list's text are the list's
+-- The pairs of a parameter list's text are the list's.
 pub pairs_within-text_of_list : (list : Parameters) → AreParameters list
     → pairs_within (length (pairs_of_list list)) (text_of_list list) ≡ pairs_of_list list
 pairs_within-text_of_list (blank n) well = refl
@@ -156,7 +156,7 @@ pairs_within-text_of_list (more n p rest) (white, well, others) =
     (cut_of-parameter n p _ (text_of_list rest) white well (ended _))
     ∙ ap (λ pairs. pair_of p ∷ pairs) (pairs_within-text_of_list rest others)
 
--- spaces are in lowercase already
+-- Spaces are in lowercase already.
 lowered-spaces : (bytes : List ℕ) → AreSpaces bytes → lowered bytes ≡ bytes
 lowered-spaces [] white = refl
 lowered-spaces (b ∷ bytes) white =
@@ -164,13 +164,13 @@ lowered-spaces (b ∷ bytes) white =
     let same : to_ascii_lowercase b ≡ b = grind (arith, nat_tests, parts.0) in
     cc (same, lowered-spaces bytes parts.1)
 
--- a parameter in its parts, lowercased
+-- A lowercased parameter's text consists of the same parts, lowercased.
 lowered_parameter-parts : (p : Parameter) (after : List ℕ)
     → lowered (head_of p) ++ (lowered_value (pair_of p).0 (pair_of p).1 ++ (end_of p ++ after))
     ≡ text_of_parameter (lowered_parameter p) ++ after
 lowered_parameter-parts p after = grind (arith, common_steps)
 
--- a list lowercased pair by pair: its first parameter, and then the rest
+-- A list is lowercased pair by pair: its first parameter, and then the rest.
 lowered_within-parameter : (count : ℕ) (n : List ℕ) (p : Parameter) (rest : List ℕ) → AreSpaces n → IsParameter p
     → lowered_within (suc (suc count)) (n ++ (text_of_parameter p ++ (semicolon_byte ∷ rest)))
     ≡ n ++ (text_of_parameter (lowered_parameter p) ++ (semicolon_byte ∷ lowered_within (suc count) rest))
@@ -219,7 +219,7 @@ lowered_last-named n name after white is =
       lowered-spaces n white,
     ) (simp append_assoc)
 
--- So the last parameter is lowercased, and nothing after it.
+-- The last parameter is lowercased, and nothing after it.
 lowered_last-parameter : (n : List ℕ) (p : Parameter) (back : List ℕ) → AreSpaces n → IsParameter p → lowered back ≡ back
     → lowered_within 1 (n ++ (text_of_parameter p ++ back)) ≡ n ++ (text_of_parameter (lowered_parameter p) ++ back)
 lowered_last-parameter n (plain name value) back white (named, token) low =
@@ -233,7 +233,7 @@ lowered_last-parameter n (quoted name content m) back white (named, is, blanks) 
     ∙ rw (lowered_value-around name (quote_byte ∷ []) content after refl
     (rw (lowered-append m back, lowered-spaces m blanks, low) refl)) (simp append_assoc)
 
--- the text of a parameter list, lowercased pair by pair, is the text of the lowercased list
+-- The text of a parameter list, lowercased pair by pair, is the text of the lowercased list.
 pub lowered_within-text_of_list : (list : Parameters) → AreParameters list
     → lowered_within (length (pairs_of_list list)) (text_of_list list) ≡ text_of_list (lowered_list list)
 lowered_within-text_of_list (blank n) well = refl

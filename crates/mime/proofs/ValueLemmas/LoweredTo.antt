@@ -6,7 +6,7 @@ use Rattle.mime.proofs.{ValueLemmas.Pairs.lowered_within-first, ValueLemmas.Pair
 use Rattle.mime_search.proofs.IgnoringCase.{length-lowered, lowered-take, lowered-drop}
 use borrow.Rule.Slice.PartMut.{put_mid}
 
--- the bytes before a position are lowercased, and then a range that begins there, or earlier
+-- The bytes before a position are lowercased, and then a range that begins there, or earlier.
 pub lowered_start-more : (bytes text : List ℕ) (done from to : ℕ) → bytes ≡ lowered (take done text) ++ drop done text
     → from ≤ done → done ≤ to → to ≤ length text
     → take from bytes ++ (lowered (slice_range bytes from to) ++ drop to bytes) ≡ lowered (take to text) ++ drop to text
@@ -31,17 +31,17 @@ lowered_start-more bytes text done from to so_far before after within =
     (λ i. start i ++ (middle i ++ end i)) ∙ sym (append_assoc (lowered (take from text)) _ (drop to text))
     ∙ ap (λ x. x ++ drop to text) (sym (ap lowered whole ∙ lowered-append (take from text) (slice_range text from to)))
 
--- a list is lowercased up to where its first part ends
+-- A list is lowercased up to where its first part ends.
 lowered_part : (list prefix back : List ℕ) (k : ℕ) → list ≡ prefix ++ back → length prefix ≡ k
     → lowered (take k list) ++ drop k list ≡ lowered prefix ++ back
 lowered_part list prefix back k parts size = grind (arith, common_steps)
 
--- a first value ends within a list
+-- A first value ends within a list.
 pub low_within : (list value : List ℕ) (cut : PairCut) (start low : ℕ) (charset : Bool) → LiesIn list cut
     → start ≡ cut.value_start → value ≡ cut.value → low ≡ cond charset (length value) 0 → start + low ≤ length list
 low_within list value cut start low charset lies starts values is = grind (arith, common_steps)
 
--- a list is lowercased up to its first value, and with it under `charset`
+-- A list is lowercased up to its first value, and with it under `charset`.
 pub lowered_first-start : (list : List ℕ) (cut : PairCut) (lies : LiesIn list cut) (low : ℕ)
     → low ≡ cond (is_charset cut.name) (length cut.value) 0
     → let k = cut.value_start + low in lowered (take k list) ++ drop k list ≡ first_lowered list cut lies ++ cut.rest
@@ -66,17 +66,17 @@ pub record IsLoweredTo (bytes left : List ℕ) (from count : ℕ) (whole : List 
   pub comes : done ++ (lowered between ++ lowered_within count left) ≡ whole
   pub none : count ≡ 0 → between ≡ []
 
--- nothing is done
+-- Nothing is done.
 pub lowered_to-none : (bytes text list : List ℕ) (semicolon left count : ℕ) → bytes ≡ text → list ≡ drop (semicolon + 1) text
     → left ≡ count → 0 < count → IsLoweredTo bytes list 0 left (with_pairs_lowered count semicolon text)
 lowered_to-none bytes text list semicolon left count same end counts some = search (take-append-drop, rules)
 
--- the sizes of these parts
+-- The bytes are as many as those of the parts.
 pub lowered_to-sizes : (bytes left : List ℕ) (from count : ℕ) (whole : List ℕ) (so_far : IsLoweredTo bytes left from count whole)
     → length bytes ≡ from + (length so_far.between + length left)
 lowered_to-sizes bytes left from count whole so_far = grind (arith, common_steps)
 
--- the next pair is lowercased, and what is before it
+-- The next pair is lowercased, and what is before it.
 pub lowered_to-more : (bytes left part rest : List ℕ) (from low count next : ℕ) (whole : List ℕ)
     (so_far : IsLoweredTo bytes left from count whole) → count ≡ suc next → let cut = cut_before next left in
     low ≡ cond (is_charset cut.name) (length cut.value) 0 → let P = take (length bytes - from) (drop from bytes) in

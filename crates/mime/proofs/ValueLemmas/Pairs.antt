@@ -9,7 +9,7 @@ use Rattle.mime.proofs.{GrammarLemmas.Content.taken-closes_not, LowercaseLemmas.
 
 -- ---- the spaces with which a list begins
 
--- the list may be cut after them
+-- The list may be cut after them.
 pub spaces_border : (list : List ℕ) → IsUtf8 list → IsCharBoundary list (leading_spaces list)
 spaces_border list utf8 = go (leading_spaces list) refl
   where
@@ -23,7 +23,7 @@ spaces_border list utf8 = go (leading_spaces list) refl
 
 -- ---- the length of content
 
--- the quote that closes is found
+-- The quote that closes is found.
 pub len_from-run : (awaiting : Bool) (run after : List ℕ) → IsTrue (takes_all awaiting run) → awaits_after awaiting run ≡ false
     → len_from awaiting (run ++ quote_byte ∷ after) ≡ length run
 len_from-run true [] after all done = absurd (true≢false done)
@@ -33,7 +33,7 @@ len_from-run awaiting (b ∷ run) after all done =
     cond-false (not awaiting && b == quote_byte) _ _ (taken-closes_not awaiting b parts.0)
     ∙ omega (arith, len_from-run (awaits_next awaiting b) run after parts.1 done)
 
--- at the length of the content that a text begins with there is a quote, or the text ends
+-- At the length of the content that a text begins with there is a quote, or the text ends.
 pub quote_at_len : (awaiting : Bool) (text : List ℕ) → len_from awaiting text < length text
     → get_or text (len_from awaiting text) 0 ≡ quote_byte
 quote_at_len awaiting [] within = absurd (omega arith)
@@ -42,7 +42,7 @@ quote_at_len awaiting (b ∷ text) within =
     (λ closes _. eqb-true b quote_byte (and_parts (not awaiting) (b == quote_byte) closes).1)
     (λ on within. quote_at_len (awaits_next awaiting b) text (omega (arith, within))) within
 
--- it is no longer than its text
+-- It is no longer than its text.
 pub len_from-le : (awaiting : Bool) (text : List ℕ) → len_from awaiting text ≤ length text
 len_from-le awaiting [] = omega arith
 len_from-le awaiting (b ∷ text) =
@@ -51,7 +51,7 @@ len_from-le awaiting (b ∷ text) =
 
 -- ---- the first quote
 
--- the first quote closes, if no byte is awaited at it: if no backslash precedes it
+-- The first quote closes, if no byte is awaited at it: if no backslash precedes it.
 first_quote : (awaiting : Bool) (text : List ℕ) (n : ℕ) → n ≡ position_or_len (λ b. b == quote_byte) text
     → (n ≡ 0 → awaiting ≡ false)
     → ((m : ℕ) → suc m ≡ n → get_or text m 0 ≢ backslash_byte) → len_from awaiting text ≡ n
@@ -65,7 +65,7 @@ first_quote awaiting (b ∷ text) n e free before = ⊎_elim
     (λ m same. before (suc m) (omega (arith, same))) in
     cond-false (not awaiting && b == quote_byte) _ _ (search rules) ∙ omega (arith, rest, on)) (cases_Bool (b == quote_byte))
 
--- content ends at the first quote, if no backslash precedes it
+-- Content ends at the first quote, if no backslash precedes it.
 pub content_len-first_quote : (text : List ℕ) (n : ℕ) → n ≡ first_position quote_byte text
     → ((m : ℕ) → suc m ≡ n → get_or text m 0 ≢ backslash_byte) → n ≡ content_len text
 content_len-first_quote text n e before = sym (first_quote false text n e (λ _. refl) before)
@@ -88,7 +88,7 @@ ends-drop n list bytes (prefix, whole) = (
   append_assoc prefix (take n bytes) (drop n bytes) ∙ ap (λ x. prefix ++ x) (take-append-drop n bytes) ∙ whole,
 )
 
--- a value that begins an end of the list lies in the list
+-- A value that begins an end of the list lies in the list.
 lies_from_end : (list bytes name rest : List ℕ) (k n : ℕ) → EndsWith list bytes → rest ≡ drop n (drop k bytes)
     → LiesIn list (record { name = name; value_start = length list - length bytes; value = take k bytes; rest = rest })
 lies_from_end list bytes name rest k n (prefix, whole) after = record {
@@ -98,7 +98,7 @@ lies_from_end list bytes name rest k n (prefix, whole) after = record {
   value_start = omega (arith, ap length whole, length-append prefix bytes);
 }
 
--- the cut after the equals sign lies in the list
+-- The cut after the equals sign lies in the list.
 cut_value-lies : (list name bytes : List ℕ) → EndsWith list bytes → LiesIn list (cut_after_equals (length list) name bytes)
 cut_value-lies list name [] end = record { prefix = list; middle = []; parts = sym (append-nil list); value_start = refl }
 cut_value-lies list name (b ∷ bytes) end =
@@ -122,7 +122,7 @@ last_cut-lies list =
       value_start = omega (arith, ap length end.1, length-append end.0 (last_cut list).value);
     }
 
--- So does the first pair before others.
+-- The first pair before others lies in the list.
 pub cut_before-lies : (others : ℕ) (list : List ℕ) → LiesIn list (cut_before others list)
 unfolding cut_of
 cut_before-lies zero list = last_cut-lies list
@@ -136,7 +136,7 @@ before_rest list cut lies = lies.prefix ++ (cut.value ++ lies.middle)
 abbrev pub first_lowered : (list : List ℕ) (cut : PairCut) → LiesIn list cut → List ℕ
 first_lowered list cut lies = lowered lies.prefix ++ (lowered_value cut.name cut.value ++ lies.middle)
 
--- a list with its first pair lowercased is that pair lowercased, and the rest
+-- A list with its first pair lowercased is that pair lowercased, and the rest.
 pub lowered_first-joined : (list : List ℕ) (cut : PairCut) (lies : LiesIn list cut)
     → lowered_first cut list ≡ first_lowered list cut lies ++ cut.rest
 lowered_first-joined list cut lies =
@@ -147,12 +147,12 @@ lowered_first-joined list cut lies =
     ∙ drop_at (lies.prefix ++ cut.value) _ _ (omega (arith, lies.value_start, length-append lies.prefix cut.value)) in
     rw (prefix, back) (simp append_assoc)
 
--- only capitals are made small
+-- Only capitals are made small.
 first_lowered-in_part : (list : List ℕ) (cut : PairCut) (lies : LiesIn list cut)
     → IsLoweredInPart (before_rest list cut lies) (first_lowered list cut lies)
 first_lowered-in_part list cut lies = search (lowered_value-either, same, lowercase, in_parts, rules)
 
--- the list with its first pairs lowercased: the first, and then the others
+-- A list with its first pairs lowercased has the first lowercased, and then the others.
 pub lowered_within-first : (count : ℕ) (list : List ℕ) (lies : LiesIn list (cut_before count list))
     → let cut = cut_before count list in lowered_within (suc count) list ≡ first_lowered list cut lies ++ lowered_within count cut.rest
 lowered_within-first count list lies =
@@ -162,7 +162,7 @@ lowered_within-first count list lies =
     ap (λ x. x ++ lowered_within count cut.rest)
     (ap (take size) (lowered_first-joined list cut lies) ∙ take_at (first_lowered list cut lies) cut.rest size (omega (arith, whole)))
 
--- the pairs of any list, lowercased, are the list with some parts lowercased
+-- The pairs of any list, lowercased, are the list with some parts lowercased.
 pub lowered_within-in_part : (count : ℕ) (list : List ℕ) → IsLoweredInPart list (lowered_within count list)
 lowered_within-in_part zero list = same list
 lowered_within-in_part (suc count) list =
@@ -175,24 +175,24 @@ lowered_within-in_part (suc count) list =
 
 -- ---- the pairs that are left, and what is looked up in them
 
--- the first pair, and the others
+-- The pairs are the first pair, and then the others.
 pub pairs_within-first : (count : ℕ) (list : List ℕ) → count ≢ 0
     → pairs_within count list ≡ ((cut_of list).name, (cut_of list).value) ∷ pairs_within (count - 1) (cut_of list).rest
 pairs_within-first count list some = search rules
 
--- a part of a cut by the name and what follows the equals sign is that of the whole cut
+-- A part of a cut by the name and what follows the equals sign is that of the whole cut.
 pub cut_of-part : {X : Type 0} (part : PairCut → X) (list name back : List ℕ) (size : ℕ) (x : X) → size ≡ length list
     → name ≡ before_byte equals_byte (without_spaces list) → back ≡ after_byte equals_byte (without_spaces list)
     → x ≡ part (cut_after_equals size name back) → x ≡ part (cut_of list)
 unfolding cut_of
 cut_of-part part list name back size x size_is name_is back_is is = grind (arith, common_steps)
 
--- the cut of a list has the name before its first equals sign
+-- The cut of a list has the name before its first equals sign.
 pub cut_of-name : (list name : List ℕ) → name ≡ before_byte equals_byte (without_spaces list) → name ≡ (cut_of list).name
 unfolding cut_of
 cut_of-name list name is = grind (arith, common_steps)
 
--- if the first name isn't accepted, what is found in a list is what is found in the rest
+-- If the first name isn't accepted, what is found in a list is what is found in the rest.
 pub found-next : (Accepts : List ℕ → Bool → Type 0) (count : ℕ) (list : List ℕ) (found : Option (List ℕ × Bool))
     → count ≢ 0
     → ¬ (Accepts (cut_of list).name true) → IsFirstAccepted Accepts (items_of (pairs_within (count - 1) (cut_of list).rest)) found

@@ -14,7 +14,7 @@ IsLastPlus text below from found =
     MatchOption found (HasNoPlusFrom text from)
     (λ position. (below < position) × (slice_get text position ≡ Some plus_byte) × HasNoPlusFrom text (position + 1))
 
--- the computed position is the last, and there is none only if no plus is there
+-- The computed position is the last, and there is none only if no plus is there.
 last_plus-is_last : (text : List ℕ) (below from : ℕ) (bytes : List ℕ) → below < from
     → ((i : ℕ) → slice_get text (from + i) ≡ slice_get bytes i) → IsLastPlus text below from (last_plus from bytes)
 last_plus-is_last text below from [] above view =
@@ -37,7 +37,7 @@ last_plus-is_last text below from (b ∷ bytes) above view =
         (λ beyond. none position beyond there)
         (cases_lt position (from + 1)))
 
--- the plus of a value is the last one
+-- The plus of a value is the last one.
 pub plus_is_last : PlusIsLast
 plus_is_last text value reads =
     let top = lowered reads.tree.top in
@@ -50,7 +50,7 @@ plus_is_last text value reads =
 
 -- ---- where the essence may be cut
 
--- the slash lies in the essence
+-- The slash lies in the essence.
 pub slash_in : (text essence : List ℕ) (value : MediaType) → Reads text value → essence ≡ value.essence
     → slice_get essence value.slash ≡ Some slash_byte
 slash_in text essence value reads is = search (slice_get-prefix, length-lowered, rules)
@@ -60,14 +60,14 @@ pub record PlusIn (essence : List ℕ) (slash plus : ℕ) : Type 0 where
   pub above : slash + 1 < plus
   pub there : slice_get essence plus ≡ Some plus_byte
 
--- the plus of a value that was read lies in its essence
+-- The plus of a value that was read lies in its essence.
 pub plus_in : (text essence : List ℕ) (value : MediaType) (plus : ℕ) → Reads text value → essence ≡ value.essence
     → value.plus ≡ Some plus → PlusIn essence value.slash plus
 plus_in text essence value plus reads is found =
     let last = MatchOption-at_some (HasNoPlusFrom value.essence (value.slash + 2)) _ plus found (plus_is_last text value reads) in
     record { above = last.0; there = rw is (last.1) }
 
--- the subtype ends before the plus or at the essence's end, at a character after its start
+-- The subtype ends before the plus or at the essence's end, at a character after its start.
 pub subtype_end : (text essence : List ℕ) (value : MediaType) (plus : Option ℕ) → Reads text value → essence ≡ value.essence
     → value.plus ≡ plus → (value.slash + 1 ≤ unwrap_or plus (length essence))
     × IsCharBoundary essence (unwrap_or plus (length essence))
@@ -80,7 +80,7 @@ subtype_end text essence value (Some plus) reads is found =
           (omega (arith, get_or_from_slice_get essence plus plus_byte 0 at.there)),
     )
 
--- the suffix begins after the plus, at a character within the essence
+-- The suffix begins after the plus, at a character within the essence.
 pub suffix_start : (text essence : List ℕ) (value : MediaType) (plus : ℕ) → Reads text value → essence ≡ value.essence
     → IsUtf8 essence → value.plus ≡ Some plus → (plus < length essence) × IsCharBoundary essence (plus + 1)
 suffix_start text essence value plus reads is utf8 found =
@@ -89,34 +89,34 @@ suffix_start text essence value plus reads is utf8 found =
 
 -- ---- what is in lowercase
 
--- the text after a position in a text of lowercase letters
+-- In a text of lowercase letters, the text after a position has lowercase letters.
 pub low_drop : (n : ℕ) (text : List ℕ) → lowered text ≡ text → lowered (drop n text) ≡ drop n text
 low_drop n text low = lowered-drop n text ∙ ap (drop n) low
 
--- the essence of a value that was read
+-- The essence of a value that was read.
 pub read-low_essence : (text : List ℕ) (value : MediaType) → Reads text value → lowered value.essence ≡ value.essence
 read-low_essence text value reads = search (lowered-lowered, lowered-append, rules)
 
--- lowercased pairs are low
+-- Lowercased pairs are low.
 low_pairs : (pairs : List (List ℕ × List ℕ)) → AreLowPairs (map lowered_pair pairs)
 low_pairs [] = tt
 low_pairs ((name, value) ∷ pairs) = (cc (lowered-lowered name, lowered_value-lowered name value), low_pairs pairs)
 
--- the pairs of a value that was read are low
+-- The pairs of a value that was read are low.
 pub read-low_pairs : (text : List ℕ) (value : MediaType) → Reads text value → AreLowPairs value.pairs
 read-low_pairs text value reads =
     subst (λ (v : MediaType). AreLowPairs v.pairs) reads.valued (rw (pairs_of_tail-lowered reads.tree.tail) (low_pairs _))
 
 -- ---- the items of pairs
 
--- the items of low pairs are in lowercase where their flags are set
+-- The items of low pairs are in lowercase where their flags are set.
 pub items_of-low : (pairs : List (List ℕ × List ℕ)) → AreLowPairs pairs → AllByRecursion IsLowItem (items_of pairs)
 items_of-low [] low = tt
 items_of-low ((name, value) ∷ pairs) (low, others) =
     let parts = low_pair-parts name value low in
     ((λ _. parts.0, λ is. parts.1 (subst (λ n. bytes_eq n (codes "charset") ≡ true) (sym parts.0) is)), items_of-low pairs others)
 
--- the first value of a list is what is found, if its name is accepted; and it is low
+-- The first value of a list is what is found, if its name is accepted; and it is low.
 pub first_value-found : (Accepts : List ℕ → Bool → Type 0) (count : ℕ) (list name back value : List ℕ) (flag : Bool)
     → count ≢ 0 → AreLowPairs (pairs_within count list) → name ≡ before_byte equals_byte (without_spaces list)
     → back ≡ after_byte equals_byte (without_spaces list) → Accepts name true
@@ -139,14 +139,14 @@ pub length-pairs_within : (count : ℕ) (list : List ℕ) → length (pairs_with
 length-pairs_within zero list = refl
 length-pairs_within (suc count) list = ap suc (length-pairs_within count (cut_of list).rest)
 
--- the count is that of the pairs
+-- The count is that of the pairs.
 pub kept-count : (text : List ℕ) (positions : Positions) → IsKept text positions
     → positions.pair_count ≡ length (media_of text positions).pairs
 kept-count text positions is_kept =
     sym (length-tail_lowered is_kept.has.tree.tail ∙ ap (λ p. p.pair_count) is_kept.has.same_positions)
     ∙ ap (λ (value : MediaType). length value.pairs) (media_of-kept text positions is_kept)
 
--- values that were read from one text are equal
+-- Values that were read from one text are equal.
 pub same_from_text : (text other : List ℕ) (x y : MediaType) → Reads text x → Reads other y → text ≡ other → Same x y
 same_from_text text other x y reads also is =
     let one : x ≡ y = one_reading other x y (subst (λ t. Reads t x) is reads) also in
@@ -160,6 +160,6 @@ same_from_kept text other positions places first second kept also is there same 
     subst (Same first) there (subst (λ x. Same x (media_of other places)) is
     (same_from_text text other _ _ (reads-from_kept text positions kept) (reads-from_kept other places also) same))
 
--- without pairs the kept text is the essence
+-- Without pairs the kept text is the essence.
 pub kept-essence : (x : MediaType) (text : List ℕ) → Reads text x → length x.pairs ≡ 0 → x.kept ≡ x.essence
 kept-essence x text reads none = search rules

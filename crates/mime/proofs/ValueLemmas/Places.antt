@@ -5,7 +5,7 @@ use Rattle.std.specs.Prelude.{◌≢◌}
 use Rattle.mime.specs.{Grammar.Tail, Grammar.no_list, Grammar.listed, Grammar.text_of, Values.MediaType, Values.Reads, Values.kept_text, Values.lowered_tree, Values.pairs_of_tail, Inner.Scanning.positions_of, Inner.KeptText.IsKept, Inner.KeptText.media_of, Inner.KeptText.kept_semicolon, Inner.ComparedText.positions_before_list, declared.scan.Positions.Positions}
 use Rattle.mime.proofs.{LowercaseLemmas.positions_of-lowered_tree, LowercaseLemmas.IsWellFormed-lowered_tree, GrammarLemmas.Readings.one_tree, ValueLemmas.KeptText.value_of_low, ValueLemmas.KeptText.reads-from_kept, ValueLemmas.Parts.plus_in, ValueLemmas.KeptText.value_of-lowering, ValueLemmas.KeptText.length-essence_of}
 
--- the plus of a kept text isn't at position 0
+-- The plus of a kept text isn't at position 0.
 pub plus-not_zero : (text : List ℕ) (positions : Positions) → IsKept text positions → positions.plus ≢ Some 0
 plus-not_zero text positions is_kept is =
     let at = plus_in text _ (media_of text positions) 0 (reads-from_kept text positions is_kept) refl is in
@@ -15,7 +15,7 @@ plus-not_zero text positions is_kept is =
 abbrev value_positions : MediaType → Positions
 value_positions value = record (positions_before_list value) { pair_count = length value.pairs }
 
--- a text that is read as a value with a parameter, and is its kept text, is kept so
+-- A text that is read as a value with a parameter, and is its kept text, is kept so.
 pub read-kept : (text : List ℕ) (value : MediaType) → Reads text value → value.kept ≡ text → length value.pairs ≢ 0
     → IsKept text (value_positions value)
 read-kept text value reads kept some =

@@ -4,16 +4,16 @@ use Rattle.std.specs.Prelude.{codes, unwrap_or}
 use Rattle.mime.specs.{Bytes.is_token_byte, Bytes.space_byte, Grammar.SyntaxTree, Grammar.no_list, Grammar.plain, Grammar.final, Grammar.Tail, Grammar.listed, Grammar.text_of, Grammar.IsToken, Grammar.IsTail, Values.value_of, Values.IsAccepted, Values.IsRejected, Values.lowered_tree, Faults.IsFault, Faults.Explains, Inner.Scanning.HasPositions, Inner.Scanning.positions_of, Inner.KeptText.IsKept, Inner.KeptText.kept_positions, Inner.KeptText.positions_in, declared.scan.fault.ParseError.ParseError, declared.scan.fault.ParseError.TheVariants.InvalidToken, declared.scan.Positions.Positions, Atoms.atom_text, declared.atoms.Atom.Atom, declared.atoms.Atom.TheVariants.STAR_STAR}
 use Rattle.mime.proofs.{GrammarLemmas.Readings.one_tree, ValueLemmas.KeptText.reads_as, GrammarLemmas.Viability.rejected-at_dead, GrammarLemmas.Faults.completed_is_rejected}
 
--- a text with positions of its parts is accepted
+-- A text with positions of its parts is accepted.
 pub accepted-from_positions : (text : List ℕ) (positions : Positions) → HasPositions text positions → IsAccepted text
 accepted-from_positions text positions has = (value_of has.tree, reads_as has refl)
 
--- a text with a fault is rejected
+-- A text with a fault is rejected.
 pub rejected-from_fault : (text : List ℕ) (fault : ParseError) → IsFault text fault → IsRejected text
 rejected-from_fault text (InvalidToken pos byte) fault = rejected-at_dead text pos byte fault
 rejected-from_fault text other fault = completed_is_rejected text other fault
 
--- a fault explains a fault
+-- A fault explains a fault.
 pub Explains-from_fault : (text : List ℕ) (fault : ParseError) → IsFault text fault → Explains text fault
 Explains-from_fault text fault is = search rules
 
@@ -22,7 +22,7 @@ abbrev tail_at : Option ℕ → Tail
 tail_at None = no_list
 tail_at (Some semicolon) = listed (final (space_byte ∷ []) (plain (codes "charset") (codes "utf-8")))
 
--- the tail of a constant's text is well formed
+-- The tail of a constant's text is well formed.
 is_tail : (semicolon : Option ℕ) → IsTail (tail_at semicolon)
 unfolding is_token_byte
 is_tail semicolon = search rules
@@ -35,7 +35,7 @@ tree_in text = record {
   tail = tail_at (positions_in text).semicolon;
 }
 
--- a text is kept if it is that of the tree in it, which is well formed and its own lowercased form
+-- A text is kept if it is that of the tree in it, which is well formed and its own lowercased form.
 kept_by : (text : List ℕ) → IsToken (tree_in text).top → IsToken (tree_in text).sub → lowered_tree (tree_in text) ≡ tree_in text
     → text_of (tree_in text) ≡ text → positions_of (tree_in text) ≡ positions_in text
     → kept_positions (positions_in text) ≡ positions_in text → IsKept text (positions_in text)
@@ -50,13 +50,13 @@ kept_by text top sub low spelled same_positions kept = record {
   kept = kept;
 }
 
--- each constant's text is kept: the second line is one case for each constant but the first
+-- Each constant's text is kept: the second line is one case for each constant but the first.
 pub kept_atom : (atom : Atom) → IsKept (atom_text atom) (positions_in (atom_text atom))
 unfolding is_token_byte
 kept_atom STAR_STAR = kept_by (atom_text STAR_STAR) refl refl refl refl refl refl
 kept_atom atom = kept_by (atom_text atom) refl refl refl refl refl refl
 
--- each part of an accepted text has one position
+-- Each part of an accepted text has one position.
 pub one_positions : (text : List ℕ) (first second : Positions) → HasPositions text first → HasPositions text second
     → first ≡ second
 one_positions text first second has also =

@@ -18,12 +18,12 @@ Exact {X} cmp = (x y : X) → (cmp x y ≡ Equal) ↔ (x ≡ y)
 exact : {X : Type 0} {cmp : X → X → Ordering} → IsTotalOrder cmp → IsAntisymmetric cmp → Exact cmp
 exact {cmp = cmp} total same x y = (same x y, λ is. ap (cmp x) (sym is) ∙ tied_itself total x)
 
--- what two orders find, one after the other
+-- What two orders find, one after the other.
 finds_then : {X : Type 0} (x y : X) (P Q : Type 0) (a b : Ordering) → (a ≡ Less) ↔ P → (a ≡ Equal) ↔ (x ≡ y)
     → (b ≡ Less) ↔ Q → (ordering_then a b ≡ Less) ↔ (P ⊎ ((x ≡ y) × Q))
 finds_then x y P Q a b less equal rest = search rules
 
--- the order of lists finds less what is before, if that of their items does
+-- The order of lists finds less what is before, if that of their items does.
 finds_lists : {X : Type 0} (cmp : X → X → Ordering) (IsLess : X → X → Type 0) → Finds cmp IsLess → Exact cmp
     → Finds (slice_cmp cmp) (IsListBefore IsLess)
 finds_lists cmp IsLess finds exact [] [] = (λ is. absurd cc, λ before. absurd before)
@@ -32,7 +32,7 @@ finds_lists cmp IsLess finds exact (x ∷ xs) [] = (λ is. absurd cc, λ before.
 finds_lists cmp IsLess finds exact (x ∷ xs) (y ∷ ys) =
     finds_then x y _ _ (cmp x y) (slice_cmp cmp xs ys) (finds x y) (exact x y) (finds_lists cmp IsLess finds exact xs ys)
 
--- the orders of bytes, of texts, of pairs and of values find which is before
+-- The orders of bytes, of texts, of pairs and of values find which is before.
 finds_bytes : Finds nat_cmp (λ x y. x < y)
 finds_bytes x y = grind (arith, common_steps)
 
@@ -52,7 +52,7 @@ finds_pairs x y = search (finds_then, finds_texts, exact_texts, rules)
 finds_media : (x y : MediaType) → (media_cmp x y ≡ Less) ↔ Before x y
 finds_media x y = search (exact, finds_then, finds_lists, finds_texts, exact_texts, finds_pairs, exact_bytes, exact_pairs, rules)
 
--- what the order of values says: the first is before the second, they are equal, or the second is before the first
+-- What the order of values says: the first is before the second, they are equal, or the second is before the first.
 pub tells_media : (x y : MediaType) → MatchOrdering (media_cmp x y) (Before x y) (Same x y) (Before y x)
 tells_media x y = go (media_cmp x y) refl
   where
@@ -61,26 +61,26 @@ tells_media x y = go (media_cmp x y) refl
     go Equal is = same_from_cmp x y (ap is_eq is)
     go Greater is = (finds_media y x).0 (media_cmp_total.antisymm y x ∙ ap ordering_reverse is)
 
--- an answer that is the order's says which value is before
+-- An answer that is the order's says which value is before.
 pub tells_answer : (x y : MediaType) (answer : Ordering) → answer ≡ media_cmp x y
     → MatchOrdering answer (Before x y) (Same x y) (Before y x)
 tells_answer x y answer is = subst (λ order. MatchOrdering order (Before x y) (Same x y) (Before y x)) (sym is) (tells_media x y)
 
--- equal values are equal to the order
+-- Equal values are equal to the order.
 pub equal-media : (x y : MediaType) → Same x y → media_cmp x y ≡ Equal
 equal-media x y same = cc (same.0, same.1, tied_itself media_cmp_total y)
 
--- a value before one that is before a third is before the third
+-- A value before one that is before a third is before the third.
 pub Before-transitive : (x y z : MediaType) → Before x y → Before y z → Before x z
 Before-transitive x y z first second =
     subst (λ o. MatchOrdering o (Before x z) (Same x z) (Before z x))
     (media_cmp_total.trans x y z ((finds_media x y).1 first) ((finds_media y z).1 second)) (tells_media x z)
 
--- two values are equal exactly if the order finds them equal
+-- Two values are equal exactly if the order finds them equal.
 pub eq_by_cmp-tells : (x y : MediaType) → IsTrue (eq_by_cmp media_cmp x y) ↔ Same x y
 eq_by_cmp-tells x y = (same_from_cmp x y, λ same. ap is_eq (equal-media x y same))
 
--- a test that holds exactly of equal values answers as the order does
+-- A test that holds exactly of equal values answers as the order does.
 pub eq_by_cmp-same : (x y : MediaType) (answer : Bool) → IsTrue answer ↔ Same x y → answer ≡ eq_by_cmp media_cmp x y
 eq_by_cmp-same x y answer tells = same_from_decides answer (eq_by_cmp media_cmp x y) tells (eq_by_cmp-tells x y)
 
@@ -93,7 +93,7 @@ one_order x y = (media_cmp x y, tells_media x y, go)
     go Equal says = sym (equal-media x y says)
     go Greater says = sym (media_cmp_total.antisymm x y ∙ ap ordering_reverse ((finds_media y x).1 says))
 
--- an order that isn't equal is decided
+-- An order that isn't equal is decided.
 decided : (order rest : Ordering) → ¬ (order ≡ Equal) → ordering_then order rest ≡ order
 decided order rest some = search rules
 
@@ -112,12 +112,12 @@ ordered_by_difference (x ∷ xs) (y ∷ ys) (suc k) within also differ =
       differ = differ.differ;
     }))
 
--- beginnings that have the bytes at which two texts differ differ there, too
+-- Beginnings that have the bytes at which two texts differ differ there, too.
 pub differ_in_beginnings : (text other : List ℕ) (n m at : ℕ) → at < n → at < m → DifferAt text other 0 at
     → DifferAt (take n text) (take m other) 0 at
 differ_in_beginnings text other n m at within also differ = grind (arith, common_steps)
 
--- values whose essences differ are ordered by the bytes at which these first differ
+-- Values whose essences differ are ordered by the bytes at which these first differ.
 pub ordered_by_essence : (x y : MediaType) (at : ℕ) → at < length x.essence → at < length y.essence
     → DifferAt x.essence y.essence 0 at → media_cmp x y ≡ nat_cmp (slice_index x.essence at) (slice_index y.essence at)
 ordered_by_essence x y at within also differ = search (exact, decided, ordered_by_difference, rules)

@@ -3,22 +3,22 @@ use Rattle.std.proofs.Common.{◌≡◌, ℕ, zero, suc, ◌+◌, ◌-◌, ◌�
 use Rattle.std.specs.Char.{to_ascii_lowercase}
 use Rattle.std.proofs.{Math.Nat.add-sub_of_le, lemmas.List.drop_at, lemmas.List.drop-replicate, lemmas.List.drop-take, lemmas.List.length-take-le, lemmas.List.take-append-drop, lemmas.List.take-replicate}
 
--- a text copied over the first of some zeros
+-- After a text that is copied over the first of some zeros, zeros are left.
 pub zeros-after : (text copied : List ℕ) (size : ℕ) → copied ≡ text
     → drop (length text) (copied ++ drop (length text) (replicate size 0)) ≡ replicate (size - length text) 0
 zeros-after text copied size same = drop_at copied _ (length text) (ap length same) ∙ drop-replicate (length text) size 0
 
--- they have no case
+-- They have no case.
 pub zeros-lowercase : (count : ℕ) → map to_ascii_lowercase (replicate count 0) ≡ replicate count 0
 zeros-lowercase zero = refl
 zeros-lowercase (suc count) = ap (λ bytes. 0 ∷ bytes) (zeros-lowercase count)
 
--- those of a block, within its first bytes
+-- After a position in a block that has zeros from there on, its first bytes have zeros, too.
 pub zeros-within : (block : List ℕ) (len size more : ℕ) → len ≤ size → drop len block ≡ replicate (size + more - len) 0
     → drop len (take size block) ≡ replicate (size - len) 0
 zeros-within block len size more within zeros = search (add-sub_of_le, drop-take, take-replicate, rules)
 
--- two texts that fill as many bytes with them are the same only if all bytes are
+-- Two texts that fill as many bytes with them are the same only if all bytes are.
 pub zeros-same : (bytes others : List ℕ) (len other size : ℕ) → len ≤ length bytes → other ≤ length others
     → drop len bytes ≡ replicate (size - len) 0 → drop other others ≡ replicate (size - other) 0
     → take len bytes ≡ take other others → (len ≡ other) × (bytes ≡ others)

@@ -4,7 +4,7 @@ use Rattle.mime.specs.{Values.IsRejected, Inner.Scanning.Judges, declared.scan.P
 use Rattle.mime.proofs.{BytesLemmas.boundary_after, ValueLemmas.Reading.accepted-from_positions, ValueLemmas.Reading.one_positions, ValueLemmas.Reading.rejected-from_fault, GrammarLemmas.Viability.rejected-at_dead, CompareLemmas.Essences.judged-by_list}
 use Rattle.mime.proofs.compare.has_list_of.Goals as goal
 
--- a text that isn't judged to be accepted is rejected
+-- A text that isn't judged to be accepted is rejected.
 rejected-not_accepted : (text : List ℕ) (count : ℕ) (verdict : Scanned) → Judges text count verdict
     → ((positions : Positions) → verdict ≢ Accepted positions) → IsRejected text
 rejected-not_accepted text count (Accepted positions) judged other = absurd (other positions refl)

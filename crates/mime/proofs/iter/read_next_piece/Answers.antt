@@ -20,7 +20,7 @@ starts c = omega (arith, c.in-Some.ensures.given.counted, c.new-reader.ensures.c
 pub range_from-requires : goal.range_from-requires
 range_from-requires c = search (separators-boundary, spelled, starts, rules)
 
--- what follows the separators, as it is read
+-- What follows the separators, as it is read.
 rest_is : (c : In-Some) (start : ℕ) → start ≡ c.separators.new.reader.count - c.args.from - 1
     → drop start c.args.text.now ≡ others c
 rest_is c start is =

@@ -28,7 +28,7 @@ returns-in-Some-token c =
     (name_walked c.loop-first.invariant c.in-Some.ensures (sym c.is_token.ensures ∙ c.if-not-is_token.false) c.in-Some-token.ensures)
     (cond-false _ _ _ c.in-Some-token.ensures.stopped ∙ cond-false _ _ _ (ne_eqb _ equals_byte c.in-Some-token.byte-test.1)) refl
 
--- a parameter's name and its equals sign
+-- A parameter's name and its equals sign.
 named : (c : In-Some-eq61) → ListLeads c.args.reader.now c.token.new.reader None (record {
   closed = c.loop-first.invariant.closed;
   position = in_value c.in-Some.ensures.run (c.in-Some.first ∷ c.in-Some-eq61.ensures.run) [];
@@ -61,7 +61,7 @@ returns-else-is_token c =
     (cond-false _ _ _ (sym c.is_token-else-first-eq34.ensures ∙ c.if-is_token.false)
     ∙ cond-false _ _ _ (ne_eqb _ quote_byte c.if-first-eq34.false)) refl
 
--- a parameter's value
+-- A parameter's value leads to its state.
 valued : {closed : List (List ℕ × Parameter)} {spaces name : List ℕ} (c : Joined-first-eq34)
     → ListLeads c.args.reader.now c.token.new.reader None (record { closed = closed; position = in_value spaces name [] })
     → Valued closed spaces c.args.reader.now c.token.new.reader c.if-first-eq34.reader c.if-first-eq34.stop

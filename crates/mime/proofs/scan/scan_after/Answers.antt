@@ -20,7 +20,7 @@ returns-in-Some c = λ start gives.
     scans_at None (type_walked gives (sym c.is_token.ensures ∙ c.if-not-is_token.false)
     c.in-Some.ensures) (cond-false _ _ _ c.in-Some.ensures.stopped ∙ cond-false _ _ _ (ne_eqb _ slash_byte c.in-Some.byte-test.1)) refl
 
--- the slash after the type, and its position
+-- The slash after the type leads to an empty subtype, at its position.
 slashed : (c : After-position-slash) (start : Remaining) → GivesFirst start c.args.reader.now (Some c.args.first)
     → Leads (in_type []) start c.token.new.reader None (in_subtype (c.args.first ∷ c.in-Some-eq47.ensures.run) [])
 slashed c start gives =
@@ -43,7 +43,7 @@ returns-then-not-is_token-2 c = λ start gives.
     scans_at None (reaches_run (slashed here.After-position-slash start gives) c.in-Some-next.ensures.0 refl)
     (cond-false _ _ _ (sym c.is_token-2.ensures ∙ c.if-not-is_token-2.true)) refl
 
--- the subtype
+-- The bytes after the slash lead to a subtype.
 subtyped : (c : After-subtype-plus) (start : Remaining) → GivesFirst start c.args.reader.now (Some c.args.first)
     → Leads (in_type []) start c.token.new.reader None (in_subtype (c.args.first ∷ c.in-Some-eq47.ensures.run) [])
     → Subtyped (c.args.first ∷ c.in-Some-eq47.ensures.run) c.in-Some-next.first c.subtype-plus.result.0 start

@@ -7,7 +7,7 @@ use Rattle.mime_search.specs.Differences.{difference_bit}
 use Rattle.mime_search.proofs.{IgnoringCase.at_byte, ignoring_case.difference.Goals.then-is_ascii_lowercase, ignoring_case.difference.Goals.else-is_ascii_lowercase}
 use Rattle.mime_search.proofs.ignoring_case.difference.Goals as goal
 
--- the bit that tells a letter's cases, or none
+-- The bit that tells a letter's cases, or none.
 case_of : ℕ → ℕ
 case_of x = cond (is_ascii_lowercase (bit_or x 32)) 32 0
 

@@ -3,7 +3,7 @@ use Rattle.std.proofs.Common.{◌≡◌, List, [], ◌∷◌, ◌++◌, ℕ, sym
 use Rattle.std.specs.{List.FoldsTo, List.concat, Fmt.InlineText.inline_text, Fmt.InlineText.IsIntact, Fmt.InlineText.AppendsIfIntact, declared.fmt.InlineText.InlineText}
 use Rattle.mime.proofs.scan.fault.token_text.Goals as goal
 
--- what calls wrote is appended
+-- What calls wrote is appended.
 appended : {n : ℕ} (text new : InlineText n) (parts : List (List ℕ)) → FoldsTo AppendsIfIntact text parts new → IsIntact text
     → inline_text new ≡ inline_text text ++ concat parts
 appended text new [] calls intact = ap inline_text (sym calls) ∙ sym (append-nil (inline_text text))

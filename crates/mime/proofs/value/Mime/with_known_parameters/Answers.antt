@@ -4,7 +4,7 @@ use Rattle.mime.specs.{Values.MediaType, Values.Reads, Inner.ComparedText.positi
 use Rattle.mime.proofs.{ValueLemmas.KeptText.reads-from_kept, ValueLemmas.Places.read-kept}
 use Rattle.mime.proofs.value.Mime.with_known_parameters.Goals as goal
 
--- what is said of the positions before a list is said of the value that the text has
+-- What is said of the positions before a list is said of the value that the text has.
 kept_with : (text kept_bytes : List ℕ) (count : ℕ) (before : Positions) (media : MediaType) → Reads text media → media.kept ≡ text
     → count ≢ 0 → length media.pairs ≡ count → before ≡ positions_before_list media → kept_bytes ≡ text
     → IsKept kept_bytes (record before { pair_count = count })

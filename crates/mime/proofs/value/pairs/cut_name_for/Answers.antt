@@ -5,7 +5,7 @@ use Rattle.mime_search.specs.Rests.{before_byte, after_byte, first_position}
 use Rattle.mime.proofs.{ValueLemmas.Pairs.cut_of-name, ValueLemmas.KnownNames.first_equals-named, ValueLemmas.KnownNames.has_equals-named, ValueLemmas.KnownNames.first_equals-taken, value.pairs.cut_name_for.Goals.then-not-is_accepted-via-then-not-is_accepted, value.pairs.cut_name_for.Goals.then-not-is_accepted-via-else-not-is_accepted+then-has_equals}
 use Rattle.mime.proofs.value.pairs.cut_name_for.Goals as goal
 
--- bytes that are a text without an equals sign but for case are the name that is cut, and what follows them follows it
+-- Bytes that are a text without an equals sign but for case are the name that is cut, and what follows them follows it.
 taken : (body text name end : List ℕ) → name ≡ take (length text) body → end ≡ drop (length text + 1) body
     → first_position equals_byte body ≤ length text → lowered name ≡ lowered text → has_equals text ≡ false
     → (name ≡ before_byte equals_byte body) × (end ≡ after_byte equals_byte body)

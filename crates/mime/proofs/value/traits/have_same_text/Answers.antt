@@ -6,7 +6,7 @@ use Rattle.mime.specs.{Values.OwnedMedia, Inner.KeptBytes.bytes_of}
 use Rattle.mime.proofs.ValueLemmas.Parts.{same_from_kept, same_from_text}
 use Rattle.mime.proofs.value.traits.have_same_text.Goals as goal
 
--- what isn't some is none
+-- What isn't some is none.
 none : (found : Option ℕ) → is_some found ≡ false → found ≡ None
 none None is = refl
 none (Some at) is = absurd (true≢false is)

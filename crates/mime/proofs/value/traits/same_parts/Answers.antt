@@ -7,7 +7,7 @@ use Rattle.mime.specs.Inner.Pairs.{pair_seen}
 use Rattle.mime.proofs.ValueLemmas.Traits.{same_items}
 use Rattle.mime.proofs.value.traits.same_parts.Goals as goal
 
--- pairs of texts are the same where their names and their values are
+-- Pairs of texts are the same where their names and their values are.
 same_pair : (x y : Bor (List ℕ) × Bor (List ℕ))
     → IsTrue (bytes_eq x.0.now y.0.now && bytes_eq x.1.now y.1.now) ↔ (pair_seen x ≡ pair_seen y)
 same_pair x y =

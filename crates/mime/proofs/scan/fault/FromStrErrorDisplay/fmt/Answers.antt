@@ -4,7 +4,7 @@ use Rattle.std.proofs.lemmas.List.Folds.{concat-append}
 use Rattle.std.specs.List.{FoldsTo}
 use Rattle.mime.proofs.scan.fault.FromStrErrorDisplay.fmt.Goals as goal
 
--- calls after calls
+-- Calls after calls are all of these calls, in order.
 calls_then : {W : Type 0} (took : W → List ℕ → W → Type 0) (w : W) (xs : List (List ℕ)) (v : W) (ys : List (List ℕ)) (u : W)
     → FoldsTo took w xs v → FoldsTo took v ys u → FoldsTo took w (xs ++ ys) u
 calls_then took w [] v ys u p q = subst (λ x. FoldsTo took x ys u) (sym p) q

@@ -4,7 +4,7 @@ use Rattle.mime.specs.{contracts.value.short.ShortText.the_view, contracts.value
 use Rattle.mime.proofs.ValueLemmas.Zeros.{zeros-same}
 use Rattle.mime.proofs.value.short.ShortText.first_difference.Goals as goal
 
--- two texts are the same only if their lengths and all their bytes are
+-- Two texts are the same only if their lengths and all their bytes are.
 same_text_bytes : (one other : Inside) → length one.bytes ≡ 40 → length other.bytes ≡ 40 → the_invariant one → the_invariant other
     → the_view one ≡ the_view other → (one.len ≡ other.len) × (one.bytes ≡ other.bytes)
 same_text_bytes one other size also first second is =
