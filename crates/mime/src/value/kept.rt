@@ -1,6 +1,6 @@
 //! Makes the kept text of an accepted string of more than `SHORT` bytes, with one allocation.
 
-ghost use Rattle.std.specs.Prelude.{◌≡◌, ◌+◌, ◌-◌, ◌++◌, ◌<◌, if◌then◌else◌, ◌≤◌, IsFalse, IfOk, take, drop, length, slice_get, slice_range, string_bytes};
+ghost use Rattle.std.specs.Prelude.{◌≡◌, ◌+◌, ◌-◌, ◌++◌, ◌<◌, if◌then◌else◌, ◌≤◌, ◌↔◌, IsFalse, IfOk, take, drop, length, slice_get, slice_range, string_bytes};
 ghost use Rattle.mime.specs.Bytes.{semicolon_byte};
 ghost use Rattle.mime.specs.Values.{lowered, is_charset};
 ghost use Rattle.mime.specs.Inner.Scanning.{HasPositions};
@@ -21,11 +21,28 @@ static CAPITALS: Class = Class {
     inside: true,
 };
 
+/// Returns `true` if any of the bytes is an ASCII capital. This function isn't inlined: few texts are so long.
+#[cold]
+#[inline(never)]
+fn has_capital_far(bytes: &[u8]) -> bool
+    ensures { IsFalse result ↔ (lowered bytes.now ≡ bytes.now) }
+{
+    let mut found = false;
+    // Without an early exit, several bytes are tested at a time.
+    for byte in bytes {
+        found |= byte.is_ascii_uppercase();
+    }
+    found
+}
+
 /// Returns `true` if any of the bytes is an ASCII capital.
 #[inline(always)]
 pub(crate) fn has_capital(bytes: &[u8]) -> bool
     ensures { IsFalse result → lowered bytes.now ≡ bytes.now }
 {
+    if bytes.len() > 8 * BLOCK {
+        return has_capital_far(bytes);
+    }
     first_stop(bytes, 0, &CAPITALS) < bytes.len()
 }
 
