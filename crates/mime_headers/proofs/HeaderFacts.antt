@@ -1,8 +1,8 @@
 -- Heads, rows and verdicts for which each definition is true, and others for which it is false, so that a page that says less or more
 -- doesn't check.
-use Rattle.mime_headers.proofs.Common.{AreOffers, Bool, Err, FieldError, Global, Invalid, IsAnswer, IsHttpMediaType, IsRead, IsReport, List, MediaType, MissingSubtype, None, NotUtf8, Ok, Option, RankedOffer, Some, State, String, Verdict, [], a_word, arith, asked_by, asks_after, bad_word, bare, bare_lines, begins, best_row, byte_text, codes, continued, control_len, count_row, cut_row, decider, decimal, digits, empty_row, false, fault_rows, field_error_text, filter, flat_map, goes_on, heads_of, is_cut, is_field, is_interim, is_request_line, is_status_line, lacks_text, length, lines_of, map, mark_of, media_rows, missing, no_word, numbered, offer_row, offer_rows, range_row, refl, row, shown, spaced_row, string_bytes, text_of, title_row, trimmed, true, values_of, verdict_of, weight_text, with_entry, without_controls, ℕ, ◌++◌, ◌∷◌, ◌≡◌, ◌≢◌}
+use Rattle.mime_headers.proofs.Common.{AreOffers, Bool, Err, FieldError, Global, Invalid, IsAnswer, IsHttpMediaType, IsRead, IsReport, List, MediaType, MissingSubtype, None, NotUtf8, Ok, Option, RankedOffer, Some, State, String, Verdict, [], a_word, arith, asked_by, asks_after, bad_word, bare, bare_lines, begins, best_row, byte_text, codes, continued, control_len, count_row, cut_row, decider, decimal, digits, empty_row, false, fault_rows, field_error_text, filter, flat_map, goes_on, heads_of, is_cut, is_field, is_end, is_interim, is_status_line, lacks_text, length, lines_of, map, mark_of, media_rows, missing, no_word, numbered, offer_row, offer_rows, range_row, refl, row, shown, spaced_row, string_bytes, text_of, title_row, trimmed, true, values_of, verdict_of, weight_text, with_entry, without_controls, ℕ, ◌++◌, ◌∷◌, ◌≡◌, ◌≢◌}
 use Rattle.mime.specs.Bytes.{is_token_byte}
-use Rattle.mime_headers.specs.{Head.is_code, Head.own_text, Head.is_start, Head.is_version, Report.is_plain}
+use Rattle.mime_headers.specs.{Head.is_start, Head.is_version, Report.is_plain}
 
 -- ---- lines
 
@@ -16,14 +16,15 @@ lines : (map trimmed (codes " \t a b\t " ∷ codes " \r " ∷ (12 ∷ codes " a 
     × (map (bare_lines true) (codes "a\nb\n" ∷ codes "a\nb" ∷ []) ≡ (codes "a" ∷ []) ∷ (codes "a" ∷ []) ∷ [])
 lines = (refl, refl, refl, refl)
 
--- A mark is white space, `> ` or `< `, or both. A line of its head begins with the mark, or is the mark without the space at its end.
+-- A mark is white space, `> ` or `< `, or both. Lines of its head begin with it. It ends a head, also without the space at its end, and so does
+-- a line that doesn't begin with it if it is an indent.
 marks : (map mark_of (lines_of (codes "a> b\n \ta\n> > a\n <  a\n>a\n>\n\r a\n")) ≡ lines_of (codes "\n \t\n> \n < \n\n\n\n"))
     × (map text_of (lines_of (codes " a \n< a\n>\n")) ≡ lines_of (codes "a \na\n>\n"))
-    × (map (own_text (codes "> ")) (lines_of (codes "> a\n> \n>\n< a\n > a\n>a\n"))
-    ≡ Some (codes "a") ∷ Some [] ∷ Some [] ∷ None ∷ None ∷ None ∷ [])
-    × (own_text [] (codes "a") ≡ Some (codes "a")) × (own_text (codes "\t") [] ≡ None)
-unfolding own_text
-marks = (refl, refl, refl, refl, refl)
+    × (filter (begins (codes "> ")) (lines_of (codes "> a\n> \n>\n< a\n > a\n>a\n")) ≡ lines_of (codes "> a\n> \n"))
+    × (filter (is_end (codes "> ")) (lines_of (codes "> a\n> \n>\n< a\n > a\n>a\n")) ≡ lines_of (codes "> \n>\n"))
+    × (filter (is_end []) (lines_of (codes "a\n\n a\n")) ≡ [] ∷ [])
+    × (filter (is_end (codes "\t")) (lines_of (codes "\ta\n\n\t\n a\n")) ≡ lines_of (codes "\n\t\n a\n"))
+marks = (refl, refl, refl, refl, refl, refl)
 
 -- Start lines are request lines and status lines. A field begins with a token and a colon.
 start_lines :
@@ -31,11 +32,11 @@ start_lines :
     ≡ lines_of (codes "HTTP/1.1\nHTTP/2"))
     × (filter is_status_line (lines_of (codes "HTTP/1.1 200 O\nHTTP/2 200 \nHTTP/2 200\nHTTP/2 is.\nHTTP/2 2000\nHTTP/2 20a\nHTTP/2  200"))
     ≡ lines_of (codes "HTTP/1.1 200 O\nHTTP/2 200 \nHTTP/2 200"))
-    × (filter is_request_line (lines_of (codes "GET / HTTP/2\nGET  HTTP/2\n / HTTP/2\nG:T / HTTP/2\nGET / HTTP/2 \nGET / b HTTP/2\nGET /"))
-    ≡ codes "GET / HTTP/2" ∷ [])
     × (filter is_start (lines_of (codes "GET / HTTP/2\nHTTP/2 200\n HTTP/2 200\na: b")) ≡ lines_of (codes "GET / HTTP/2\nHTTP/2 200"))
+    × (filter is_start (lines_of (codes "GET / HTTP/2\nGET  HTTP/2\n / HTTP/2\nG:T / HTTP/2\nGET / HTTP/2 \nGET / b HTTP/2\nGET /"))
+    ≡ codes "GET / HTTP/2" ∷ [])
     × (filter is_field (lines_of (codes "a:\na b:\n:\na\na :")) ≡ codes "a:" ∷ [])
-unfolding is_code is_start is_token_byte is_version own_text
+unfolding is_start is_token_byte is_version
 start_lines = (refl, refl, refl, refl, refl)
 
 -- ---- heads
@@ -55,7 +56,7 @@ of_curl :
     × (heads false (codes "*   Trying 127.0.0.1:1...\n* connect to 127.0.0.1 port 1 failed: refused\n") ≡ [])
     × (heads false (codes "> GET / HTTP/2\n> \n\r  0 --:-- 0< HTTP/2 200 \r\n\r100 --:--\n< a: b\n")
     ≡ codes "GET / HTTP/2|\nHTTP/2 200 |a: b|\n")
-unfolding is_code is_start is_token_byte is_version own_text
+unfolding is_start is_token_byte is_version
 of_curl = (refl, refl, refl, refl, refl)
 
 -- What wget prints with -S and with -d, heads that are indented, and bodies. A body has a head only if it has a start line.
@@ -65,7 +66,7 @@ of_others : (heads false (codes "--2026-- http://a/\n  HTTP/1.1 302 Found\n  A: 
     ≡ codes "GET / HTTP/1.1|A: b|\nHTTP/1.1 200 OK|\n")
     × (heads false (codes "\t> GET / HTTP/1.1\n\t> A: b\n\t>\n\t> C: d\n") ≡ codes "GET / HTTP/1.1|A: b|\n")
     × (heads false (codes "HTTP/1.1 200 OK\na:\n\nHTTP/1.1 is older.\nHTTP/1.1 404 \n") ≡ codes "HTTP/1.1 200 OK|a:|\nHTTP/1.1 404 |\n")
-unfolding is_code is_start is_token_byte is_version own_text
+unfolding is_start is_token_byte is_version
 of_others = (refl, refl, refl, refl)
 
 -- A head without a start line begins with the first field, before all start lines, and has one of the two fields: a mail, lines that grep
@@ -76,7 +77,7 @@ pasted : (heads false (codes "\n* a\nFrom: b\nCONTENT-TYPE: c/d\n \r\n\r\nAccept
     × (heads false (codes "Accept: a\nHTTP/2 200\nb\n") ≡ codes "Accept: a|\nHTTP/2 200|b|\n")
     × (map (heads false) (codes "HTTP/2 200\n\nAccept: a\n" ∷ codes "From: b\n\nAccept: c\n" ∷ codes "a: b\nAccept : c\n"
     ∷ [] ∷ []) ≡ codes "HTTP/2 200|\n" ∷ [] ∷ [] ∷ [] ∷ [])
-unfolding is_code is_start is_token_byte is_version own_text
+unfolding is_start is_token_byte is_version
 pasted = (refl, refl, refl, refl, refl)
 
 -- In an input that is cut off a head counts only if a line before the last ends it.
@@ -84,7 +85,7 @@ cut_heads : (map (heads true) (codes "HTTP/2 200\n\n" ∷ codes "> GET / HTTP/2\
     ∷ [] ∷ []) × (map (heads true) (codes "HTTP/2 200\n\na" ∷ codes "HTTP/2 200\nHTTP/2 201\na" ∷ codes " HTTP/2 200\na\nb" ∷ [])
     ≡ codes "HTTP/2 200|\n" ∷ codes "HTTP/2 200|\n" ∷ codes "HTTP/2 200|\n" ∷ [])
     × (heads true (codes "Accept: a\n\nb") ≡ codes "Accept: a|\n")
-unfolding is_code is_start is_token_byte is_version own_text
+unfolding is_start is_token_byte is_version
 cut_heads = (refl, refl, refl)
 
 -- An input of one byte more than 1,048,576 is cut off.
@@ -219,7 +220,7 @@ answers :
     × (map (λ title. asks_after true title []) (codes "HTTP/2 200" ∷ codes "HTTP/2 103" ∷ codes "GET / HTTP/2" ∷ []) ≡ false ∷ true ∷ false ∷ [])
     × (map (λ title. asks_after false title ([] ∷ [])) (codes "HTTP/2 103" ∷ codes "GET / HTTP/2" ∷ []) ≡ false ∷ true ∷ [])
     × (asks_after true (codes "HTTP/2 103") ([] ∷ []) ≡ false)
-unfolding is_code is_version
+unfolding is_version
 answers = (refl, refl, refl, refl, refl, refl, refl)
 
 -- Without a head there is no report. Without a request a media type has no answer.
