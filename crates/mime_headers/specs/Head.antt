@@ -23,7 +23,7 @@ bare line = let line = strip_carriage_return line in if begins (13 ∷ []) line 
 -- the lines of an input without a byte order mark, each bare; of an input that is cut off, without the last line
 abbrev pub bare_lines : Bool → List ℕ → List (List ℕ)
 bare_lines cut bytes =
-    let lines = map bare (lines_of (if begins (239 ∷ 187 ∷ 191 ∷ []) bytes then drop 3 bytes else bytes)) in
+    let lines = map bare (lines_of (if bytes_eq (take 3 bytes) (239 ∷ 187 ∷ 191 ∷ []) then drop 3 bytes else bytes)) in
     if cut then take (length lines - 1) lines else lines
 
 -- what follows a line's mark, which is the white space at its start, and `> ` or `< ` after it, if that follows
@@ -66,7 +66,7 @@ is_interim text = slice_index (other_words text) 0 == 49
 unfoldable pub is_start : List ℕ → Bool
 is_start text =
     let rest = other_words text in
-    is_status_line text || (is_token (word text) && (not (length (word rest) == 0) && is_version (other_words rest)))
+    is_status_line text || (is_version (other_words rest) && (is_token (word text) && not (length (word rest) == 0)))
 
 -- whether a text begins with a field's name and a colon (RFC 9112, 5)
 abbrev pub is_field : List ℕ → Bool

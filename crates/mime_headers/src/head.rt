@@ -50,11 +50,7 @@ fn bare(line: &[u8]) -> &[u8]
 pub(crate) fn bare_lines(alloc: Global, input: &[u8], is_cut: bool) -> Made<Vec<&[u8]>>
     ensures { IfOk result (λ lines. lines_now lines ≡ bare_lines is_cut input.now) }
 {
-    let mut rest = if begins(b"\xEF\xBB\xBF", input) {
-        &input[3..]
-    } else {
-        input
-    };
+    let mut rest = input.strip_prefix(b"\xEF\xBB\xBF").unwrap_or(input);
     let mut lines = Vec::new(alloc);
     while let Some((line, more)) = first_line(rest) {
         lines.push(bare(line))?;
@@ -126,16 +122,18 @@ pub(crate) fn is_status_line(text: &[u8]) -> bool
     ensures { result ≡ is_status_line text.now }
 {
     let (version, rest) = cut(text, b' ');
+    if !is_version(version) {
+        return false;
+    }
     let code = cut(rest, b' ').0;
-    is_version(version) && code.len() == 3 && are_digits(code)
+    code.len() == 3 && are_digits(code)
 }
 
 /// Returns `true` if a status line is that of an interim response, such as `HTTP/1.1 100 Continue`.
 pub(crate) fn is_interim(text: &[u8]) -> bool
     ensures { result ≡ is_interim text.now }
 {
-    let (_, rest) = cut(text, b' ');
-    matches!(rest, [b'1', ..])
+    matches!(cut(text, b' ').1, [b'1', ..])
 }
 
 /// Returns `true` if a text is a start line: a status line, or a request line, such as `GET / HTTP/1.1`.
@@ -145,7 +143,7 @@ fn is_start(text: &[u8]) -> bool
 {
     let (method, rest) = cut(text, b' ');
     let (target, version) = cut(rest, b' ');
-    is_status_line(text) || (is_token(method) && !target.is_empty() && is_version(version))
+    is_status_line(text) || (is_version(version) && is_token(method) && !target.is_empty())
 }
 
 /// Returns `true` if a text begins with a field's name and a colon.
