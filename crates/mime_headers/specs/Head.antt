@@ -22,8 +22,7 @@ bare line = let line = strip_carriage_return line in if begins (13 ∷ []) line 
 
 -- the lines of an input without a byte order mark, each bare; of an input that is cut off, without the last line
 abbrev pub bare_lines : Bool → List ℕ → List (List ℕ)
-bare_lines cut bytes =
-    let lines = map bare (lines_of (if bytes_eq (take 3 bytes) (239 ∷ 187 ∷ 191 ∷ []) then drop 3 bytes else bytes)) in
+bare_lines cut bytes = let lines = map bare (lines_of (if bytes_eq (take 3 bytes) (239 ∷ 187 ∷ 191 ∷ []) then drop 3 bytes else bytes)) in
     if cut then take (length lines - 1) lines else lines
 
 -- what follows a line's mark, which is the white space at its start, and `> ` or `< ` after it, if that follows
@@ -55,8 +54,7 @@ is_version bytes =
 
 -- status-line = HTTP-version SP 3DIGIT SP [ reason-phrase ], or without the last space (RFC 9112, 4)
 abbrev pub is_status_line : List ℕ → Bool
-is_status_line text =
-    let code = word (other_words text) in is_version (word text) && (length code == 3 && list_all is_ascii_digit code)
+is_status_line text = let code = word (other_words text) in is_version (word text) && (length code == 3 && list_all is_ascii_digit code)
 
 -- whether a status line is that of an interim response, whose code begins with 1, and after which another response follows (RFC 9110, 15.2)
 abbrev pub is_interim : List ℕ → Bool
@@ -64,8 +62,7 @@ is_interim text = slice_index (other_words text) 0 == 49
 
 -- a status line, or request-line = method SP request-target SP HTTP-version (RFC 9112, 3)
 unfoldable pub is_start : List ℕ → Bool
-is_start text =
-    let rest = other_words text in
+is_start text = let rest = other_words text in
     is_status_line text || (is_version (other_words rest) && (is_token (word text) && not (length (word rest) == 0)))
 
 -- whether a text begins with a field's name and a colon (RFC 9112, 5)
@@ -121,11 +118,9 @@ continued (line ∷ lines) = if goes_on line then 32 ∷ trimmed line ++ continu
 -- the values of a field: for each line that begins with its name and a colon, the rest of the line, trimmed, and what the next lines add
 abbrev pub values_of : List ℕ → List (List ℕ) → List (List ℕ)
 values_of label [] = []
-values_of label (line ∷ lines) =
-    let later = values_of label lines in
+values_of label (line ∷ lines) = let later = values_of label lines in
     if begins label line then (trimmed (drop (length label) line) ++ continued lines) ∷ later else later
 
 -- whether a line begins with a field's name, white space and a colon, which HTTP doesn't allow (RFC 9112, 5.1)
 abbrev pub is_spaced : List ℕ → List ℕ → Bool
-is_spaced name line =
-    let rest = drop (length name) line in begins name line && (goes_on rest && begins (codes ":") (trimmed rest))
+is_spaced name line = let rest = drop (length name) line in begins name line && (goes_on rest && begins (codes ":") (trimmed rest))
