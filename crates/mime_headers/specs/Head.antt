@@ -13,8 +13,7 @@ begins label line = str_eq_ignore_ascii_case (take (length label) line) label
 
 -- what begins with the first `<` or `>` of a line, or all of it if it has neither
 abbrev pub from_angle : List ℕ → List ℕ
-from_angle line =
-    let before = length (before_first (λ b. b == 60 || b == 62) line) in if before == length line then line else drop before line
+from_angle line = let at = length (before_first (λ b. b == 60 || b == 62) line) in if at == length line then line else drop at line
 
 -- A line without one carriage return at its end. If it then begins with one, it stands behind a progress meter of curl, which is left out.
 abbrev pub bare : List ℕ → List ℕ
@@ -27,8 +26,7 @@ bare_lines cut bytes = let lines = map bare (lines_of (if bytes_eq (take 3 bytes
 
 -- what follows a line's mark, which is the white space at its start, and `> ` or `< ` after it, if that follows
 abbrev pub text_of : List ℕ → List ℕ
-text_of line =
-    let rest = trim_start line in if begins (codes "> ") rest || begins (codes "< ") rest then drop 2 rest else rest
+text_of line = let rest = trim_start line in if begins (codes "> ") rest || begins (codes "< ") rest then drop 2 rest else rest
 
 abbrev pub mark_of : List ℕ → List ℕ
 mark_of line = take (length line - length (text_of line)) line
@@ -48,9 +46,8 @@ is_token bytes = not (length bytes == 0) && list_all is_token_byte bytes
 
 -- HTTP-version, in which case counts (RFC 9112, 2.3), or with one digit, as curl prints it: `HTTP/1.1`, `HTTP/2`
 unfoldable pub is_version : List ℕ → Bool
-is_version bytes =
-    bytes_eq (take 5 bytes) (codes "HTTP/") && (is_ascii_digit (slice_index bytes 5) && (length bytes == 6
-    || (length bytes == 8 && (slice_index bytes 6 == 46 && is_ascii_digit (slice_index bytes 7)))))
+is_version bytes = bytes_eq (take 5 bytes) (codes "HTTP/") && (is_ascii_digit (slice_index bytes 5)
+    && (length bytes == 6 || (length bytes == 8 && (slice_index bytes 6 == 46 && is_ascii_digit (slice_index bytes 7)))))
 
 -- status-line = HTTP-version SP 3DIGIT SP [ reason-phrase ], or without the last space (RFC 9112, 4)
 abbrev pub is_status_line : List ℕ → Bool
@@ -71,8 +68,8 @@ is_field text = let name = before_first (λ b. b == 58) text in is_token name &&
 
 -- ---- heads
 
--- whether a line ends the head with a mark, as a start line does, too: the mark, with or without its last byte, which is a space; and if the
--- mark is white space, any line that doesn't begin with it
+-- whether a line other than a start line ends the head with a mark: the mark, also without its last byte (the space after `>` or `<`); and if
+-- the mark is white space, any line that doesn't begin with it
 abbrev pub is_end : List ℕ → List ℕ → Bool
 is_end mark line =
     bytes_eq line mark || (bytes_eq line (take (length mark - 1) mark) || (length (trimmed mark) == 0 && not (begins mark line)))
@@ -85,13 +82,12 @@ head_from cut mark texts (line ∷ lines) =
     if is_start (text_of line) || is_end mark line then texts ∷ [] else
     head_from cut mark (if begins mark line then texts ++ (drop (length mark) line ∷ []) else texts) lines
 
--- the heads that begin at start lines and, if it is before these and `first`, at the first line of a field
+-- the heads that begin at start lines and, if `first`, at the first line of a field that is before these
 abbrev pub heads_from : Bool → Bool → List (List ℕ) → List (List (List ℕ))
 heads_from cut first [] = []
 heads_from cut first (line ∷ lines) =
     if is_start (text_of line) || (first && is_field (text_of line))
-    then head_from cut (mark_of line) (text_of line ∷ []) lines ++ heads_from cut false lines
-    else heads_from cut first lines
+    then head_from cut (mark_of line) (text_of line ∷ []) lines ++ heads_from cut false lines else heads_from cut first lines
 
 -- a head's first line
 abbrev pub title_of : List (List ℕ) → List ℕ
