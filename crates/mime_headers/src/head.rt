@@ -176,27 +176,16 @@ pub(crate) fn title_of<'a>(head: &[&'a [u8]]) -> &'a [u8]
     head.first().copied().unwrap_or(&[])
 }
 
-/// Returns `true` if a head counts: it has a start line, a `Content-Type` or an `Accept`.
-fn counts(head: &[&[u8]]) -> bool
-    ensures { result ≡ counts (map (λ line. line.now) head.now) }
-{
-    if is_start(title_of(head)) {
-        return true;
-    }
-    for line in head {
-        if begins(b"content-type:", line) | begins(b"accept:", line) {
-            return true;
-        }
-    }
-    false
-}
-
-/// Adds a head if it counts and `is_wanted`.
+/// Adds a head if `is_wanted` and the head counts: it has a start line, a `Content-Type` or an `Accept`.
 fn push_counted<'a>(heads: &mut Vec<Head<'a>>, is_wanted: bool, head: Head<'a>) -> Made<()>
     ensures { OnOk result (map lines_now (vec_items heads.new) ≡ map lines_now (vec_items heads.old)
         ++ (if is_wanted then filter counts (lines_now head.entry ∷ []) else [])) }
 {
-    if is_wanted && counts(&head) {
+    let mut counts = is_start(title_of(&head));
+    for line in &head {
+        counts = counts || begins(b"content-type:", line) || begins(b"accept:", line);
+    }
+    if is_wanted && counts {
         heads.push(head)?;
     }
     Ok(())
