@@ -1,29 +1,29 @@
 -- Heads, rows and verdicts for which each definition is true, and others for which it is false, so that a page that says less or more
 -- doesn't check.
-use Rattle.mime_headers.proofs.Common.{AreOffers, Bool, Err, FieldError, Global, Invalid, IsAnswer, IsHttpMediaType, IsRead, IsReport, List, MediaType, MissingSubtype, None, NotUtf8, Ok, Option, RankedOffer, Some, State, String, Verdict, [], a_word, arith, asked_by, asks_after, bad_word, bare, bare_lines, begins, best_row, byte_text, codes, continued, control_len, count_row, cut_row, decider, decimal, digits, empty_row, false, fault_rows, field_error_text, filter, flat_map, goes_on, heads_of, is_cut, is_field, is_interim, is_request_line, is_status_line, lacks_text, length, lines_of, map, mark_of, media_rows, missing, no_word, numbered, offer_row, offer_rows, range_row, refl, row, shown, spaced_row, string_bytes, text_of, title_row, trimmed, true, values_of, verdict_of, weight_text, with_entry, without_controls, ℕ, ◌++◌, ◌∷◌, ◌≡◌, ◌≢◌}
+use Rattle.mime_headers.proofs.Common.{AreOffers, Bool, Err, FieldError, Global, Invalid, IsAnswer, IsHttpMediaType, IsRead, IsReport, List, MediaType, MissingSubtype, None, NotUtf8, Ok, Option, RankedOffer, Some, State, String, Verdict, [], a_word, arith, asked_by, asks_after, bad_word, bare, bare_lines, begins, best_row, byte_text, codes, continued, control_len, count_row, cut_row, decider, decimal, digits, empty_row, false, fault_rows, field_error_text, filter, flat_map, goes_on, heads_of, is_cut, is_field, is_end, is_interim, is_status_line, lacks_text, length, lines_of, map, mark_of, media_rows, missing, no_word, numbered, offer_row, offer_rows, range_row, refl, replicate, row, shown, spaced_row, string_bytes, text_of, title_row, trimmed, true, values_of, verdict_of, weight_text, with_entry, without_controls, ℕ, ◌++◌, ◌∷◌, ◌≡◌, ◌≢◌}
 use Rattle.mime.specs.Bytes.{is_token_byte}
-use Rattle.mime_headers.specs.{Head.is_code, Head.own_text, Head.is_start, Head.is_version, Report.is_plain}
+use Rattle.mime_headers.specs.{Head.is_start, Head.is_version, Report.is_plain}
 
 -- ---- lines
 
 -- White space before and after is left out, which a form feed and a carriage return aren't. A line loses a carriage return at its end, and
 -- what is before its first `<` or `>` if it begins with another. An input loses a byte order mark and, if it is cut off, its last line.
-lines : (map trimmed (codes " \t a b\t " ∷ codes " \r " ∷ (12 ∷ codes " a ") ∷ []) ≡ codes "a b" ∷ codes "\r"
-    ∷ (12 ∷ codes " a") ∷ [])
+lines : (map trimmed (codes " \t a b\t " ∷ codes " \r " ∷ (12 ∷ codes " a ") ∷ []) ≡ codes "a b" ∷ codes "\r" ∷ (12 ∷ codes " a") ∷ [])
     × (map bare (lines_of (codes "a<\r\n\ra\r> b<\n\ra< b\n\ra\na\r\r")) ≡ lines_of (codes "a<\n> b<\n< b\n\ra\na\r"))
-    × (map (bare_lines false) ((239 ∷ 187 ∷ 191 ∷ codes "a\r\nb") ∷ (239 ∷ 187 ∷ codes "a\n") ∷ [])
-    ≡ lines_of (codes "a\nb") ∷ ((239 ∷ 187 ∷ codes "a") ∷ []) ∷ [])
+    × (bare_lines false (239 ∷ 187 ∷ 191 ∷ codes "a\r\nb") ≡ lines_of (codes "a\nb"))
+    × (bare_lines false (239 ∷ 187 ∷ codes "a\n") ≡ (239 ∷ 187 ∷ codes "a") ∷ [])
     × (map (bare_lines true) (codes "a\nb\n" ∷ codes "a\nb" ∷ []) ≡ (codes "a" ∷ []) ∷ (codes "a" ∷ []) ∷ [])
-lines = (refl, refl, refl, refl)
+lines = (refl, refl, refl, refl, refl)
 
--- A mark is white space, `> ` or `< `, or both. A line of its head begins with the mark, or is the mark without the space at its end.
+-- A mark is white space, `> ` or `< `, or both. Lines of its head begin with it. It ends a head, also without the space at its end, and so
+-- does a line that doesn't begin with it if it is an indent.
 marks : (map mark_of (lines_of (codes "a> b\n \ta\n> > a\n <  a\n>a\n>\n\r a\n")) ≡ lines_of (codes "\n \t\n> \n < \n\n\n\n"))
     × (map text_of (lines_of (codes " a \n< a\n>\n")) ≡ lines_of (codes "a \na\n>\n"))
-    × (map (own_text (codes "> ")) (lines_of (codes "> a\n> \n>\n< a\n > a\n>a\n"))
-    ≡ Some (codes "a") ∷ Some [] ∷ Some [] ∷ None ∷ None ∷ None ∷ [])
-    × (own_text [] (codes "a") ≡ Some (codes "a")) × (own_text (codes "\t") [] ≡ None)
-unfolding own_text
-marks = (refl, refl, refl, refl, refl)
+    × (filter (begins (codes "> ")) (lines_of (codes "> a\n> \n>\n< a\n > a\n>a\n")) ≡ lines_of (codes "> a\n> \n"))
+    × (filter (is_end (codes "> ")) (lines_of (codes "> a\n> \n>\n< a\n > a\n>a\n")) ≡ lines_of (codes "> \n>\n"))
+    × (filter (is_end []) (lines_of (codes "a\n\n a\n")) ≡ [] ∷ [])
+    × (filter (is_end (codes "\t")) (lines_of (codes "\ta\n\n\t\n a\n")) ≡ lines_of (codes "\n\t\n a\n"))
+marks = (refl, refl, refl, refl, refl, refl)
 
 -- Start lines are request lines and status lines. A field begins with a token and a colon.
 start_lines :
@@ -31,11 +31,10 @@ start_lines :
     ≡ lines_of (codes "HTTP/1.1\nHTTP/2"))
     × (filter is_status_line (lines_of (codes "HTTP/1.1 200 O\nHTTP/2 200 \nHTTP/2 200\nHTTP/2 is.\nHTTP/2 2000\nHTTP/2 20a\nHTTP/2  200"))
     ≡ lines_of (codes "HTTP/1.1 200 O\nHTTP/2 200 \nHTTP/2 200"))
-    × (filter is_request_line (lines_of (codes "GET / HTTP/2\nGET  HTTP/2\n / HTTP/2\nG:T / HTTP/2\nGET / HTTP/2 \nGET / b HTTP/2\nGET /"))
-    ≡ codes "GET / HTTP/2" ∷ [])
-    × (filter is_start (lines_of (codes "GET / HTTP/2\nHTTP/2 200\n HTTP/2 200\na: b")) ≡ lines_of (codes "GET / HTTP/2\nHTTP/2 200"))
+    × (filter is_start (lines_of (codes "GET / HTTP/2\nHTTP/2 200\n HTTP/2 200\na: b\nGET  HTTP/2\n / HTTP/2\nG:T / HTTP/2\nGET / HTTP/2 \nGET /"))
+    ≡ lines_of (codes "GET / HTTP/2\nHTTP/2 200")) × (is_start (codes "GET / b HTTP/2") ≡ false)
     × (filter is_field (lines_of (codes "a:\na b:\n:\na\na :")) ≡ codes "a:" ∷ [])
-unfolding is_code is_start is_token_byte is_version own_text
+unfolding is_start is_token_byte is_version
 start_lines = (refl, refl, refl, refl, refl)
 
 -- ---- heads
@@ -44,8 +43,9 @@ start_lines = (refl, refl, refl, refl, refl)
 abbrev heads : Bool → List ℕ → List ℕ
 heads cut bytes = flat_map (λ head. flat_map (λ line. line ++ codes "|") head ++ codes "\n") (heads_of cut (bare_lines cut bytes))
 
--- What curl prints: 100, 103, 101 and redirects, a proxy's CONNECT, a refused connection, and a progress meter.
-of_curl :
+-- What curl prints: 100, 103, 101 and redirects, a proxy's CONNECT, a refused connection, and a progress meter. What wget prints with -S and
+-- with -d, heads that are indented, and bodies. A body has a head only if it has a start line.
+printed :
     (heads false (codes "* a:\n> PUT / HTTP/2\r\n> B: c\r\n> \r\n< HTTP/2 100\r\n} [2 bytes]\n* d: e\n< HTTP/2 200\r\n< F: g\r\n< \r\n< h")
     ≡ codes "PUT / HTTP/2|B: c|\nHTTP/2 100|\nHTTP/2 200|F: g|\n")
     × (heads false (codes "< HTTP/2 103 \r\n< B: c\r\n< HTTP/2 302 \r\n< d: e\r\n<\r\n* F: g\n> GET /a HTTP/2\n> H: i\n{ [1 bytes\nJ: k")
@@ -53,43 +53,33 @@ of_curl :
     × (heads false (codes "> CONNECT a:1 HTTP/1.1\r\n> B: c\r\n> \r\n< HTTP/1.0 200 OK\r\n< \r\n* d\n> GET / HTTP/1.1\n> E: f\n> \n")
     ≡ codes "CONNECT a:1 HTTP/1.1|B: c|\nHTTP/1.0 200 OK|\nGET / HTTP/1.1|E: f|\n")
     × (heads false (codes "*   Trying 127.0.0.1:1...\n* connect to 127.0.0.1 port 1 failed: refused\n") ≡ [])
-    × (heads false (codes "> GET / HTTP/2\n> \n\r  0 --:-- 0< HTTP/2 200 \r\n\r100 --:--\n< a: b\n")
-    ≡ codes "GET / HTTP/2|\nHTTP/2 200 |a: b|\n")
-unfolding is_code is_start is_token_byte is_version own_text
-of_curl = (refl, refl, refl, refl, refl)
-
--- What wget prints with -S and with -d, heads that are indented, and bodies. A body has a head only if it has a start line.
-of_others : (heads false (codes "--2026-- http://a/\n  HTTP/1.1 302 Found\n  A: b\nLocation: c\n  HTTP/1.1 200 OK\n  D: e\n   f\n g\n  h\n")
+    × (heads false (codes "> GET / HTTP/2\n> \n\r  0 --:-- 0< HTTP/2 200 \r\n\r100 --:--\n< a: b\n") ≡ codes "GET / HTTP/2|\nHTTP/2 200 |a: b|\n")
+    × (heads false (codes "--2026-- http://a/\n  HTTP/1.1 302 Found\n  A: b\nLocation: c\n  HTTP/1.1 200 OK\n  D: e\n   f\n g\n  h\n")
     ≡ codes "HTTP/1.1 302 Found|A: b|\nHTTP/1.1 200 OK|D: e| f|\n")
     × (heads false (codes "---request begin---\nGET / HTTP/1.1\r\nA: b\r\n\r\n---request end---\nC: d\nHTTP/1.1 200 OK\r\n\r\n200 OK\n")
     ≡ codes "GET / HTTP/1.1|A: b|\nHTTP/1.1 200 OK|\n")
     × (heads false (codes "\t> GET / HTTP/1.1\n\t> A: b\n\t>\n\t> C: d\n") ≡ codes "GET / HTTP/1.1|A: b|\n")
     × (heads false (codes "HTTP/1.1 200 OK\na:\n\nHTTP/1.1 is older.\nHTTP/1.1 404 \n") ≡ codes "HTTP/1.1 200 OK|a:|\nHTTP/1.1 404 |\n")
-unfolding is_code is_start is_token_byte is_version own_text
-of_others = (refl, refl, refl, refl)
+unfolding is_start is_token_byte is_version
+printed = (refl, refl, refl, refl, refl, refl, refl, refl, refl)
 
 -- A head without a start line begins with the first field, before all start lines, and has one of the two fields: a mail, lines that grep
--- finds, fields that are indented. Any other input without a start line has no head.
+-- finds, fields that are indented. Any other input without a start line has no head. In an input that is cut off a head counts only if a
+-- line before the last ends it.
 pasted : (heads false (codes "\n* a\nFrom: b\nCONTENT-TYPE: c/d\n \r\n\r\nAccept: e\n") ≡ codes "From: b|CONTENT-TYPE: c/d| |\n")
     × (heads false (codes "> accept: a/b\n< Accept-Ranges: c\n> d: e\n") ≡ codes "accept: a/b|d: e|\n")
     × (heads false (codes " Accept: a\n b\nc\n") ≡ codes "Accept: a|b|\n")
     × (heads false (codes "Accept: a\nHTTP/2 200\nb\n") ≡ codes "Accept: a|\nHTTP/2 200|b|\n")
-    × (map (heads false) (codes "HTTP/2 200\n\nAccept: a\n" ∷ codes "From: b\n\nAccept: c\n" ∷ codes "a: b\nAccept : c\n"
-    ∷ [] ∷ []) ≡ codes "HTTP/2 200|\n" ∷ [] ∷ [] ∷ [] ∷ [])
-unfolding is_code is_start is_token_byte is_version own_text
-pasted = (refl, refl, refl, refl, refl)
-
--- In an input that is cut off a head counts only if a line before the last ends it.
-cut_heads : (map (heads true) (codes "HTTP/2 200\n\n" ∷ codes "> GET / HTTP/2\n* a\n* b" ∷ codes "Accept: a\nb" ∷ []) ≡ [] ∷ []
-    ∷ [] ∷ []) × (map (heads true) (codes "HTTP/2 200\n\na" ∷ codes "HTTP/2 200\nHTTP/2 201\na" ∷ codes " HTTP/2 200\na\nb" ∷ [])
-    ≡ codes "HTTP/2 200|\n" ∷ codes "HTTP/2 200|\n" ∷ codes "HTTP/2 200|\n" ∷ [])
-    × (heads true (codes "Accept: a\n\nb") ≡ codes "Accept: a|\n")
-unfolding is_code is_start is_token_byte is_version own_text
-cut_heads = (refl, refl, refl)
+    × (heads false (codes "HTTP/2 200\n\nAccept: a\n") ≡ codes "HTTP/2 200|\n")
+    × (map (heads false) (codes "From: b\n\nAccept: c\n" ∷ codes "a: b\nAccept : c\n" ∷ [] ∷ []) ≡ [] ∷ [] ∷ [] ∷ [])
+    × (map (heads true) (codes "HTTP/2 200\n\n" ∷ codes "> GET / HTTP/2\n* a\n* b" ∷ codes "Accept: a\nb" ∷ []) ≡ [] ∷ [] ∷ [] ∷ [])
+    × (map (heads true) (codes "HTTP/2 200\n\na" ∷ codes "HTTP/2 200\nHTTP/2 201\na" ∷ codes " HTTP/2 200\na\nb" ∷ [])
+    ≡ replicate 3 (codes "HTTP/2 200|\n")) × (heads true (codes "Accept: a\n\nb") ≡ codes "Accept: a|\n")
+unfolding is_start is_token_byte is_version
+pasted = (refl, refl, refl, refl, refl, refl, refl, refl, refl)
 
 -- An input of one byte more than 1,048,576 is cut off.
-cut_inputs : (bytes : List ℕ) → (length bytes ≡ 1048576 → is_cut bytes ≡ false)
-    × (length bytes ≡ 1048577 → is_cut bytes ≡ true)
+cut_inputs : (bytes : List ℕ) → (length bytes ≡ 1048576 → is_cut bytes ≡ false) × (length bytes ≡ 1048577 → is_cut bytes ≡ true)
 cut_inputs bytes = (λ len. rw len refl, λ len. rw len refl)
 
 -- ---- fields
@@ -98,8 +88,7 @@ cut_inputs bytes = (λ len. rw len refl, λ len. rw len refl)
 values :
     (filter (begins (codes "accept:")) (lines_of (codes "ACCEPT: a/b\nAccept : a/b\nAccept\nX-Accept: a/b")) ≡ codes "ACCEPT: a/b" ∷ [])
     × (filter goes_on (codes "\ta" ∷ codes "a b" ∷ [] ∷ (12 ∷ codes "a") ∷ codes "\ra" ∷ []) ≡ codes "\ta" ∷ [])
-    × (map continued (lines_of (codes "  b\t\n\tc d\ne\n f") ∷ lines_of (codes " \n a") ∷ []) ≡ codes " b c d"
-    ∷ codes "  a" ∷ [])
+    × (map continued (lines_of (codes "  b\t\n\tc d\ne\n f") ∷ lines_of (codes " \n a") ∷ []) ≡ codes " b c d" ∷ codes "  a" ∷ [])
     × (values_of (codes "accept:") (lines_of (codes "Accept: a/b, \n  c/d\nHost: e\n f\naccept:g/h")) ≡ lines_of (codes "a/b, c/d\ng/h"))
 values = (refl, refl, refl, refl)
 
@@ -219,7 +208,7 @@ answers :
     × (map (λ title. asks_after true title []) (codes "HTTP/2 200" ∷ codes "HTTP/2 103" ∷ codes "GET / HTTP/2" ∷ []) ≡ false ∷ true ∷ false ∷ [])
     × (map (λ title. asks_after false title ([] ∷ [])) (codes "HTTP/2 103" ∷ codes "GET / HTTP/2" ∷ []) ≡ false ∷ true ∷ [])
     × (asks_after true (codes "HTTP/2 103") ([] ∷ []) ≡ false)
-unfolding is_code is_version
+unfolding is_version
 answers = (refl, refl, refl, refl, refl, refl, refl)
 
 -- Without a head there is no report. Without a request a media type has no answer.

@@ -1,11 +1,11 @@
 //! The heads of an input, and the values of their fields.
 
-ghost use Rattle.std.specs.Prelude.{◌≡◌, ◌≤◌, false, [], ◌∷◌, ◌++◌, ◌==◌, ◌||◌, ◌&&◌, length, drop, map, filter, option_map, option_to_list, if◌then◌else◌, IfOk, OnOk};
+ghost use Rattle.std.specs.Prelude.{◌≡◌, ◌≤◌, [], ◌∷◌, ◌++◌, ◌==◌, ◌||◌, ◌&&◌, if◌then◌else◌, length, map, filter, vec_items, IfOk, OnOk};
+ghost use Rattle.std.specs.Char.{is_ascii_digit};
 ghost use Rattle.std.specs.List.{before_first, after_first, list_all};
-ghost use Rattle.std.specs.Vec.{vec_items};
 ghost use Rattle.mime.specs.Bytes.{is_token_byte};
 ghost use Rattle.mime_http.specs.HttpList.{trimmed};
-ghost use Rattle.mime_headers.specs.Head.{bare, bare_lines, begins, continued, counts, from_angle, goes_on, head_at, heads_of, is_field, is_request_line, is_code, is_end, is_interim, is_one, is_spaced, is_start, is_status_line, is_token, is_version, own_text, started_heads, text_of, title_of, values_of};
+ghost use Rattle.mime_headers.specs.Head.{bare, bare_lines, begins, continued, counts, from_angle, goes_on, heads_of, is_end, is_field, is_interim, is_spaced, is_start, is_status_line, is_token, is_version, text_of, title_of, values_of};
 ghost use Rattle.mime_headers.specs.Inner.{lines_now};
 
 use mime_http::trimmed;
@@ -27,14 +27,10 @@ fn begins(label: &[u8], line: &[u8]) -> bool
 
 /// Returns what begins with the first `<` or `>` of a line, or the whole line if it has neither.
 fn from_angle(line: &[u8]) -> &[u8]
-    ensures { result.now ≡ from_angle line.now line.now }
+    ensures { result.now ≡ from_angle line.now }
 {
-    for (at, byte) in line.iter().enumerate() {
-        if *byte == b'<' || *byte == b'>' {
-            return &line[at..];
-        }
-    }
-    line
+    let at = first_stop(line, 0, &Class::of(b'<', b'>'));
+    if at == line.len() { line } else { &line[at..] }
 }
 
 /// Returns a line without a carriage return at its end, or a progress meter of curl, which begins with one, before a `<` or `>`.
@@ -53,11 +49,7 @@ fn bare(line: &[u8]) -> &[u8]
 pub(crate) fn bare_lines(alloc: Global, input: &[u8], is_cut: bool) -> Made<Vec<&[u8]>>
     ensures { IfOk result (λ lines. lines_now lines ≡ bare_lines is_cut input.now) }
 {
-    let mut rest = if begins(b"\xEF\xBB\xBF", input) {
-        &input[3..]
-    } else {
-        input
-    };
+    let mut rest = input.strip_prefix(b"\xEF\xBB\xBF").unwrap_or(input);
     let mut lines = Vec::new(alloc);
     while let Some((line, more)) = first_line(rest) {
         lines.push(bare(line))?;
@@ -117,27 +109,11 @@ fn is_version(bytes: &[u8]) -> bool
     has_name && bytes[5].is_ascii_digit() && (bytes.len() == 6 || is_minor())
 }
 
-/// Returns `true` if a text is a request line, such as `GET / HTTP/1.1`.
-fn is_request_line(text: &[u8]) -> bool
-    ensures { result ≡ is_request_line text.now }
+/// Returns `true` if all bytes are digits.
+fn are_digits(bytes: &[u8]) -> bool
+    ensures { result ≡ list_all is_ascii_digit bytes.now }
 {
-    let (method, rest) = cut(text, b' ');
-    if rest.is_empty() {
-        return false;
-    }
-    let (target, version) = cut(rest, b' ');
-    is_token(method) && (!target.is_empty() && is_version(version))
-}
-
-/// Returns `true` if bytes are three digits.
-#[tactic(auto, unfolding(crate::specs::Head::is_code))]
-fn is_code(bytes: &[u8]) -> bool
-    ensures { result ≡ is_code bytes.now }
-{
-    bytes.len() == 3
-        && bytes[0].is_ascii_digit()
-        && bytes[1].is_ascii_digit()
-        && bytes[2].is_ascii_digit()
+    bytes.iter().all(|byte| byte.is_ascii_digit())
 }
 
 /// Returns `true` if a text is a status line, such as `HTTP/1.1 200 OK` or `HTTP/2 200`.
@@ -145,23 +121,28 @@ pub(crate) fn is_status_line(text: &[u8]) -> bool
     ensures { result ≡ is_status_line text.now }
 {
     let (version, rest) = cut(text, b' ');
-    is_version(version) && is_code(cut(rest, b' ').0)
+    if !is_version(version) {
+        return false;
+    }
+    let code = cut(rest, b' ').0;
+    code.len() == 3 && are_digits(code)
 }
 
 /// Returns `true` if a status line is that of an interim response, such as `HTTP/1.1 100 Continue`.
 pub(crate) fn is_interim(text: &[u8]) -> bool
     ensures { result ≡ is_interim text.now }
 {
-    let (_, rest) = cut(text, b' ');
-    matches!(rest, [b'1', ..])
+    matches!(cut(text, b' ').1, [b'1', ..])
 }
 
-/// Returns `true` if a text is a start line.
+/// Returns `true` if a text is a start line: a status line, or a request line, such as `GET / HTTP/1.1`.
 #[tactic(auto, unfolding(crate::specs::Head::is_start))]
 fn is_start(text: &[u8]) -> bool
     ensures { result ≡ is_start text.now }
 {
-    is_request_line(text) || is_status_line(text)
+    let (method, rest) = cut(text, b' ');
+    let (target, version) = cut(rest, b' ');
+    is_status_line(text) || (is_version(version) && is_token(method) && !target.is_empty())
 }
 
 /// Returns `true` if a text begins with a field's name and a colon.
@@ -179,100 +160,33 @@ fn begins_head(first: bool, text: &[u8]) -> bool
     is_start(text) || (first && is_field(text))
 }
 
-/// Returns what a line of the head with a mark has after the mark, or `None` for any other line. A mark may lack the space at its end.
-#[tactic(auto, unfolding(crate::specs::Head::own_text))]
-fn own_text<'a>(mark: &[u8], line: &'a [u8]) -> Option<&'a [u8]>
-    ensures { option_map (λ text. text.now) result ≡ own_text mark.now line.now }
+/// Returns `true` if a line that is no start line ends the head with a mark.
+fn is_end(mark: &[u8], line: &[u8]) -> bool
+    ensures { result ≡ is_end mark.now line.now }
 {
-    let len = mark.len();
-    if line.len() >= len && &line[..len] == mark {
-        return Some(&line[len..]);
-    }
-    let is_bare = len > 0 && mark[len - 1] == b' ' && &mark[..len - 1] == line;
-    is_bare.then_some(&[])
+    line == mark
+        || line == &mark[..mark.len().saturating_sub(1)]
+        || (trimmed(mark).is_empty() && !begins(mark, line))
 }
 
-/// Returns `true` if a line ends the head with a mark. `own` is what the line has of the head.
-fn is_end(mark: &[u8], line: &[u8], own: Option<&[u8]>) -> bool
-    ensures { option_map (λ text. text.now) own.entry ≡ own_text mark.now line.now → result ≡ is_end mark.now line.now }
-{
-    is_start(text_of(line)) || own.map_or(trimmed(mark).is_empty(), |text| text.is_empty())
-}
-
-/// Returns the head that a line begins, if it `begins` one, and the number of lines before its end. `lines` are those after the line. If only
-/// the end of an input that is cut off ends the head, returns `None` for it.
-fn cut_head<'a>(
-    alloc: Global,
-    begins: bool,
-    line: &'a [u8],
-    lines: &[&'a [u8]],
-    is_cut: bool,
-) -> Made<(Option<Head<'a>>, usize)>
-    ensures head { IfOk result (λ cut. (if begins then head_at is_cut (line.now ∷ map (λ line. line.now) lines.now) else [])
-        ≡ option_to_list (option_map lines_now cut.0)) }
-    ensures rest { IfOk result (λ cut.
-        started_heads is_cut (map (λ line. line.now) (drop cut.1 lines.now)) ≡ started_heads is_cut (map (λ line. line.now) lines.now)) }
-    ensures none { IfOk result (λ cut. begins ≡ false → cut.1 ≡ 0) }
-    ensures within { IfOk result (λ cut. cut.1 ≤ length lines.now) }
-{
-    if !begins {
-        return Ok((None, 0));
-    }
-    let text = text_of(line);
-    let mark = &line[..line.len() - text.len()];
-    let mut head = Vec::new(alloc);
-    head.push(text)?;
-    for (at, next) in lines.iter().enumerate() {
-        let own = own_text(mark, next);
-        if is_end(mark, next, own) {
-            return Ok((Some(head), at));
-        }
-        head.extend_from_slice(own.as_slice())?;
-    }
-    Ok(((!is_cut).then_some(head), lines.len()))
-}
-
-/// Returns the first line of a head, which is its title, or an empty slice if it has no line.
+/// Returns the first line of a head, or an empty slice if it has no line.
 pub(crate) fn title_of<'a>(head: &[&'a [u8]]) -> &'a [u8]
     ensures { result.now ≡ title_of (map (λ line. line.now) head.now) }
 {
-    match head {
-        [title, ..] => title,
-        [] => &[],
-    }
+    head.first().copied().unwrap_or(&[])
 }
 
-/// Returns `true` if a line begins a `Content-Type` or an `Accept`.
-fn is_one(line: &[u8]) -> bool
-    ensures { result ≡ is_one line.now }
-{
-    begins(b"content-type:", line) || begins(b"accept:", line)
-}
-
-/// Returns `true` if a head counts: it has a start line, a `Content-Type` or an `Accept`.
-fn counts(head: &[&[u8]]) -> bool
-    ensures { result ≡ counts (map (λ line. line.now) head.now) }
-{
-    if is_start(title_of(head)) {
-        return true;
-    }
-    for line in head {
-        if is_one(line) {
-            return true;
-        }
-    }
-    false
-}
-
-/// Adds a head, if there is one and it counts.
-fn push_counted<'a>(heads: &mut Vec<Head<'a>>, head: Option<Head<'a>>) -> Made<()>
+/// Adds a head if `is_wanted` and the head counts: it has a start line, a `Content-Type` or an `Accept`.
+fn push_counted<'a>(heads: &mut Vec<Head<'a>>, is_wanted: bool, head: Head<'a>) -> Made<()>
     ensures { OnOk result (map lines_now (vec_items heads.new) ≡ map lines_now (vec_items heads.old)
-        ++ filter counts (option_to_list (option_map lines_now head.entry))) }
+        ++ (if is_wanted then filter counts (lines_now head.entry ∷ []) else [])) }
 {
-    if let Some(head) = head {
-        if counts(&head) {
-            heads.push(head)?;
-        }
+    let mut counts = is_start(title_of(&head));
+    for line in &head {
+        counts = counts || begins(b"content-type:", line) || begins(b"accept:", line);
+    }
+    if is_wanted && counts {
+        heads.push(head)?;
     }
     Ok(())
 }
@@ -283,14 +197,33 @@ pub(crate) fn heads_of<'a>(alloc: Global, lines: &[&'a [u8]], is_cut: bool) -> M
 {
     let mut heads = Vec::new(alloc);
     let mut first = true;
-    let mut at = 0;
-    while at < lines.len() {
-        let begins = begins_head(first, text_of(lines[at]));
-        let (head, len) = cut_head(alloc, begins, lines[at], &lines[at + 1..], is_cut)?;
-        push_counted(&mut heads, head)?;
-        first &= !begins;
-        at += 1 + len;
+    // Whether a head has begun and not ended, its lines so far, and its mark.
+    let mut is_open = false;
+    let mut head = Vec::new(alloc);
+    let mut mark: &[u8] = &[];
+    for line in lines {
+        let text = text_of(line);
+        if begins_head(first & !is_open, text) {
+            push_counted(&mut heads, is_open, head)?;
+            head = Vec::new(alloc);
+            head.push(text)?;
+            mark = &line[..line.len() - text.len()];
+            is_open = true;
+            continue;
+        }
+        if !is_open {
+            continue;
+        }
+        if is_end(mark, line) {
+            push_counted(&mut heads, true, head)?;
+            head = Vec::new(alloc);
+            is_open = false;
+            first = false;
+        } else if begins(mark, line) {
+            head.push(&line[mark.len()..])?;
+        }
     }
+    push_counted(&mut heads, is_open & !is_cut, head)?;
     Ok(heads)
 }
 

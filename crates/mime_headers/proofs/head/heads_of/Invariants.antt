@@ -1,16 +1,13 @@
 -- The heads so far, and those of the lines that are left, are all.
-use Rattle.std.specs.Prelude.{◌-◌}
-use Rattle.mime_headers.proofs.Common.{Bool, List, begun_heads, counts, drop, filter, heads_of, if◌then◌else◌, length, lines_now, map, started_heads, vec_items, ℕ, ◌++◌, ◌≡◌, ◌≤◌}
+use Rattle.mime_headers.proofs.Common.{Bool, List, counts, drop, false, filter, head_from, heads_from, heads_of, if◌then◌else◌, lines_now, map, vec_items, ℕ, ◌++◌, ◌≡◌}
 use Rattle.mime_headers.proofs.head.heads_of.Given as goal
 
--- the heads of the lines that are left, of which the first may be a field's if `first`
-abbrev pub left_heads : Bool → Bool → List (List ℕ) → List (List (List ℕ))
-left_heads cut first lines = if first then begun_heads cut lines else started_heads cut lines
+-- the rest of the head that is open, if one is, and the heads of the lines that are left
+abbrev pub left_heads : Bool → Bool → Bool → List ℕ → List (List ℕ) → List (List ℕ) → List (List (List ℕ))
+left_heads cut first is_open mark head left =
+    if is_open then head_from cut mark head left ++ heads_from cut false left else heads_from cut first left
 
-abbrev pub invariant-loop-at : goal.invariant-loop-at
-invariant-loop-at l =
-    (map lines_now (vec_items l.heads) ++ filter counts (left_heads l.is_cut l.first (map (λ line. line.now) (drop l.at l.lines)))
-    ≡ heads_of l.is_cut (map (λ line. line.now) l.lines)) × (l.at ≤ length l.lines)
-
-abbrev pub decreases-loop-at : goal.decreases-loop-at
-decreases-loop-at l = length l.lines - l.at
+abbrev pub invariant-loop-line : goal.invariant-loop-line
+invariant-loop-line l =
+    let left = left_heads l.is_cut l.first l.is_open l.mark (lines_now l.head) (map (λ line. line.now) (drop l.line-index l.lines)) in
+    map lines_now (vec_items l.heads) ++ filter counts left ≡ heads_of l.is_cut (map (λ line. line.now) l.lines)
