@@ -1,6 +1,6 @@
 -- Heads, rows and verdicts for which each definition is true, and others for which it is false, so that a page that says less or more
 -- doesn't check.
-use Rattle.mime_headers.proofs.Common.{AreOffers, Bool, Err, FieldError, Global, Invalid, IsAnswer, IsHttpMediaType, IsRead, IsReport, List, MediaType, MissingSubtype, None, NotUtf8, Ok, Option, RankedOffer, Some, State, String, Verdict, [], a_word, arith, asked_by, asks_after, bad_word, bare, bare_lines, begins, best_row, byte_text, codes, continued, control_len, count_row, cut_row, decider, decimal, digits, empty_row, false, fault_rows, field_error_text, filter, flat_map, goes_on, heads_of, is_cut, is_field, is_interim, is_request_line, is_status_line, lacks_text, length, lines_of, map, mark_of, media_rows, missing, no_word, numbered, offer_row, offer_rows, range_row, refl, row, shown, spaced_row, string_bytes, text_of, title_row, trimmed, true, values_of, verdict_of, weight_text, with_entry, without_controls, ℕ, ◌++◌, ◌∷◌, ◌≡◌, ◌≢◌}
+use Rattle.mime_headers.proofs.Common.{AreOffers, Bool, Err, FieldError, Global, Invalid, IsAnswer, IsHttpMediaType, IsRead, IsReport, List, MediaType, MissingSubtype, None, NotUtf8, Ok, Option, RankedOffer, Some, State, String, Verdict, [], a_word, arith, asked_by, asks_after, bad_word, bare, bare_lines, begins, best_row, byte_text, codes, continued, control_len, append-nil, count_row, decider, decimal, digits, empty_row, false, fault_rows, field_error_text, filter, flat_map, goes_on, heads_of, is_cut, is_field, is_interim, is_request_line, is_status_line, lacks_text, length, lines_of, map, mark_of, media_rows, missing, no_word, numbered, offer_row, offer_rows, range_row, refl, row, shown, string_bytes, text_of, title_rows, trimmed, true, values_of, verdict_of, weight_text, with_entry, without_controls, ℕ, ◌++◌, ◌∷◌, ◌≡◌, ◌≢◌}
 use Rattle.mime.specs.Bytes.{is_token_byte}
 use Rattle.mime_headers.specs.{Head.is_code, Head.own_text, Head.is_start, Head.is_version, Report.is_plain}
 
@@ -146,12 +146,16 @@ rows_of_heads :
     × (missing {Choice = Bool} [] None ≡ ([], [])) × (flat_map count_row ([] ∷ ([] ∷ []) ∷ ([] ∷ [] ∷ []) ∷ [])
     ≡ codes "no Content-Type\nseveral Content-Type lines (HTTP allows one)\n")
     × (map (empty_row (codes "a")) (codes "a" ∷ codes "ab" ∷ []) ≡ codes "empty Accept\n" ∷ [] ∷ [])
-    × (map cut_row (true ∷ false ∷ []) ≡ codes "not read after 1048576 bytes\n" ∷ [] ∷ [])
-    × (map (title_row true) (lines_of (codes "GET /\t\nb: c") ∷ [] ∷ []) ≡ codes "head GET /.\n" ∷ codes "head \n" ∷ [])
-    × (title_row false (codes "a" ∷ []) ≡ [])
-    × (flat_map spaced_row (lines_of (codes "Content-Type \t: a\naccept :\nAccept: a\nAccept a:\nAccept \nX-Accept : a"))
+    × (map (title_rows true) (lines_of (codes "GET /\t\nb: c") ∷ [] ∷ []) ≡ codes "head GET /.\n" ∷ codes "head \n" ∷ [])
+    × (title_rows false (codes "a" ∷ []) ≡ [])
+    × (title_rows false (lines_of (codes "Content-Type \t: a\naccept :\nAccept: a\nAccept a:\nAccept \nX-Accept : a"))
     ≡ codes "white space before the colon: Content-Type .: a\nwhite space before the colon: accept :\n")
-rows_of_heads = (refl, refl, refl, refl, refl, refl, refl, refl)
+    × ((heads : List (List (List ℕ))) (text : List ℕ) (verdict : Verdict) → (is : IsReport [] true heads text verdict)
+    → text ≡ without_controls (is.last.text ++ codes "not read after 1048576 bytes\n"))
+    × ((heads : List (List (List ℕ))) (text : List ℕ) (verdict : Verdict) → (is : IsReport [] false heads text verdict)
+    → text ≡ without_controls is.last.text)
+rows_of_heads =
+    (refl, refl, refl, refl, refl, refl, refl, λ heads text verdict is. is.is_text, λ heads text verdict is. simp append-nil at is.is_text)
 
 -- A control character of each kind has one dot, also at the end of a text, and others and the line feed stay.
 controls :

@@ -1,5 +1,5 @@
 -- Heads and offers have one report, with one verdict, so that a page that says less doesn't check.
-use Rattle.mime_headers.proofs.Common.{AddsChoice, AddsEntry, AddsHead, AddsReading, AddsType, Bool, Err, FieldError, FoldsTo, HasBoundary, IsAnswer, IsRead, IsReport, IsReportOf, List, MediaType, None, Ok, Option, Result, Some, State, Verdict, [], ap, ap₂, arith, bare_lines, codes, false, heads_of, is_cut, length, media_rows, nat_lt, no_field_error, offer_rows, one_field_error, one_printed_text, one_ranking, only_cut, refl, sym, true, ℕ, ◌++◌, ◌∙◌, ◌∷◌, ◌≡◌, rules}
+use Rattle.mime_headers.proofs.Common.{AddsChoice, AddsEntry, AddsHead, AddsType, Bool, Err, FieldError, FoldsTo, HasBoundary, IsAnswer, IsRead, IsReport, IsReportOf, List, MediaType, None, Ok, Option, Result, Some, State, Verdict, [], ap, ap₂, arith, bare_lines, codes, false, heads_of, is_cut, length, media_rows, nat_lt, no_field_error, offer_rows, one_field_error, one_printed_text, one_ranking, only_cut, refl, sym, trimmed, true, ℕ, ◌++◌, ◌∙◌, ◌∷◌, ◌≡◌, rules}
 
 -- A value is read in one way.
 one_reading : (value : List ℕ) (one other : Result MediaType FieldError) → IsRead value one → IsRead value other → one ≡ other
@@ -37,18 +37,16 @@ one_answer (Some ranges) media answer other (ranking, is, rows) (another, too, o
     ∙ sym others
 
 -- A value of `Content-Type` adds one text.
-one_added : (asked : Option (List MediaType)) (old : List ℕ × Bool) (value : List ℕ) (reading : Result MediaType FieldError)
-    (new other : List ℕ × Bool) → AddsReading asked old value reading new → AddsReading asked old value reading other
-    → new ≡ other
-one_added asked old value (Ok media) new other (one, answer, is, says, adds) (two, another, too, saying, more) =
-    adds ∙ ap₂ (λ boundary answer. (old.0 ++ (media_rows media boundary ++ answer), old.1)) (one_boundary media one two is too)
-    (one_answer asked media answer another says saying) ∙ sym more
-one_added asked old value (Err error) new other adds more = adds ∙ sym more
-
--- A value as it is written adds one text.
 one_type : (asked : Option (List MediaType)) (old : List ℕ × Bool) (value : List ℕ) (new other : List ℕ × Bool)
     → AddsType asked old value new → AddsType asked old value other → new ≡ other
-one_type asked old value new other (one, is, adds) (two, too, more) = search (one_added, one_reading, rules)
+one_type asked old value new other (Ok media, is, one) (Ok another, too, two) =
+    let same : media ≡ another = cc (one_reading (trimmed value) (Ok media) (Ok another) is too) in
+    let more = rw (← same) at two in
+    one.4 ∙ ap₂ (λ boundary answer. (old.0 ++ (media_rows media boundary ++ answer), old.1)) (one_boundary media one.0 more.0 one.2 more.2)
+    (one_answer asked media one.1 more.1 one.3 more.3) ∙ sym more.4
+one_type asked old value new other (Err error, is, one) (Err another, too, two) = cc (one_reading (trimmed value) (Err error) (Err another) is too)
+one_type asked old value new other (Ok media, is, one) (Err error, too, two) = absurd (no_field_error (trimmed value) error is.0 (media, is.1) too.0 too.1)
+one_type asked old value new other (Err error, too, two) (Ok media, is, one) = absurd (no_field_error (trimmed value) error is.0 (media, is.1) too.0 too.1)
 
 -- Lines of `Accept` add one text and make one choice.
 one_choice : (offers : List MediaType) (lines : List (List ℕ)) (old new other : State)
@@ -65,8 +63,8 @@ one_choice offers (line ∷ lines) old new other one two =
 -- A head adds one text.
 one_head : (offers : List MediaType) (many : Bool) (old : State) (head : List (List ℕ)) (new other : State)
     → AddsHead offers many old head new → AddsHead offers many old head other → new ≡ other
-one_head offers many old head new other one two =
-    one_choice offers _ _ _ _ (rw (one_of_all _ (one_type _) _ _ _ _ one.types two.types) at one.chosen) two.chosen
+one_head offers many old head new other (one, types, chosen) (two, also, choice) =
+    one_choice offers _ _ _ _ (rw (one_of_all _ (one_type _) _ _ _ _ types also) at chosen) choice
 
 -- Heads have one report.
 one_of_heads : (offers : List MediaType) (cut : Bool) (heads : List (List (List ℕ))) (text other : List ℕ) (verdict another : Verdict)

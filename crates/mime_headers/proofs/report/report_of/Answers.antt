@@ -7,7 +7,9 @@ pub returns-then-is_empty : goal.returns-then-is_empty
 returns-then-is_empty c = search (tests, nil_from_length, rules)
 
 pub loop-head-preserved : goal.loop-head-preserved
-loop-head-preserved c end rest = search (folds-next, rules)
+loop-head-preserved c end rest =
+    c.loop-head.invariant end (folds-next _ lines_now _ _ end _ _ c.head-item.result c.loop-head-test.true c.head-item.is
+    (rw c.as_slice.ensures.value at c.in_ok-push_head.ensures) rest)
 
 pub returns : goal.returns
 returns c =
