@@ -64,8 +64,8 @@ fn main(rt: HostRuntime) -> ExitCode {
             return stopped(&rt, &format_args!("bad offer {word}: {error}\n{usage}"));
         }
     };
-    let mut input = device(rt.stdin());
-    let mut output = device(Output {
+    let mut input = Device::of(rt.stdin());
+    let mut output = Device::of(Output {
         inner: rt.stdout(),
         is_closed: false,
     });
@@ -73,14 +73,6 @@ fn main(rt: HostRuntime) -> ExitCode {
         // Shells report this status for a write to a closed pipe.
         Err(RunError::Write) if output.inner.is_closed => ExitCode::from(141),
         outcome => status(&rt, outcome),
-    }
-}
-
-/// Returns a device over a reader or a writer.
-fn device<T>(inner: T) -> Device<T> {
-    Device {
-        inner,
-        failed: false,
     }
 }
 

@@ -24,6 +24,11 @@ use std::alloc::{AllocError, Global};
 /// The ranges of lines of `Accept`, and whether an offer is acceptable or there are no offers. `None` if no head has an `Accept`.
 type Choice = Option<(Vec<Mime>, bool)>;
 
+type Ranking = Vec<RankedOffer>;
+
+/// The ranges by which a response is weighed, if any.
+type Asked<'a> = Option<&'a [Mime]>;
+
 /// What is known after some heads.
 #[derive(Drop)]
 struct Report {
@@ -101,12 +106,7 @@ fn push_head(report: &mut Report, offers: &[Mime], many: bool, head: &[&[u8]]) -
 
 /// Returns the ranges by which a head is weighed if it is a response that isn't interim (RFC 9110, 15.2), with one `Content-Type`. So each
 /// `Accept` weighs at most one media type.
-fn asked_by<'a>(
-    choice: &'a Choice,
-    asks: bool,
-    title: &[u8],
-    types: &[Vec<u8>],
-) -> Option<&'a [Mime]>
+fn asked_by<'a>(choice: &'a Choice, asks: bool, title: &[u8], types: &[Vec<u8>]) -> Asked<'a>
     ensures { option_map (λ ranges. medias ranges.now) result ≡ asked_by asks (choice_now choice.now) title.now (map vec_items types.now) }
 {
     match choice {
@@ -161,12 +161,7 @@ fn push_choice(report: &mut Report, offers: &[Mime], lines: &[Vec<u8>]) -> Made<
 }
 
 /// Adds the rows of offers, the best first, and returns the ranking.
-fn push_offers(
-    text: &mut Vec<u8>,
-    label: &[u8],
-    ranges: &[Mime],
-    offers: &[Mime],
-) -> Made<Vec<RankedOffer>>
+fn push_offers(text: &mut Vec<u8>, label: &[u8], ranges: &[Mime], offers: &[Mime]) -> Made<Ranking>
     ensures ranking { IfOk result (λ ranking. IsRanking (medias ranges.now) (medias offers.now) (vec_items ranking)) }
     ensures rows { IfOk result (λ ranking. vec_items text.new ≡ vec_items text.old
         ++ offer_rows label.now (medias ranges.now) (medias offers.now) (vec_items ranking)) }
@@ -227,12 +222,7 @@ fn push_spaced(text: &mut Vec<u8>, head: &[&[u8]]) -> Made<()>
 
 /// Adds the rows of values of `Content-Type`, each trimmed. `asked` has the ranges by which they are weighed, if any. Sets `good` to
 /// `false` if a value is rejected.
-fn push_types(
-    text: &mut Vec<u8>,
-    good: &mut bool,
-    asked: Option<&[Mime]>,
-    values: &[Vec<u8>],
-) -> Made<()>
+fn push_types(text: &mut Vec<u8>, good: &mut bool, asked: Asked, values: &[Vec<u8>]) -> Made<()>
     ensures { OnOk result (FoldsTo (AddsType (option_map (λ ranges. medias ranges.now) asked.entry))
         (vec_items text.old, good.old) (map vec_items values.now) (vec_items text.new, good.new)) }
 {
@@ -248,7 +238,7 @@ fn push_types(
 }
 
 /// Adds the row of a response's media type, weighed like an offer by `asked`, or nothing if `asked` is `None`.
-fn push_answer(text: &mut Vec<u8>, asked: Option<&[Mime]>, mime: Mime) -> Made<()>
+fn push_answer(text: &mut Vec<u8>, asked: Asked, mime: Mime) -> Made<()>
     ensures { OnOk result ((answer : List ℕ) × IsAnswer (option_map (λ ranges. medias ranges.now) asked.entry) mime.media answer
         × (vec_items text.new ≡ vec_items text.old ++ answer)) }
 {
@@ -390,18 +380,15 @@ fn push_entry(text: &mut Vec<u8>, ranges: &mut Vec<Mime>, entry: &[u8]) -> Made<
 fn push_range(text: &mut Vec<u8>, entry: &[u8], range: &Mime) -> Made<()>
     ensures { OnOk result (vec_items text.new ≡ vec_items text.old ++ range_row entry.now range.now.media) }
 {
-    let weight = decimals(weight_of(range));
-    push(
-        text,
-        &[b"Accept ", &weight, b" ", range.as_str().as_bytes()],
-    )?;
+    let (weight, kept) = (decimals(weight_of(range)), range.as_str().as_bytes());
     if is_plain(entry, range) {
-        push(text, &[b"\n"])?;
-        return Ok(());
+        return push(text, &[b"Accept ", &weight, b" ", kept, b"\n"]);
     }
     let remark = b" (q isn't a weight in HTTP, counted as ";
-    push(text, &[remark, &weight, b")\n"])?;
-    Ok(())
+    push(
+        text,
+        &[b"Accept ", &weight, b" ", kept, remark, &weight, b")\n"],
+    )
 }
 
 /// Returns `true` if an entry has a weight as RFC 9110 allows it (12.4.2), or none. `range` is what is read of the entry.
@@ -439,11 +426,8 @@ fn push_offer(
     let Some(offer) = offer else {
         return Ok(());
     };
-    let weight = decimals(one.weight);
-    push(
-        text,
-        &[label, &weight, b" ", offer.as_str().as_bytes(), b" by "],
-    )?;
+    let (weight, kept) = (decimals(one.weight), offer.as_str().as_bytes());
+    push(text, &[label, &weight, b" ", kept, b" by "])?;
     let decider = decider(ranges, one);
     match decider {
         Some((at, range)) => {
@@ -474,16 +458,8 @@ fn push_lacked(text: &mut Vec<u8>, ranges: &[Mime], by: Option<&Mime>, offer: &M
             push(text, &[b" (lacks ", name.text.as_bytes(), b"="])?;
             unescape(value.text, text)?;
             let number = format!(in *text.allocator(); "{}", at as u128 + 1)?;
-            push(
-                text,
-                &[
-                    b" of ",
-                    number.as_bytes(),
-                    b" ",
-                    range.as_str().as_bytes(),
-                    b")",
-                ],
-            )?;
+            let kept = range.as_str().as_bytes();
+            push(text, &[b" of ", number.as_bytes(), b" ", kept, b")"])?;
         }
     }
     Ok(())
