@@ -40,19 +40,17 @@ fault_rows label value error =
 
 -- ---- Content-Type
 
--- the row of a parameter with what its value means
-abbrev pub param_row : List ℕ × List ℕ → List ℕ
-param_row (name, value) = row (codes "param ") (name ++ (codes "=" ++ unescaped value))
-
 -- the row of a text, or nothing if there is none
 abbrev pub row_if : List ℕ → Option (List ℕ) → List ℕ
 row_if label text = unwrap_or (option_map (row label) text) []
 
--- the rows of a media type: its kept text, its essence, its suffix if there is one, each parameter, and its boundary if there is one
+-- the rows of a media type: its kept text, its essence, its suffix if there is one, each parameter with what its value means, and its
+-- boundary if there is one
 abbrev pub media_rows : MediaType → Option (List ℕ) → List ℕ
 media_rows media boundary =
-    codes "Content-Type " ++ (media.kept ++ (codes "\nessence " ++ (media.essence ++ (codes "\n"
-    ++ (row_if (codes "suffix ") (suffix_of media) ++ (flat_map param_row media.pairs ++ row_if (codes "boundary ") boundary))))))
+    codes "Content-Type " ++ (media.kept ++ (codes "\nessence " ++ (media.essence ++ (codes "\n" ++ (row_if (codes "suffix ")
+    (suffix_of media) ++ (flat_map (λ pair. row (codes "param ") (pair.0 ++ (codes "=" ++ unescaped pair.1))) media.pairs
+    ++ row_if (codes "boundary ") boundary))))))
 
 -- a media type has this boundary, or none
 abbrev pub HasBoundary : MediaType → Option (List ℕ) → Type 0
@@ -122,17 +120,15 @@ offer_rows label ranges offers ranking = flat_map (λ one. offer_row label range
 -- the row of the best offer, the ranking's first, or of 406 if it weighs 0; and whether an offer is acceptable or there are no offers
 abbrev pub best_row : List MediaType → List RankedOffer → List ℕ × Bool
 best_row offers [] = ([], true)
-best_row offers (one ∷ ranking) =
-    if one.weight == 0 then (codes "406 Not Acceptable\n", false)
-    else (row_if (codes "best ") (option_map (λ best. best.kept) (slice_get offers one.offer)), true)
+best_row offers (one ∷ ranking) = if one.weight == 0 then (codes "406 Not Acceptable\n", false) else
+    (row_if (codes "best ") (option_map (λ best. best.kept) (slice_get offers one.offer)), true)
 
 -- ---- Content-Type in an answer
 
 -- the row of a response's media type, which is weighed like an offer by the ranges of the request, if that has an `Accept`
 abbrev pub IsAnswer : Option (List MediaType) → MediaType → List ℕ → Type 0
-IsAnswer None media answer = answer ≡ []
-IsAnswer (Some ranges) media answer =
-    (ranking : List RankedOffer) × IsRanking ranges (media ∷ []) ranking × (answer ≡ offer_rows (codes "answer ") ranges (media ∷ []) ranking)
+IsAnswer asked media answer = MatchOption asked (answer ≡ []) (λ ranges. (ranking : List RankedOffer)
+    × IsRanking ranges (media ∷ []) ranking × (answer ≡ offer_rows (codes "answer ") ranges (media ∷ []) ranking))
 
 -- A value of `Content-Type` is read without the white space around it (RFC 9110, 5.5), and what is read adds its rows to a report, for the
 -- ranges `asked` of a request. `are_good`, whether all values so far are accepted, becomes `false` if this value is rejected.
@@ -176,7 +172,7 @@ row_when wanted label bytes = if wanted then row label (shown bytes) else []
 
 -- the row of a line with white space between the name `Content-Type` or `Accept` and a colon
 abbrev pub spaced_row : List ℕ → List ℕ
-spaced_row line = row_when (is_spaced (codes "content-type") line || is_spaced (codes "accept") line) (codes "white space before the colon: ") line
+spaced_row it = row_when (is_spaced (codes "content-type") it || is_spaced (codes "accept") it) (codes "white space before the colon: ") it
 
 -- the row of a head's title, if there are several heads, and those of its lines with white space before a colon
 abbrev pub title_rows : Bool → List (List ℕ) → List ℕ
@@ -211,12 +207,11 @@ missing (offer ∷ offers) None = (codes "no Accept\n", codes "*/*" ∷ [])
 missing offers choice = ([], [])
 
 abbrev pub AddsMissing : List MediaType → State → State → Type 0
-AddsMissing offers old new =
-    AddsChoice offers (missing offers old.choice).1 (record old { text = old.text ++ (missing offers old.choice).0 }) new
+AddsMissing all old new = AddsChoice all (missing all old.choice).1 (record old { text = old.text ++ (missing all old.choice).0 }) new
 
 -- the verdict: acceptable if each `Content-Type` is accepted, and the last choice, if there is one, is `true`
 abbrev pub verdict_of : State → Verdict
-verdict_of state = if state.are_good && unwrap_or (option_map (λ choice. choice.1) state.choice) true then Verdict.Acceptable else Verdict.NotAcceptable
+verdict_of end = if end.are_good && unwrap_or (option_map (λ it. it.1) end.choice) true then Verdict.Acceptable else Verdict.NotAcceptable
 
 -- There are heads. The text is the report on them and on offers, and says if they are cut off. It has no control characters. The verdict is
 -- the report's.
