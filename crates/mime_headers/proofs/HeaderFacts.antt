@@ -132,8 +132,8 @@ rows_of_values : (media_rows media None ≡ codes "Content-Type a/b+c;p=\"x\\\"y
     ≡ row (codes "bad Accept ") (field_error_text (NotUtf8 1)) ++ (codes "    a c\n     ^" ++ (byte_text 32 ++ codes "\n")))
 rows_of_values = (refl, refl, refl, refl, refl, refl, refl)
 
--- A field that isn't there has a row, `Accept` only if there are offers, and so have an empty `Accept`, the title of a head among many, white
--- space before a colon, and an input that is cut off.
+-- A field that isn't there has a row, `Accept` only if there are offers, and so have an empty `Accept`, the title of a head among many,
+-- white space before a colon, and an input that is cut off.
 rows_of_heads :
     (map (missing (plain ∷ [])) (None ∷ Some false ∷ []) ≡ (codes "no Accept\n", codes "*/*" ∷ []) ∷ ([], []) ∷ [])
     × (missing {Choice = Bool} [] None ≡ ([], [])) × (flat_map count_row ([] ∷ ([] ∷ []) ∷ ([] ∷ [] ∷ []) ∷ [])

@@ -1,8 +1,7 @@
 //! The offers that the arguments name.
 
 ghost use Rattle.std.specs.Prelude.{[], drop, take, map, string_bytes};
-ghost use Rattle.std.specs.{Result.result_map_both, Vec.vec_items};
-ghost use Rattle.std.specs.Vec.Iter.{into_iter_items, into_iter_len};
+ghost use Rattle.std.specs.{Result.result_map_both, Vec.vec_items, Vec.Iter.into_iter_items, Vec.Iter.into_iter_len};
 ghost use Rattle.mime_headers.specs.{Inner.medias, Program.AreOffers};
 
 use mime::Mime;

@@ -1,11 +1,9 @@
 //! The report on heads.
 
 ghost use Rattle.std.specs.Prelude.{◌≡◌, ◌++◌, ℕ, List, [], Err, Ok, Option, map, flat_map, OnOk, IfOk, MatchOption, option_map, slice_get, unwrap_or};
-ghost use Rattle.std.specs.List.{FoldsTo, enumerate_from};
-ghost use Rattle.std.specs.Vec.{vec_items};
+ghost use Rattle.std.specs.{List.FoldsTo, List.enumerate_from, Vec.vec_items};
 ghost use Rattle.mime_http.specs.Ranking.{IsRanking};
-ghost use Rattle.mime_headers.specs.Head.{bare_lines, heads_of};
-ghost use Rattle.mime_headers.specs.Inner.{choice_now, medias, state_now};
+ghost use Rattle.mime_headers.specs.{Head.bare_lines, Head.heads_of, Inner.choice_now, Inner.medias, Inner.state_now};
 ghost use Rattle.mime_headers.specs.Report.{AddsChoice, AddsEntry, AddsHead, AddsLines, AddsMissing, AddsType, HasBoundary, IsAnswer, IsRead, IsReportOf, asked_by, asks_after, best_row, byte_text, count_row, decider, fault_rows, is_cut, is_plain, lacks_text, media_rows, offer_row, offer_rows, row_if, range_row, row_when, spaced_row, verdict_of, weight_text};
 
 use crate::head::{
@@ -86,8 +84,7 @@ fn verdict_of(report: &Report) -> Verdict
 
 /// Adds the rows of a head. `many` says whether there are several heads.
 fn push_head(report: &mut Report, offers: &[Mime], many: bool, head: &[&[u8]]) -> Made<()>
-    ensures { OnOk result (AddsHead (medias offers.now) many (state_now report.old) (map (λ line. line.now) head.now)
-        (state_now report.new)) }
+    ensures { OnOk result (AddsHead (medias offers.now) many (state_now report.old) (map (λ it. it.now) head.now) (state_now report.new)) }
 {
     let alloc = *report.text.allocator();
     let title = title_of(head);
@@ -220,8 +217,7 @@ fn push_spaced(text: &mut Vec<u8>, head: &[&[u8]]) -> Made<()>
     Ok(())
 }
 
-/// Adds the rows of values of `Content-Type`, each trimmed. `asked` has the ranges by which they are weighed, if any. Sets `good` to
-/// `false` if a value is rejected.
+/// Adds the rows of trimmed values of `Content-Type`, weighed by `asked`, if any. Sets `good` to `false` if a value is rejected.
 fn push_types(text: &mut Vec<u8>, good: &mut bool, asked: Asked, values: &[Vec<u8>]) -> Made<()>
     ensures { OnOk result (FoldsTo (AddsType (option_map (λ ranges. medias ranges.now) asked.entry))
         (vec_items text.old, good.old) (map vec_items values.now) (vec_items text.new, good.new)) }
@@ -333,10 +329,9 @@ fn push_byte(text: &mut Vec<u8>, byte: Option<u8>) -> Made<()>
         _ if byte.is_ascii_graphic() => &printed,
         _ => b"",
     };
-    let remark = if byte == b'(' {
-        b"): HTTP has no comments".as_slice()
-    } else {
-        b")"
+    let remark = match byte {
+        b'(' => b"): HTTP has no comments".as_slice(),
+        _ => b")",
     };
     let number = format!(in *text.allocator(); "{byte:X}")?;
     push(text, &[name, b" (", number.as_bytes(), remark])
@@ -472,8 +467,7 @@ fn nth(mimes: &[Mime], at: usize) -> Option<&Mime>
     mimes.get(at)
 }
 
-/// Adds the row of the best offer, or `406 Not Acceptable` if no offer is acceptable. Adds nothing if there are no offers. Returns `true`
-/// if an offer is acceptable or there are no offers.
+/// Adds the row of the best offer, or of 406 if none is acceptable, or nothing if there are none. Returns `false` if it adds that of 406.
 fn push_best(text: &mut Vec<u8>, offers: &[Mime], ranking: &[RankedOffer]) -> Made<bool>
     ensures rows { OnOk result (vec_items text.new ≡ vec_items text.old ++ (best_row (medias offers.now) ranking.now).0) }
     ensures acceptable { IfOk result (λ acceptable. acceptable ≡ (best_row (medias offers.now) ranking.now).1) }
