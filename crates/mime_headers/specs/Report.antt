@@ -5,7 +5,7 @@ use Rattle.mime.specs.{Values.MediaType, Values.suffix_of}
 use Rattle.mime_http.specs.{Boundary.IsBoundaryOf, HttpFaults.HttpExplains, HttpFaults.fault_position, HttpList.trimmed, HttpList.AreBetweenCommas, HttpList.IsPrinted, HttpList.IsPiece, HttpList.BeginsPiece, HttpMediaType.HttpReads, HttpPrinted.field_error_text, Lacks.is_quoted, Lacks.lacked, Ranges.weight_of, Ranges.first_value, Ranking.is_qvalue, Ranking.IsRanking, Unescaped.unescaped, declared.ranking.RankedOffer.RankedOffer, declared.value.FieldError.FieldError, declared.value.FieldError.TheVariants.NoMemory}
 use Rattle.mime_io.specs.{Lines.row, Stops.limit}
 use Rattle.mime_headers.specs.{Head.bare_lines, Head.heads_of, Head.is_interim, Head.is_spaced, Head.is_status_line, Head.title_of, Head.values_of, Shown.without_controls}
-use Rattle.mime_headers.specs.declared.verdict.Verdict.{Verdict}
+use Rattle.mime_headers.specs.declared.report.Verdict.{Verdict}
 
 -- A value of a field is read as this media type, which is printed for the value, or is rejected with this error, which isn't `NoMemory`.
 abbrev pub IsRead : List ℕ → Result MediaType FieldError → Type 0

@@ -12,12 +12,11 @@ mod report;
 mod shown;
 #[cfg(test)]
 mod tests;
-mod verdict;
 
 use crate::offers::read_offers;
 pub use crate::program::run;
+pub use crate::report::Verdict;
 use crate::shown::without_controls;
-pub use crate::verdict::Verdict;
 use mime_http::FieldError;
 use mime_io::{Device, RunError};
 use std::io::{Stdout, Write};

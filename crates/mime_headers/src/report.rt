@@ -10,7 +10,6 @@ use crate::head::{
     Made, bare_lines, heads_of, is_interim, is_spaced, is_status_line, title_of, values_of,
 };
 use crate::shown::without_controls;
-use crate::verdict::Verdict;
 use mime::Mime;
 use mime_http::{
     FieldError, RankedOffer, boundary, content_type, first_entry, has_quoted_weight, has_weight,
@@ -18,6 +17,16 @@ use mime_http::{
 };
 use mime_io::LIMIT;
 use std::alloc::{AllocError, Global};
+
+/// A verdict on all `Content-Type` fields of an input, and on the offers. The last head with an `Accept` decides the offers' weights.
+#[derive(Clone, Copy, PartialEq, Eq, Debug)]
+pub enum Verdict {
+    /// Each `Content-Type` is accepted. An offer weighs more than 0, or there are no offers.
+    Acceptable,
+    /// A `Content-Type` is rejected, or there are offers and each weighs 0. In the latter case, a server may reply with 406 (RFC 9110,
+    /// 15.5.7).
+    NotAcceptable,
+}
 
 /// The ranges of lines of `Accept`, and whether an offer is acceptable or there are no offers. `None` if no head has an `Accept`.
 type Choice = Option<(Vec<Mime>, bool)>;
@@ -291,6 +300,7 @@ fn push_media(text: &mut Vec<u8>, mime: &Mime) -> Made<()>
 }
 
 /// Adds the rows of a rejected value of a field.
+#[tactic(auto, using(std::proofs::Common::append_assoc))]
 fn push_fault(text: &mut Vec<u8>, label: &[u8], value: &[u8], error: FieldError) -> Made<()>
     ensures { OnOk result (vec_items text.new ≡ vec_items text.old ++ fault_rows label.now value.now error) }
 {
