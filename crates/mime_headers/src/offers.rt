@@ -2,7 +2,7 @@
 
 ghost use Rattle.std.specs.Prelude.{[], drop, take, map, string_bytes};
 ghost use Rattle.std.specs.{Result.result_map_both, Vec.vec_items, Vec.Iter.into_iter_items, Vec.Iter.into_iter_len};
-ghost use Rattle.mime_headers.specs.{Inner.medias, Program.AreOffers};
+ghost use Rattle.mime_headers.specs.Program.{AreOffers};
 
 use mime::Mime;
 use mime_http::{FieldError, content_type};
@@ -15,7 +15,7 @@ use std::env::Args;
 /// Returns the first argument that isn't a media type, and its fault. If memory runs out, returns the argument reached, and `NoMemory`.
 pub(crate) fn read_offers(alloc: Global, mut words: Args) -> Result<Vec<Mime>, (String, FieldError)>
     ensures { AreOffers (map string_bytes (drop 1 (take (into_iter_len words) (into_iter_items words)))) []
-        (result_map_both (λ offers. medias (vec_items offers)) (λ error. error) result) }
+        (result_map_both (λ offers. map (λ offer. offer.media) (vec_items offers)) (λ error. error) result) }
 {
     let _program = words.next();
     let mut offers = Vec::new(alloc);

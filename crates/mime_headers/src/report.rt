@@ -55,7 +55,7 @@ pub(crate) fn report_of(
     offers: &[Mime],
 ) -> Made<Option<(Vec<u8>, Verdict)>>
     ensures { IfOk result (λ answer. MatchOption answer (heads_of (is_cut input.now) (bare_lines (is_cut input.now) input.now) ≡ [])
-        (λ answer. IsReportOf (medias offers.now) input.now (vec_items answer.0) answer.1)) }
+        (λ answer. IsReportOf (map (λ offer. offer.media) offers.now) input.now (vec_items answer.0) answer.1)) }
 {
     let is_cut = input.len() > LIMIT;
     let lines = bare_lines(alloc, input, is_cut)?;
