@@ -1,7 +1,7 @@
 -- The names that the proofs of this crate cite, passed on from one place. Declares nothing.
 pub use Rattle.mime.specs.{Bytes.is_token_byte, Grammar.is_space, Items.Item, Items.items_of, Values.MediaType, Values.suffix_of, declared.scan.fault.ParseError.TheVariants.InvalidToken, declared.scan.fault.ParseError.TheVariants.MissingSubtype}
 pub use Rattle.mime_headers.specs.Head.{bare, bare_lines, begins, begun_heads, continued, counts, from_angle, goes_on, head_at, heads_of, is_end, is_field, is_interim, is_one, is_request_line, is_start, is_status_line, mark_of, own_text, rest_of, started_heads, text_of, title_of, values_of}
-pub use Rattle.mime_headers.specs.Report.{AddsChoice, AddsEntry, AddsHead, AddsLines, AddsMissing, AddsType, HasBoundary, IsAnswer, IsChoice, IsRead, IsReport, IsReportOf, State, asked_by, asks_after, best_row, byte_text, count_row, decider, empty_row, fault_rows, is_cut, lacks_text, media_rows, missing, numbered, offer_row, offer_rows, range_row, shown, row_when, spaced_row, title_rows, verdict_of, weight_text, with_entry}
+pub use Rattle.mime_headers.specs.Report.{AddsChoice, AddsEntry, AddsHead, AddsLines, AddsMissing, AddsType, HasBoundary, IsAnswer, IsRead, IsReport, IsReportOf, State, asked_by, asks_after, best_row, byte_text, count_row, decider, empty_row, fault_rows, is_cut, lacks_text, media_rows, missing, numbered, offer_row, offer_rows, range_row, shown, row_when, spaced_row, title_rows, verdict_of, weight_text, with_entry}
 pub use Rattle.mime_headers.specs.{Inner.choice_now, Inner.lines_now, Inner.medias, Inner.state_now, Program.AreOffers, Program.a_word, Program.bad_word, Program.no_word, Shown.control_len, Shown.shown_after, Shown.without_controls, declared.report.Verdict.Verdict}
 pub use Rattle.mime_http.proofs.HandedOut.{no_field_error, one_field_error, one_printed_text, one_ranking, only_cut}
 pub use Rattle.mime_http.specs.{Boundary.IsBoundaryOf, HttpFaults.HttpExplains, HttpFaults.fault_position, HttpList.AreBetweenCommas.comma, HttpList.AreBetweenCommas.line_end, HttpList.AreBetweenCommas.no_line, HttpList.BeginsPiece, HttpList.IsPiece, HttpList.trim_start, HttpList.trimmed, HttpMediaType.IsHttpMediaType, HttpPrinted.field_error_text, Ranking.IsRanking, Unescaped.unescaped, declared.ranking.RankedOffer.RankedOffer, declared.value.FieldError.FieldError, declared.value.FieldError.TheVariants.Invalid, declared.value.FieldError.TheVariants.NoMemory, declared.value.FieldError.TheVariants.NotUtf8}

@@ -54,9 +54,9 @@ one_choice offers [] old new other one two = one.0 refl ∙ sym (two.0 refl)
 one_choice offers (line ∷ lines) old new other one two =
     let adds = one.1 (omega arith) in
     let more = two.1 (omega arith) in
-    let same = only_cut adds.are_read.cut ∙ sym (only_cut more.are_read.cut) in
-    let read = one_of_all AddsEntry one_entry _ _ _ _ (rw same at adds.are_read.entries) more.are_read.entries in
-    cc (read, one_ranking more.read.1 offers adds.ranking more.ranking (rw (ap (λ it. it.1) read) at adds.is_ranking) more.is_ranking)
+    let same = only_cut adds.2.1 ∙ sym (only_cut more.2.1) in
+    let read = one_of_all AddsEntry one_entry _ _ _ _ (rw same at adds.2.2) more.2.2 in
+    cc (adds.4, more.4, read, one_ranking more.0.1 offers adds.1 more.1 (rw (ap (λ it. it.1) read) at adds.3) more.3)
 
 -- A head adds one text.
 one_head : (offers : List MediaType) (many : Bool) (old : State) (head : List (List ℕ)) (new other : State)

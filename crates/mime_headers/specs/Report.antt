@@ -84,10 +84,9 @@ AddsEntry old entry new =
     × (0 < length entry → (reading : Result MediaType FieldError) × IsRead entry reading × (new ≡ with_entry old entry reading))
 
 -- Lines add their entries in order: the texts between commas outside strings, each without the white space around it.
-pub record AddsLines (lines : List (List ℕ)) (old new : List ℕ × List MediaType) : Type 0 where
-  pub pieces : List (List ℕ)
-  pub cut : AreBetweenCommas IsPiece BeginsPiece lines pieces
-  pub entries : FoldsTo AddsEntry old (map trimmed pieces) new
+abbrev pub AddsLines : List (List ℕ) → List ℕ × List MediaType → List ℕ × List MediaType → Type 0
+AddsLines lines old new =
+    (pieces : List (List ℕ)) × AreBetweenCommas IsPiece BeginsPiece lines pieces × FoldsTo AddsEntry old (map trimmed pieces) new
 
 -- ---- offers
 
@@ -152,19 +151,14 @@ abbrev pub empty_row : List ℕ → List ℕ → List ℕ
 empty_row old new = if length old == length new then codes "empty Accept\n" else []
 
 -- The lines of `Accept`, which are one list (RFC 9110, 5.3), and the offers add their rows to a report, and make a choice by their ranges.
-pub record IsChoice (offers : List MediaType) (lines : List (List ℕ)) (old new : State) : Type 0 where
-  pub read : List ℕ × List MediaType
-  pub are_read : AddsLines lines (old.text, []) read
-  pub ranking : List RankedOffer
-  pub is_ranking : IsRanking read.1 offers ranking
-  pub is_new : new ≡ record old {
-    text = read.0 ++ (empty_row old.text read.0 ++ (offer_rows (codes "offer ") read.1 offers ranking ++ (best_row offers ranking).0));
-    choice = Some (read.1, (best_row offers ranking).1);
-  }
-
--- Without lines of `Accept`, nothing is added, and no choice is made.
+-- Without lines, nothing is added, and no choice is made.
 abbrev pub AddsChoice : List MediaType → List (List ℕ) → State → State → Type 0
-AddsChoice offers lines old new = (length lines ≡ 0 → new ≡ old) × (0 < length lines → IsChoice offers lines old new)
+AddsChoice offers lines old new =
+    (length lines ≡ 0 → new ≡ old) × (0 < length lines → (read : List ℕ × List MediaType) × (ranking : List RankedOffer)
+    × AddsLines lines (old.text, []) read × IsRanking read.1 offers ranking × (new ≡ record old {
+      text = read.0 ++ (empty_row old.text read.0 ++ (offer_rows (codes "offer ") read.1 offers ranking ++ (best_row offers ranking).0));
+      choice = Some (read.1, (best_row offers ranking).1);
+    }))
 
 -- a row of what is shown of bytes, if it is wanted
 abbrev pub row_when : Bool → List ℕ → List ℕ → List ℕ

@@ -115,11 +115,9 @@ fn push_head(report: &mut Report, offers: &[Mime], many: bool, head: &[&[u8]]) -
 fn asked_by<'a>(choice: &'a Choice, asks: bool, title: &[u8], types: &[Vec<u8>]) -> Asked<'a>
     ensures { option_map (λ ranges. medias ranges.now) result ≡ asked_by asks (choice_now choice.now) title.now (map vec_items types.now) }
 {
+    let is_answer = asks && is_status_line(title) && !is_interim(title) && types.len() == 1;
     match choice {
-        Some((ranges, _))
-            if asks && is_status_line(title) && !is_interim(title) && types.len() == 1 => {
-            Some(ranges)
-        }
+        Some((ranges, _)) if is_answer => Some(ranges),
         _ => None,
     }
 }
@@ -408,13 +406,9 @@ fn is_plain(entry: &[u8], range: &Mime) -> bool
 fn decimals(weight: u16) -> [u8; 5]
     ensures { result ≡ weight_text weight }
 {
-    [
-        b'0' + (weight / 1000 % 10) as u8,
-        b'.',
-        b'0' + (weight / 100 % 10) as u8,
-        b'0' + (weight / 10 % 10) as u8,
-        b'0' + (weight % 10) as u8,
-    ]
+    let digit = |rest: u16| b'0' + (rest % 10) as u8;
+    let (tenth, hundredth) = (digit(weight / 100), digit(weight / 10));
+    [digit(weight / 1000), b'.', tenth, hundredth, digit(weight)]
 }
 
 /// Adds the row of a ranked offer, or nothing if `offer` is `None`.
@@ -484,14 +478,10 @@ fn push_best(text: &mut Vec<u8>, offers: &[Mime], ranking: &[RankedOffer]) -> Ma
 {
     match ranking.first() {
         None => Ok(true),
-        Some(first) if first.weight == 0 => {
-            push(text, &[b"406 Not Acceptable\n"])?;
-            Ok(false)
-        }
+        Some(first) if first.weight == 0 => push(text, &[b"406 Not Acceptable\n"]).map(|()| false),
         Some(first) => {
             let best = nth(offers, first.offer).map(|best| best.as_str().as_bytes());
-            push_if(text, b"best ", best)?;
-            Ok(true)
+            push_if(text, b"best ", best).map(|()| true)
         }
     }
 }
