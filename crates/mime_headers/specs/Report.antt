@@ -141,8 +141,7 @@ AddsType asked (text, are_good) value new =
 -- the row which says that there is no `Content-Type`, or more than one; nothing if there is one
 abbrev pub count_row : List (List ℕ) → List ℕ
 count_row [] = codes "no Content-Type\n"
-count_row (value ∷ []) = []
-count_row (value ∷ other ∷ values) = codes "several Content-Type lines (HTTP allows one)\n"
+count_row (value ∷ values) = if length values == 0 then [] else codes "several Content-Type lines (HTTP allows one)\n"
 
 -- ---- heads
 
@@ -188,12 +187,10 @@ abbrev pub AddsHead : List MediaType → Bool → State → List (List ℕ) → 
 AddsHead offers many old head new =
     let types = values_of (codes "content-type:") head in
     let accepts = values_of (codes "accept:") head in
+    let asks = asks_after old.asks (title_of head) accepts in
     (typed : List ℕ × Bool) × FoldsTo (AddsType (asked_by old.asks old.choice (title_of head) types))
-    (old.text ++ title_rows many head, old.are_good) types typed × AddsChoice offers accepts (record old {
-      text = typed.0 ++ count_row types;
-      are_good = typed.1;
-      asks = asks_after old.asks (title_of head) accepts;
-    }) new
+    (old.text ++ title_rows many head, old.are_good) types typed
+    × AddsChoice offers accepts (record old { text = typed.0 ++ count_row types; are_good = typed.1; asks = asks }) new
 
 -- if there are offers and no head has an `Accept`, the row which says so, and the line that is read in its place
 abbrev pub missing : {Choice : Type 0} → List MediaType → Option Choice → List ℕ × List (List ℕ)
