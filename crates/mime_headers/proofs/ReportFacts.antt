@@ -1,5 +1,5 @@
 -- Heads and offers have one report, with one verdict, so that a page that says less doesn't check.
-use Rattle.mime_headers.proofs.Common.{AddsChoice, AddsEntry, AddsHead, AddsType, Bool, Err, FieldError, FoldsTo, HasBoundary, IsAnswer, IsRead, IsReportOf, List, MediaType, None, Ok, Option, Result, Some, State, Verdict, [], ap, ap₂, arith, bare_lines, codes, false, heads_of, is_cut, length, media_rows, nat_lt, no_field_error, offer_rows, one_field_error, one_printed_text, one_ranking, only_cut, refl, sym, trimmed, true, ℕ, ◌++◌, ◌∙◌, ◌∷◌, ◌≡◌, rules}
+use Rattle.mime_headers.proofs.Common.{AddsChoice, AddsEntry, AddsHead, AddsType, Bool, Err, FieldError, FoldsTo, HasBoundary, IsAnswer, IsRead, IsReportOf, List, MediaType, None, Ok, Option, Result, Some, State, Verdict, [], ap, ap₂, arith, bare_lines, false, heads_of, is_cut, length, media_rows, nat_lt, no_field_error, one_field_error, one_printed_text, one_ranking, only_cut, refl, sym, trimmed, true, ℕ, ◌++◌, ◌∙◌, ◌∷◌, ◌≡◌, rules}
 
 -- A value is read in one way.
 one_reading : (value : List ℕ) (one other : Result MediaType FieldError) → IsRead value one → IsRead value other → one ≡ other

@@ -1,5 +1,5 @@
 -- An entry is a range or bad.
-use Rattle.mime_headers.proofs.Common.{Err, Ok, ap, ap₂, arith, length, map, map-append, medias, rules, tests, vec_items, ◌<◌, ◌∙◌}
+use Rattle.mime_headers.proofs.Common.{Err, Ok, ap, ap₂, arith, length, map-append, medias, rules, tests, vec_items, ◌<◌, ◌∙◌}
 use Rattle.mime_headers.proofs.report.push_entry.Goals as goal
 
 pub returns-in_ok-push : goal.returns-in_ok-push

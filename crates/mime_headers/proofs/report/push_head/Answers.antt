@@ -1,5 +1,5 @@
 -- Each part is added after the one before it.
-use Rattle.mime_headers.proofs.Common.{append-nil, append_assoc, map, vec_items}
+use Rattle.mime_headers.proofs.Common.{append-nil, append_assoc, vec_items}
 use Rattle.mime_headers.proofs.report.push_head.Goals as goal
 
 pub returns : goal.returns

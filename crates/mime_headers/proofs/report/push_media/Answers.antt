@@ -1,5 +1,5 @@
 -- Each part is added after the one before it.
-use Rattle.mime_headers.proofs.Common.{HasBoundary, Item, List, [], ap, append-nil, append_assoc, codes, flat_map, items_of, option_map, refl, row, rules, suffix_of, unescaped, vec_items, ℕ, ◌++◌, ◌∷◌, ◌≡◌}
+use Rattle.mime_headers.proofs.Common.{HasBoundary, Item, List, [], ap, append-nil, append_assoc, codes, flat_map, items_of, option_map, refl, row, rules, suffix_of, unescaped, ℕ, ◌++◌, ◌∷◌, ◌≡◌}
 use Rattle.mime_headers.proofs.report.push_media.Goals as goal
 
 -- the row of a parameter

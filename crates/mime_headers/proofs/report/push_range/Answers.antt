@@ -1,5 +1,5 @@
 -- The pieces are the row's.
-use Rattle.mime_headers.proofs.Common.{append-nil, append_assoc, sym, ◌∙◌}
+use Rattle.mime_headers.proofs.Common.{append-nil, sym, ◌∙◌}
 use Rattle.mime_headers.proofs.report.push_range.Goals as goal
 
 pub returns-then-is_plain : goal.returns-then-is_plain
