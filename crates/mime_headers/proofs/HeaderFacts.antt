@@ -1,6 +1,6 @@
 -- Heads, rows and verdicts for which each definition is true, and others for which it is false, so that a page that says less or more
 -- doesn't check.
-use Rattle.mime_headers.proofs.Common.{AreOffers, Bool, Err, FieldError, Global, Invalid, IsAnswer, IsHttpMediaType, IsRead, IsReport, List, MediaType, MissingSubtype, None, NotUtf8, Ok, Option, RankedOffer, Some, State, String, Verdict, [], a_word, arith, asked_by, asks_after, bad_word, bare, bare_lines, begins, best_row, byte_text, codes, continued, control_len, count_row, cut_row, decider, decimal, digits, empty_row, false, fault_rows, field_error_text, filter, flat_map, goes_on, heads_of, is_cut, is_field, is_end, is_interim, is_status_line, lacks_text, length, lines_of, map, mark_of, media_rows, missing, no_word, numbered, offer_row, offer_rows, range_row, refl, replicate, row, shown, spaced_row, string_bytes, text_of, title_row, trimmed, true, values_of, verdict_of, weight_text, with_entry, without_controls, ℕ, ◌++◌, ◌∷◌, ◌≡◌, ◌≢◌}
+use Rattle.mime_headers.proofs.Common.{AreOffers, Bool, Err, FieldError, Global, Invalid, IsAnswer, IsHttpMediaType, IsRead, IsReport, List, MediaType, MissingSubtype, None, NotUtf8, Ok, Option, RankedOffer, Some, State, String, Verdict, [], a_word, arith, asked_by, asks_after, bad_word, bare, bare_lines, begins, best_row, byte_text, codes, continued, control_len, count_row, decider, decimal, digits, empty_row, false, fault_rows, field_error_text, filter, flat_map, goes_on, heads_of, is_cut, is_field, is_end, is_interim, is_status_line, lacks_text, length, lines_of, map, mark_of, media_rows, missing, no_word, numbered, offer_row, offer_rows, range_row, refl, replicate, row, shown, string_bytes, text_of, trimmed, true, values_of, verdict_of, weight_text, with_entry, without_controls, ℕ, ◌++◌, ◌∷◌, ◌≡◌, ◌≢◌, if◌then◌else◌, title_rows}
 use Rattle.mime.specs.Bytes.{is_token_byte}
 use Rattle.mime_headers.specs.{Head.is_start, Head.is_version, Report.is_plain}
 
@@ -94,87 +94,72 @@ values = (refl, refl, refl, refl)
 
 -- ---- rows
 
--- a media type with a suffix and a parameter that has a quoted pair, the same without the parameter, and a range with a weight
-abbrev media : MediaType
-media =
-    record {
-      essence = codes "a/b+c";
-      slash = 1;
-      plus = Some 3;
-      pairs = (codes "p", codes "x\\\"y") ∷ [];
-      kept = codes "a/b+c;p=\"x\\\"y\"";
-    }
-
+-- a media type with a suffix, the same with a parameter that has a quoted pair, and a range with a weight
 abbrev plain : MediaType
-plain = record media { pairs = []; kept = codes "a/b+c" }
+plain = record { essence = codes "a/b+c"; slash = 1; plus = Some 3; pairs = []; kept = codes "a/b+c" }
+
+abbrev media : MediaType
+media = record plain { pairs = (codes "p", codes "x\\\"y") ∷ []; kept = codes "a/b+c;p=\"x\\\"y\"" }
 
 abbrev star : List ℕ → MediaType
 star q = record { essence = codes "*/*"; slash = 1; plus = None; pairs = (codes "q", q) ∷ []; kept = codes "*/*;q=" ++ q }
 
--- A media type has a row for each part.
-rows_of_media : (media_rows media None ≡ codes "Content-Type a/b+c;p=\"x\\\"y\"\nessence a/b+c\nsuffix c\nparam p=x\"y\n")
-    × (media_rows (star (codes "1")) (Some (codes "d")) ≡ codes "Content-Type */*;q=1\nessence */*\nparam q=1\nboundary d\n")
-rows_of_media = (refl, refl)
+-- the name of a byte in hexadecimal
+abbrev hex : ℕ → List ℕ
+hex b = codes " (" ++ (digits 16 true b ++ codes ")")
 
--- Bytes that aren't printable ASCII have dots. A caret is under the byte at fault, which is named, or after the value.
-faults : (shown (97 ∷ 32 ∷ 126 ∷ 0 ∷ 9 ∷ 27 ∷ 127 ∷ 195 ∷ []) ≡ codes "a ~.....")
-    × (map byte_text (99 ∷ 32 ∷ 9 ∷ 233 ∷ [])
-    ≡ (codes " c (" ++ (digits 16 true 99 ++ codes ")")) ∷ (codes " space (" ++ (digits 16 true 32 ++ codes ")"))
-    ∷ (codes " tab (" ++ (digits 16 true 9 ++ codes ")")) ∷ (codes " (" ++ (digits 16 true 233 ++ codes ")")) ∷ [])
+-- A media type has a row for each part. Bytes that aren't printable ASCII have dots. A caret is under the byte at fault, which is named, or
+-- after the value.
+rows_of_values : (media_rows media None ≡ codes "Content-Type a/b+c;p=\"x\\\"y\"\nessence a/b+c\nsuffix c\nparam p=x\"y\n")
+    × (media_rows (star (codes "1")) (Some (codes "d")) ≡ codes "Content-Type */*;q=1\nessence */*\nparam q=1\nboundary d\n")
+    × (shown (97 ∷ 32 ∷ 126 ∷ 0 ∷ 9 ∷ 27 ∷ 127 ∷ 195 ∷ []) ≡ codes "a ~.....") × (map byte_text (99 ∷ 32 ∷ 9 ∷ 233 ∷ [])
+    ≡ (codes " c" ++ hex 99) ∷ (codes " space" ++ hex 32) ∷ (codes " tab" ++ hex 9) ∷ hex 233 ∷ [])
     × (byte_text 40 ≡ codes " ( (" ++ (digits 16 true 40 ++ codes "): HTTP has no comments"))
     × (fault_rows (codes "bad Content-Type ") (codes "a\tb/") (Invalid MissingSubtype)
     ≡ codes "bad Content-Type mime parse error: a subtype was missing behind the slash (/)\n    a.b/\n        ^\n")
     × (fault_rows (codes "bad Accept ") (codes "a c") (NotUtf8 1)
     ≡ row (codes "bad Accept ") (field_error_text (NotUtf8 1)) ++ (codes "    a c\n     ^" ++ (byte_text 32 ++ codes "\n")))
-faults = (refl, refl, refl, refl, refl)
+rows_of_values = (refl, refl, refl, refl, refl, refl, refl)
 
--- A field that isn't there has a row, `Accept` only if there are offers, and so have an empty `Accept`, an input that is cut off, the title
--- of a head among many, and white space before a colon.
+-- A field that isn't there has a row, `Accept` only if there are offers, and so have an empty `Accept`, the title of a head among many,
+-- white space before a colon, and an input that is cut off.
 rows_of_heads :
     (map (missing (plain ∷ [])) (None ∷ Some false ∷ []) ≡ (codes "no Accept\n", codes "*/*" ∷ []) ∷ ([], []) ∷ [])
     × (missing {Choice = Bool} [] None ≡ ([], [])) × (flat_map count_row ([] ∷ ([] ∷ []) ∷ ([] ∷ [] ∷ []) ∷ [])
     ≡ codes "no Content-Type\nseveral Content-Type lines (HTTP allows one)\n")
     × (map (empty_row (codes "a")) (codes "a" ∷ codes "ab" ∷ []) ≡ codes "empty Accept\n" ∷ [] ∷ [])
-    × (map cut_row (true ∷ false ∷ []) ≡ codes "not read after 1048576 bytes\n" ∷ [] ∷ [])
-    × (map (title_row true) (lines_of (codes "GET /\t\nb: c") ∷ [] ∷ []) ≡ codes "head GET /.\n" ∷ codes "head \n" ∷ [])
-    × (title_row false (codes "a" ∷ []) ≡ [])
-    × (flat_map spaced_row (lines_of (codes "Content-Type \t: a\naccept :\nAccept: a\nAccept a:\nAccept \nX-Accept : a"))
+    × (map (title_rows true) (lines_of (codes "GET /\t\nb: c") ∷ [] ∷ []) ≡ codes "head GET /.\n" ∷ codes "head \n" ∷ [])
+    × (title_rows false (codes "a" ∷ []) ≡ [])
+    × (title_rows false (lines_of (codes "Content-Type \t: a\naccept :\nAccept: a\nAccept a:\nAccept \nX-Accept : a"))
     ≡ codes "white space before the colon: Content-Type .: a\nwhite space before the colon: accept :\n")
-rows_of_heads = (refl, refl, refl, refl, refl, refl, refl, refl)
+    × ((cut : Bool) (heads : List (List (List ℕ))) (text : List ℕ) (verdict : Verdict) → (is : IsReport [] cut heads text verdict)
+    → text ≡ without_controls (is.last.text ++ (if cut then codes "not read after 1048576 bytes\n" else [])))
+rows_of_heads = (refl, refl, refl, refl, refl, refl, refl, λ cut heads text verdict is. is.is_text)
 
 -- A control character of each kind has one dot, also at the end of a text, and others and the line feed stay.
-controls :
-    (without_controls (97 ∷ 27 ∷ 10 ∷ 127 ∷ 194 ∷ 155 ∷ 51 ∷ 226 ∷ 128 ∷ 174 ∷ 226 ∷ 129 ∷ 166 ∷ 216 ∷ 156
-    ∷ 98 ∷ []) ≡ codes "a.\n..3...b")
+controls : (without_controls (97 ∷ 27 ∷ 10 ∷ 127 ∷ 194 ∷ 155 ∷ 51 ∷ 226 ∷ 128 ∷ 174 ∷ 226 ∷ 129 ∷ 166 ∷ 216 ∷ 156 ∷ 98 ∷ []) ≡ codes "a.\n..3...b")
     × (map (λ d. control_len (194 ∷ d ∷ [])) (127 ∷ 128 ∷ 159 ∷ 160 ∷ []) ≡ 0 ∷ 2 ∷ 2 ∷ 0 ∷ [])
     × (map (λ d. control_len (216 ∷ d ∷ [])) (155 ∷ 156 ∷ 157 ∷ []) ≡ 0 ∷ 2 ∷ 0 ∷ [])
-    × (map (λ d. control_len (226 ∷ 128 ∷ d ∷ [])) (141 ∷ 142 ∷ 143 ∷ 144 ∷ 169 ∷ 170 ∷ 174 ∷ 175 ∷ [])
-    ≡ 0 ∷ 3 ∷ 3 ∷ 0 ∷ 0 ∷ 3 ∷ 3 ∷ 0 ∷ [])
-    × (map (λ d. control_len (226 ∷ 129 ∷ d ∷ [])) (165 ∷ 166 ∷ 169 ∷ 170 ∷ []) ≡ 0 ∷ 3 ∷ 3 ∷ 0 ∷ [])
-    × (control_len (226 ∷ 128 ∷ []) ≡ 0)
+    × (map (λ d. control_len (226 ∷ 128 ∷ d ∷ [])) (141 ∷ 142 ∷ 143 ∷ 144 ∷ 169 ∷ 170 ∷ 174 ∷ 175 ∷ []) ≡ 0 ∷ 3 ∷ 3 ∷ 0 ∷ 0 ∷ 3 ∷ 3 ∷ 0 ∷ [])
+    × (map (λ d. control_len (226 ∷ 129 ∷ d ∷ [])) (165 ∷ 166 ∷ 169 ∷ 170 ∷ []) ≡ 0 ∷ 3 ∷ 3 ∷ 0 ∷ []) × (control_len (226 ∷ 128 ∷ []) ≡ 0)
 controls = (refl, refl, refl, refl, refl, refl)
 
 -- ---- offers
-
--- Weights have three decimals. A range has a remark if its `q` isn't a weight, or is in quotes. What is read of an entry is added.
-weights : (map weight_text (1000 ∷ 50 ∷ 7 ∷ []) ≡ codes "1.000" ∷ codes "0.050" ∷ codes "0.007" ∷ [])
-    × (flat_map (λ q. range_row (codes "*/*;q=" ++ q) (star q)) (codes "0.5" ∷ codes ".5" ∷ [])
-    ≡ codes "Accept 0.500 */*;q=0.5\nAccept 0.500 */*;q=.5 (q isn't a weight in HTTP, counted as 0.500)\n")
-    × (range_row (codes "*/* ; q=\"1\"") (star (codes "1"))
-    ≡ codes "Accept 1.000 */*;q=1 (q isn't a weight in HTTP, counted as 1.000)\n")
-    × (with_entry (codes "<", plain ∷ []) (codes "a") (Ok media) ≡ (codes "<" ++ range_row (codes "a") media, plain ∷ media ∷ []))
-    × (with_entry (codes "<", plain ∷ []) (codes "a") (Err (NotUtf8 0))
-    ≡ (codes "<" ++ fault_rows (codes "bad Accept ") (codes "a") (NotUtf8 0), plain ∷ []))
-unfolding is_plain
-weights = (refl, refl, refl, refl, refl)
 
 -- a ranked offer
 abbrev ranked : ℕ → ℕ → Option ℕ → RankedOffer
 ranked offer weight range = record { offer = offer; weight = weight; range = range }
 
--- The rows of offers have the order of their ranking, the range that decides, and each that would but for a parameter.
-rows_of_offers :
-    (offer_rows (codes "offer ") [] (plain ∷ star (codes "1") ∷ []) (ranked 1 0 None ∷ ranked 0 1 None ∷ ranked 2 1 None ∷ [])
+-- Weights have three decimals. A range has a remark if its `q` isn't a weight, or is in quotes. What is read of an entry is added. The rows
+-- of offers have the order of their ranking, the range that decides, and each that would but for a parameter.
+rows_of_offers : (map weight_text (1000 ∷ 50 ∷ 7 ∷ []) ≡ codes "1.000" ∷ codes "0.050" ∷ codes "0.007" ∷ [])
+    × (flat_map (λ q. range_row (codes "*/*;q=" ++ q) (star q)) (codes "0.5" ∷ codes ".5" ∷ [])
+    ≡ codes "Accept 0.500 */*;q=0.5\nAccept 0.500 */*;q=.5 (q isn't a weight in HTTP, counted as 0.500)\n")
+    × (range_row (codes "*/* ; q=\"1\"") (star (codes "1")) ≡ codes "Accept 1.000 */*;q=1 (q isn't a weight in HTTP, counted as 1.000)\n")
+    × (with_entry (codes "<", plain ∷ []) (codes "a") (Ok media) ≡ (codes "<" ++ range_row (codes "a") media, plain ∷ media ∷ []))
+    × (with_entry (codes "<", plain ∷ []) (codes "a") (Err (NotUtf8 0))
+    ≡ (codes "<" ++ fault_rows (codes "bad Accept ") (codes "a") (NotUtf8 0), plain ∷ []))
+    × (offer_rows (codes "offer ") [] (plain ∷ star (codes "1") ∷ []) (ranked 1 0 None ∷ ranked 0 1 None ∷ ranked 2 1 None ∷ [])
     ≡ codes "offer 0.000 */*;q=1 by none\noffer 0.001 a/b+c by none\n")
     × (offer_row (codes "offer ") (star (codes "1") ∷ media ∷ plain ∷ []) (ranked 0 1 (Some 0)) (Some plain)
     ≡ codes "offer 0.001 a/b+c by " ++ (numbered (0, star (codes "1"))
@@ -182,31 +167,30 @@ rows_of_offers :
     × (lacks_text plain None (1, media) ≡ codes " (lacks p=x\"y of " ++ (numbered (1, media) ++ codes ")"))
     × (lacks_text plain (Some plain) (1, star (codes "1")) ≡ []) × (numbered (1, plain) ≡ decimal 2 ++ codes " a/b+c")
     × (decider (plain ∷ []) (ranked 0 1 (Some 1)) ≡ None)
-rows_of_offers = (refl, refl, refl, refl, refl, refl)
+unfolding is_plain
+rows_of_offers = (refl, refl, refl, refl, refl, refl, refl, refl, refl, refl, refl)
 
 -- what is known after heads, of which the last choice is this one
-abbrev after : Bool → Option (List MediaType × Bool) → Bool → State
-after are_good choice asks = record { text = []; are_good = are_good; choice = choice; asks = asks }
+abbrev after : Bool → Option (List MediaType × Bool) → State
+after are_good choice = record { text = []; are_good = are_good; choice = choice; asks = false }
 
 -- The best offer has a row, and one that isn't acceptable another. The verdict is that of all values and of the last choice.
-verdicts : (best_row (plain ∷ media ∷ []) (record { offer = 1; weight = 1; range = Some 0 } ∷ [])
-    ≡ (codes "best a/b+c;p=\"x\\\"y\"\n", true))
-    × (best_row (media ∷ []) (record { offer = 0; weight = 0; range = None } ∷ []) ≡ (codes "406 Not Acceptable\n", false))
-    × (best_row [] [] ≡ ([], true))
-    × (map (λ choice. verdict_of (after true choice false)) (Some ([], true) ∷ None ∷ Some ([], false) ∷ [])
+verdicts : (best_row (plain ∷ media ∷ []) (ranked 1 1 (Some 0) ∷ []) ≡ (codes "best a/b+c;p=\"x\\\"y\"\n", true))
+    × (best_row (media ∷ []) (ranked 0 0 None ∷ []) ≡ (codes "406 Not Acceptable\n", false)) × (best_row [] [] ≡ ([], true))
+    × (map (λ choice. verdict_of (after true choice)) (Some ([], true) ∷ None ∷ Some ([], false) ∷ [])
     ≡ Verdict.Acceptable ∷ Verdict.Acceptable ∷ Verdict.NotAcceptable ∷ [])
-    × (verdict_of (after false (Some ([], true)) false) ≡ Verdict.NotAcceptable)
+    × (verdict_of (after false (Some ([], true))) ≡ Verdict.NotAcceptable)
 verdicts = (refl, refl, refl, refl, refl)
 
 -- A response that isn't interim answers the last request, with one media type, and no later response does. A request begins anew.
 answers :
     (map is_interim (codes "HTTP/1.1 100 Continue" ∷ codes "HTTP/2 200 1" ∷ codes "HTTP/1.1 " ∷ []) ≡ true ∷ false ∷ false ∷ [])
-    × (map (λ title. asked_by true (Some (plain ∷ [], true)) title ([] ∷ [])) (codes "HTTP/2 200" ∷ codes "HTTP/2 103" ∷ codes "GET / HTTP/2"
-    ∷ []) ≡ Some (plain ∷ []) ∷ None ∷ None ∷ [])
+    × (map (λ title. asked_by true (Some (plain ∷ [], true)) title ([] ∷ [])) (lines_of (codes "HTTP/2 200\nHTTP/2 103\nGET / HTTP/2"))
+    ≡ Some (plain ∷ []) ∷ None ∷ None ∷ [])
     × (map (asked_by true (Some ([], true)) (codes "HTTP/2 200")) ([] ∷ ([] ∷ [] ∷ []) ∷ []) ≡ None ∷ None ∷ [])
     × (asked_by false (Some ([], true)) (codes "HTTP/2 200") ([] ∷ []) ≡ None)
-    × (map (λ title. asks_after true title []) (codes "HTTP/2 200" ∷ codes "HTTP/2 103" ∷ codes "GET / HTTP/2" ∷ []) ≡ false ∷ true ∷ false ∷ [])
-    × (map (λ title. asks_after false title ([] ∷ [])) (codes "HTTP/2 103" ∷ codes "GET / HTTP/2" ∷ []) ≡ false ∷ true ∷ [])
+    × (map (λ title. asks_after true title []) (lines_of (codes "HTTP/2 200\nHTTP/2 103\nGET / HTTP/2")) ≡ false ∷ true ∷ false ∷ [])
+    × (map (λ title. asks_after false title ([] ∷ [])) (lines_of (codes "HTTP/2 103\nGET / HTTP/2")) ≡ false ∷ true ∷ [])
     × (asks_after true (codes "HTTP/2 103") ([] ∷ []) ≡ false)
 unfolding is_version
 answers = (refl, refl, refl, refl, refl, refl, refl)

@@ -1,5 +1,5 @@
 -- Heads and offers have one report, with one verdict, so that a page that says less doesn't check.
-use Rattle.mime_headers.proofs.Common.{AddsChoice, AddsEntry, AddsHead, AddsReading, AddsType, Bool, Err, FieldError, FoldsTo, HasBoundary, IsAnswer, IsRead, IsReport, IsReportOf, List, MediaType, None, Ok, Option, Result, Some, State, Verdict, [], ap, ap₂, arith, bare_lines, codes, false, heads_of, is_cut, length, media_rows, nat_lt, no_field_error, offer_rows, one_field_error, one_printed_text, one_ranking, only_cut, refl, sym, true, ℕ, ◌++◌, ◌∙◌, ◌∷◌, ◌≡◌, rules}
+use Rattle.mime_headers.proofs.Common.{AddsChoice, AddsEntry, AddsHead, AddsType, Bool, Err, FieldError, FoldsTo, HasBoundary, IsAnswer, IsRead, IsReportOf, List, MediaType, None, Ok, Option, Result, Some, State, Verdict, [], ap, ap₂, arith, bare_lines, false, heads_of, is_cut, length, media_rows, nat_lt, no_field_error, one_field_error, one_printed_text, one_ranking, only_cut, refl, sym, trimmed, true, ℕ, ◌++◌, ◌∙◌, ◌∷◌, ◌≡◌, rules}
 
 -- A value is read in one way.
 one_reading : (value : List ℕ) (one other : Result MediaType FieldError) → IsRead value one → IsRead value other → one ≡ other
@@ -33,22 +33,19 @@ one_answer : (asked : Option (List MediaType)) (media : MediaType) (answer other
     → IsAnswer asked media other → answer ≡ other
 one_answer None media answer other is too = is ∙ sym too
 one_answer (Some ranges) media answer other (ranking, is, rows) (another, too, others) =
-    rows ∙ ap (offer_rows (codes "answer ") ranges (media ∷ [])) (one_ranking ranges (media ∷ []) ranking another is too)
-    ∙ sym others
+    cc (rows, others, one_ranking ranges (media ∷ []) ranking another is too)
 
 -- A value of `Content-Type` adds one text.
-one_added : (asked : Option (List MediaType)) (old : List ℕ × Bool) (value : List ℕ) (reading : Result MediaType FieldError)
-    (new other : List ℕ × Bool) → AddsReading asked old value reading new → AddsReading asked old value reading other
-    → new ≡ other
-one_added asked old value (Ok media) new other (one, answer, is, says, adds) (two, another, too, saying, more) =
-    adds ∙ ap₂ (λ boundary answer. (old.0 ++ (media_rows media boundary ++ answer), old.1)) (one_boundary media one two is too)
-    (one_answer asked media answer another says saying) ∙ sym more
-one_added asked old value (Err error) new other adds more = adds ∙ sym more
-
--- A value as it is written adds one text.
 one_type : (asked : Option (List MediaType)) (old : List ℕ × Bool) (value : List ℕ) (new other : List ℕ × Bool)
     → AddsType asked old value new → AddsType asked old value other → new ≡ other
-one_type asked old value new other (one, is, adds) (two, too, more) = search (one_added, one_reading, rules)
+one_type asked old value new other (Ok media, is, one) (Ok another, too, two) =
+    let same : media ≡ another = cc (one_reading (trimmed value) (Ok media) (Ok another) is too) in
+    let more = rw (← same) at two in
+    one.4 ∙ ap₂ (λ boundary answer. (old.0 ++ (media_rows media boundary ++ answer), old.1)) (one_boundary media one.0 more.0 one.2 more.2)
+    (one_answer asked media one.1 more.1 one.3 more.3) ∙ sym more.4
+one_type asked old value new other (Err e, is, one) (Err f, too, two) = cc (one_reading (trimmed value) (Err e) (Err f) is too)
+one_type asked old value new other (Ok m, is, one) (Err e, too, two) = absurd (cc (one_reading (trimmed value) (Ok m) (Err e) is too))
+one_type asked old value new other (Err e, is, one) (Ok m, too, two) = absurd (cc (one_reading (trimmed value) (Err e) (Ok m) is too))
 
 -- Lines of `Accept` add one text and make one choice.
 one_choice : (offers : List MediaType) (lines : List (List ℕ)) (old new other : State)
@@ -57,28 +54,22 @@ one_choice offers [] old new other one two = one.0 refl ∙ sym (two.0 refl)
 one_choice offers (line ∷ lines) old new other one two =
     let adds = one.1 (omega arith) in
     let more = two.1 (omega arith) in
-    let same = only_cut adds.are_read.cut ∙ sym (only_cut more.are_read.cut) in
-    let read = one_of_all AddsEntry one_entry _ _ _ _ (rw same at adds.are_read.entries) more.are_read.entries in
-    let rank = one_ranking more.read.1 offers adds.ranking more.ranking (rw (ap (λ it. it.1) read) at adds.is_ranking) more.is_ranking in
-    cc (adds.is_new, more.is_new, read, rank)
+    let same = only_cut adds.2.1 ∙ sym (only_cut more.2.1) in
+    let read = one_of_all AddsEntry one_entry _ _ _ _ (rw same at adds.2.2) more.2.2 in
+    cc (adds.4, more.4, read, one_ranking more.0.1 offers adds.1 more.1 (rw (ap (λ it. it.1) read) at adds.3) more.3)
 
 -- A head adds one text.
 one_head : (offers : List MediaType) (many : Bool) (old : State) (head : List (List ℕ)) (new other : State)
     → AddsHead offers many old head new → AddsHead offers many old head other → new ≡ other
-one_head offers many old head new other one two =
-    one_choice offers _ _ _ _ (rw (one_of_all _ (one_type _) _ _ _ _ one.types two.types) at one.chosen) two.chosen
-
--- Heads have one report.
-one_of_heads : (offers : List MediaType) (cut : Bool) (heads : List (List (List ℕ))) (text other : List ℕ) (verdict another : Verdict)
-    → IsReport offers cut heads text verdict → IsReport offers cut heads other another → (text ≡ other) × (verdict ≡ another)
-one_of_heads offers cut heads text other verdict another one two =
-    let many = nat_lt 1 (length heads) in
-    let none : State = record { text = []; are_good = true; choice = None; asks = false } in
-    let same = one_of_all (AddsHead offers many) (one_head offers many) none heads one.state two.state one.adds two.adds in
-    let last = one_choice offers _ _ _ _ (rw same at one.chosen) two.chosen in
-    (cc (one.is_text, two.is_text, last), cc (one.is_verdict, two.is_verdict, last))
+one_head offers many old head new other (one, types, chosen) (two, also, choice) =
+    one_choice offers _ _ _ _ (rw (one_of_all _ (one_type _) _ _ _ _ types also) at chosen) choice
 
 -- Bytes and offers have one report, with one verdict.
 one_report : (offers : List MediaType) (bytes text other : List ℕ) (verdict another : Verdict) → IsReportOf offers bytes text verdict
     → IsReportOf offers bytes other another → (text ≡ other) × (verdict ≡ another)
-one_report offers bytes = one_of_heads offers (is_cut bytes) (heads_of (is_cut bytes) (bare_lines (is_cut bytes) bytes))
+one_report offers bytes text other verdict another one two =
+    let heads = heads_of (is_cut bytes) (bare_lines (is_cut bytes) bytes) in
+    let none : State = record { text = []; are_good = true; choice = None; asks = false } in
+    let same = one_of_all _ (one_head offers (nat_lt 1 (length heads))) none heads one.state two.state one.adds two.adds in
+    let last = one_choice offers _ _ _ _ (rw same at one.chosen) two.chosen in
+    (cc (one.is_text, two.is_text, last), cc (one.is_verdict, two.is_verdict, last))

@@ -9,9 +9,12 @@ use Rattle.mime_headers.specs.declared.report.Report.{Report}
 abbrev pub lines_now : Vec (Bor (List ℕ)) Global → List (List ℕ)
 lines_now lines = map (λ line. line.now) (vec_items lines)
 
+abbrev pub medias : List Mime → List MediaType
+medias mimes = map (λ mime. mime.media) mimes
+
 -- a choice, with its ranges as media types
 abbrev pub choice_now : Option (Vec Mime Global × Bool) → Option (List MediaType × Bool)
-choice_now choice = option_map (λ choice. (map (λ range. range.media) (vec_items choice.0), choice.1)) choice
+choice_now choice = option_map (λ choice. (medias (vec_items choice.0), choice.1)) choice
 
 -- what a report knows
 abbrev pub state_now : Report → State

@@ -1,11 +1,11 @@
 -- The report on heads and offers: the rows of each `Content-Type`, of `Accept`, and of each offer (RFC 9110, 8.3, 12.5.1 and 15.5.7).
-use Rattle.std.specs.Prelude.{◌≡◌, ◌≢◌, ◌<◌, ℕ, ◌+◌, ◌/◌, ◌%◌, Bool, true, false, List, [], ◌∷◌, ◌++◌, ◌==◌, ◌||◌, ◌&&◌, not, Option, Some, None, Result, Ok, Err, MatchOption, option_and_then, option_map, unwrap_or, map, flat_map, length, slice_get, replicate, nat_lt, if◌then◌else◌, codes}
+use Rattle.std.specs.Prelude.{◌≡◌, ◌≢◌, ◌<◌, ℕ, ◌+◌, ◌/◌, ◌%◌, Bool, true, false, List, [], ◌∷◌, ◌++◌, ◌==◌, ◌||◌, ◌&&◌, not, Option, Some, None, Result, Ok, Err, MatchOption, MatchResult, option_and_then, option_map, unwrap_or, map, flat_map, length, slice_get, replicate, nat_lt, if◌then◌else◌, codes}
 use Rattle.std.specs.{Char.is_ascii_graphic, Fmt.decimal, Fmt.digits, List.FoldsTo, List.enumerate_from, Str.IsUtf8}
 use Rattle.mime.specs.{Values.MediaType, Values.suffix_of}
 use Rattle.mime_http.specs.{Boundary.IsBoundaryOf, HttpFaults.HttpExplains, HttpFaults.fault_position, HttpList.trimmed, HttpList.AreBetweenCommas, HttpList.IsPrinted, HttpList.IsPiece, HttpList.BeginsPiece, HttpMediaType.HttpReads, HttpPrinted.field_error_text, Lacks.is_quoted, Lacks.lacked, Ranges.weight_of, Ranges.first_value, Ranking.is_qvalue, Ranking.IsRanking, Unescaped.unescaped, declared.ranking.RankedOffer.RankedOffer, declared.value.FieldError.FieldError, declared.value.FieldError.TheVariants.NoMemory}
 use Rattle.mime_io.specs.{Lines.row, Stops.limit}
 use Rattle.mime_headers.specs.{Head.bare_lines, Head.heads_of, Head.is_interim, Head.is_spaced, Head.is_status_line, Head.title_of, Head.values_of, Shown.without_controls}
-use Rattle.mime_headers.specs.declared.verdict.Verdict.{Verdict}
+use Rattle.mime_headers.specs.declared.report.Verdict.{Verdict}
 
 -- A value of a field is read as this media type, which is printed for the value, or is rejected with this error, which isn't `NoMemory`.
 abbrev pub IsRead : List ℕ → Result MediaType FieldError → Type 0
@@ -40,20 +40,17 @@ fault_rows label value error =
 
 -- ---- Content-Type
 
--- the row of a parameter with what its value means
-abbrev pub param_row : List ℕ × List ℕ → List ℕ
-param_row (name, value) = row (codes "param ") (name ++ (codes "=" ++ unescaped value))
-
 -- the row of a text, or nothing if there is none
 abbrev pub row_if : List ℕ → Option (List ℕ) → List ℕ
-row_if label None = []
-row_if label (Some text) = row label text
+row_if label text = unwrap_or (option_map (row label) text) []
 
--- the rows of a media type: its kept text, its essence, its suffix if there is one, each parameter, and its boundary if there is one
+-- the rows of a media type: its kept text, its essence, its suffix if there is one, each parameter with what its value means, and its
+-- boundary if there is one
 abbrev pub media_rows : MediaType → Option (List ℕ) → List ℕ
 media_rows media boundary =
-    codes "Content-Type " ++ (media.kept ++ (codes "\nessence " ++ (media.essence ++ (codes "\n"
-    ++ (row_if (codes "suffix ") (suffix_of media) ++ (flat_map param_row media.pairs ++ row_if (codes "boundary ") boundary))))))
+    codes "Content-Type " ++ (media.kept ++ (codes "\nessence " ++ (media.essence ++ (codes "\n" ++ (row_if (codes "suffix ")
+    (suffix_of media) ++ (flat_map (λ pair. row (codes "param ") (pair.0 ++ (codes "=" ++ unescaped pair.1))) media.pairs
+    ++ row_if (codes "boundary ") boundary))))))
 
 -- a media type has this boundary, or none
 abbrev pub HasBoundary : MediaType → Option (List ℕ) → Type 0
@@ -65,21 +62,15 @@ HasBoundary media boundary = MatchOption boundary ((bytes : List ℕ) → ¬ (Is
 abbrev pub weight_text : ℕ → List ℕ
 weight_text weight = (48 + weight / 1000 % 10) ∷ 46 ∷ (48 + weight / 100 % 10) ∷ (48 + weight / 10 % 10) ∷ (48 + weight % 10) ∷ []
 
--- a label, a weight and a media type's kept text
-abbrev pub weighed_text : List ℕ → ℕ → MediaType → List ℕ
-weighed_text label weight media = label ++ (weight_text weight ++ (codes " " ++ media.kept))
-
 -- whether RFC 9110, 12.4.2, allows the `q` of a range that is read of an entry: it is a qvalue, without quotes, or there is none
 unfoldable pub is_plain : List ℕ → MediaType → Bool
-is_plain entry range =
-    unwrap_or (option_map is_qvalue (first_value (codes "q") range.pairs)) true && not (is_quoted false false entry)
+is_plain entry range = unwrap_or (option_map is_qvalue (first_value (codes "q") range.pairs)) true && not (is_quoted false false entry)
 
 -- the row of a range that is read of an entry, with a remark if its `q` isn't allowed
 abbrev pub range_row : List ℕ → MediaType → List ℕ
 range_row entry range =
-    weighed_text (codes "Accept ") (weight_of range) range
-    ++ (if is_plain entry range then codes "\n"
-    else codes " (q isn't a weight in HTTP, counted as " ++ (weight_text (weight_of range) ++ codes ")\n"))
+    codes "Accept " ++ (weight_text (weight_of range) ++ (codes " " ++ (range.kept ++ (if is_plain entry range then codes "\n"
+    else codes " (q isn't a weight in HTTP, counted as " ++ (weight_text (weight_of range) ++ codes ")\n")))))
 
 -- a report and its ranges after an entry: an entry that is a range adds its row and itself, and a rejected entry adds its fault's rows
 abbrev pub with_entry : List ℕ × List MediaType → List ℕ → Result MediaType FieldError → List ℕ × List MediaType
@@ -93,10 +84,9 @@ AddsEntry old entry new =
     × (0 < length entry → (reading : Result MediaType FieldError) × IsRead entry reading × (new ≡ with_entry old entry reading))
 
 -- Lines add their entries in order: the texts between commas outside strings, each without the white space around it.
-pub record AddsLines (lines : List (List ℕ)) (old new : List ℕ × List MediaType) : Type 0 where
-  pub pieces : List (List ℕ)
-  pub cut : AreBetweenCommas IsPiece BeginsPiece lines pieces
-  pub entries : FoldsTo AddsEntry old (map trimmed pieces) new
+abbrev pub AddsLines : List (List ℕ) → List ℕ × List MediaType → List ℕ × List MediaType → Type 0
+AddsLines lines old new =
+    (pieces : List (List ℕ)) × AreBetweenCommas IsPiece BeginsPiece lines pieces × FoldsTo AddsEntry old (map trimmed pieces) new
 
 -- ---- offers
 
@@ -118,9 +108,9 @@ lacks_text offer decider (at, range) =
 abbrev pub offer_row : List ℕ → List MediaType → RankedOffer → Option MediaType → List ℕ
 offer_row label ranges one None = []
 offer_row label ranges one (Some offer) =
-    weighed_text label one.weight offer
-    ++ (codes " by " ++ (unwrap_or (option_map numbered (decider ranges one)) (codes "none")
-    ++ (flat_map (lacks_text offer (option_map (λ item. item.1) (decider ranges one))) (enumerate_from 0 ranges) ++ codes "\n")))
+    label ++ (weight_text one.weight ++ (codes " " ++ (offer.kept ++ (codes " by "
+    ++ (unwrap_or (option_map numbered (decider ranges one)) (codes "none")
+    ++ (flat_map (lacks_text offer (option_map (λ item. item.1) (decider ranges one))) (enumerate_from 0 ranges) ++ codes "\n"))))))
 
 -- the rows of the offers, in the ranking's order
 abbrev pub offer_rows : List ℕ → List MediaType → List MediaType → List RankedOffer → List ℕ
@@ -129,36 +119,29 @@ offer_rows label ranges offers ranking = flat_map (λ one. offer_row label range
 -- the row of the best offer, the ranking's first, or of 406 if it weighs 0; and whether an offer is acceptable or there are no offers
 abbrev pub best_row : List MediaType → List RankedOffer → List ℕ × Bool
 best_row offers [] = ([], true)
-best_row offers (one ∷ ranking) =
-    if one.weight == 0 then (codes "406 Not Acceptable\n", false)
-    else (row_if (codes "best ") (option_map (λ best. best.kept) (slice_get offers one.offer)), true)
+best_row offers (one ∷ ranking) = if one.weight == 0 then (codes "406 Not Acceptable\n", false) else
+    (row_if (codes "best ") (option_map (λ best. best.kept) (slice_get offers one.offer)), true)
 
 -- ---- Content-Type in an answer
 
 -- the row of a response's media type, which is weighed like an offer by the ranges of the request, if that has an `Accept`
 abbrev pub IsAnswer : Option (List MediaType) → MediaType → List ℕ → Type 0
-IsAnswer None media answer = answer ≡ []
-IsAnswer (Some ranges) media answer =
-    (ranking : List RankedOffer) × IsRanking ranges (media ∷ []) ranking × (answer ≡ offer_rows (codes "answer ") ranges (media ∷ []) ranking)
+IsAnswer asked media answer = MatchOption asked (answer ≡ []) (λ ranges. (ranking : List RankedOffer)
+    × IsRanking ranges (media ∷ []) ranking × (answer ≡ offer_rows (codes "answer ") ranges (media ∷ []) ranking))
 
--- What is read of a value of `Content-Type` adds its rows to a report, for the ranges `asked` of a request. `are_good`, whether all values so
--- far are accepted, becomes `false` if this value is rejected.
-abbrev pub AddsReading : Option (List MediaType) → List ℕ × Bool → List ℕ → Result MediaType FieldError → List ℕ × Bool → Type 0
-AddsReading asked (text, are_good) value (Ok media) new =
-    (boundary : Option (List ℕ)) × (answer : List ℕ) × HasBoundary media boundary × IsAnswer asked media answer
-    × (new ≡ (text ++ (media_rows media boundary ++ answer), are_good))
-AddsReading asked (text, are_good) value (Err error) new = new ≡ (text ++ fault_rows (codes "bad Content-Type ") value error, false)
-
--- A value of `Content-Type` is read without the white space around it (RFC 9110, 5.5), and what is read adds its rows.
+-- A value of `Content-Type` is read without the white space around it (RFC 9110, 5.5), and what is read adds its rows to a report, for the
+-- ranges `asked` of a request. `are_good`, whether all values so far are accepted, becomes `false` if this value is rejected.
 abbrev pub AddsType : Option (List MediaType) → List ℕ × Bool → List ℕ → List ℕ × Bool → Type 0
-AddsType asked old value new =
-    (reading : Result MediaType FieldError) × IsRead (trimmed value) reading × AddsReading asked old (trimmed value) reading new
+AddsType asked (text, are_good) value new =
+    (reading : Result MediaType FieldError) × IsRead (trimmed value) reading × MatchResult reading
+    (λ media. (boundary : Option (List ℕ)) × (answer : List ℕ) × HasBoundary media boundary × IsAnswer asked media answer
+    × (new ≡ (text ++ (media_rows media boundary ++ answer), are_good)))
+    (λ error. new ≡ (text ++ fault_rows (codes "bad Content-Type ") (trimmed value) error, false))
 
 -- the row which says that there is no `Content-Type`, or more than one; nothing if there is one
 abbrev pub count_row : List (List ℕ) → List ℕ
 count_row [] = codes "no Content-Type\n"
-count_row (value ∷ []) = []
-count_row (value ∷ other ∷ values) = codes "several Content-Type lines (HTTP allows one)\n"
+count_row (value ∷ values) = if length values == 0 then [] else codes "several Content-Type lines (HTTP allows one)\n"
 
 -- ---- heads
 
@@ -167,35 +150,26 @@ abbrev pub empty_row : List ℕ → List ℕ → List ℕ
 empty_row old new = if length old == length new then codes "empty Accept\n" else []
 
 -- The lines of `Accept`, which are one list (RFC 9110, 5.3), and the offers add their rows to a report, and make a choice by their ranges.
-pub record IsChoice (offers : List MediaType) (lines : List (List ℕ)) (old new : State) : Type 0 where
-  pub read : List ℕ × List MediaType
-  pub are_read : AddsLines lines (old.text, []) read
-  pub ranking : List RankedOffer
-  pub is_ranking : IsRanking read.1 offers ranking
-  pub is_new : new ≡ record old {
-    text = read.0 ++ (empty_row old.text read.0 ++ (offer_rows (codes "offer ") read.1 offers ranking ++ (best_row offers ranking).0));
-    choice = Some (read.1, (best_row offers ranking).1);
-  }
-
--- Without lines of `Accept`, nothing is added, and no choice is made.
+-- Without lines, nothing is added, and no choice is made.
 abbrev pub AddsChoice : List MediaType → List (List ℕ) → State → State → Type 0
-AddsChoice offers lines old new = (length lines ≡ 0 → new ≡ old) × (0 < length lines → IsChoice offers lines old new)
+AddsChoice offers lines old new =
+    (length lines ≡ 0 → new ≡ old) × (0 < length lines → (read : List ℕ × List MediaType) × (ranking : List RankedOffer)
+    × AddsLines lines (old.text, []) read × IsRanking read.1 offers ranking × (new ≡ record old {
+      text = read.0 ++ (empty_row old.text read.0 ++ (offer_rows (codes "offer ") read.1 offers ranking ++ (best_row offers ranking).0));
+      choice = Some (read.1, (best_row offers ranking).1);
+    }))
 
--- the row of a head's title, if there are several heads
-abbrev pub title_row : Bool → List (List ℕ) → List ℕ
-title_row many head = if many then row (codes "head ") (shown (title_of head)) else []
+-- a row of what is shown of bytes, if it is wanted
+abbrev pub row_when : Bool → List ℕ → List ℕ → List ℕ
+row_when wanted label bytes = if wanted then row label (shown bytes) else []
 
--- the row of a line with white space between the name `Content-Type` or `Accept` and a colon; nothing for any other line
+-- the row of a line with white space between the name `Content-Type` or `Accept` and a colon
 abbrev pub spaced_row : List ℕ → List ℕ
-spaced_row line =
-    if is_spaced (codes "content-type") line || is_spaced (codes "accept") line then row (codes "white space before the colon: ") (shown line) else []
+spaced_row it = row_when (is_spaced (codes "content-type") it || is_spaced (codes "accept") it) (codes "white space before the colon: ") it
 
--- the values of the two fields in a head
-abbrev pub types_in : List (List ℕ) → List (List ℕ)
-types_in head = values_of (codes "content-type:") head
-
-abbrev pub accepts_in : List (List ℕ) → List (List ℕ)
-accepts_in head = values_of (codes "accept:") head
+-- the row of a head's title, if there are several heads, and those of its lines with white space before a colon
+abbrev pub title_rows : Bool → List (List ℕ) → List ℕ
+title_rows many head = row_when many (codes "head ") (title_of head) ++ flat_map spaced_row head
 
 -- the ranges by which a head is weighed: those of the last choice, if it is that of a request (`asks`) and the head answers it. A head with
 -- this title and these values of `Content-Type` does so if it is a response that isn't interim, with one value.
@@ -208,17 +182,15 @@ asked_by asks choice title values =
 abbrev pub asks_after : Bool → List ℕ → List (List ℕ) → Bool
 asks_after asks title accepts = if is_status_line title then asks && (is_interim title && length accepts == 0) else nat_lt 0 (length accepts)
 
--- A head adds, in order: its title, its lines with white space before a colon, its values of `Content-Type`, `count_row`, and its choice.
-pub record AddsHead (offers : List MediaType) (many : Bool) (old : State) (head : List (List ℕ)) (new : State) : Type 0 where
-  pub typed : List ℕ × Bool
-  pub types : FoldsTo (AddsType (asked_by old.asks old.choice (title_of head) (types_in head)))
-      (old.text ++ (title_row many head ++ flat_map spaced_row head), old.are_good) (types_in head) typed
-  pub chosen : AddsChoice offers (accepts_in head) (record {
-    text = typed.0 ++ count_row (types_in head);
-    are_good = typed.1;
-    choice = old.choice;
-    asks = asks_after old.asks (title_of head) (accepts_in head);
-  }) new
+-- A head adds, in order: `title_rows`, its values of `Content-Type`, `count_row`, and its choice.
+abbrev pub AddsHead : List MediaType → Bool → State → List (List ℕ) → State → Type 0
+AddsHead offers many old head new =
+    let types = values_of (codes "content-type:") head in
+    let accepts = values_of (codes "accept:") head in
+    let asks = asks_after old.asks (title_of head) accepts in
+    (typed : List ℕ × Bool) × FoldsTo (AddsType (asked_by old.asks old.choice (title_of head) types))
+    (old.text ++ title_rows many head, old.are_good) types typed
+    × AddsChoice offers accepts (record old { text = typed.0 ++ count_row types; are_good = typed.1; asks = asks }) new
 
 -- if there are offers and no head has an `Accept`, the row which says so, and the line that is read in its place
 abbrev pub missing : {Choice : Type 0} → List MediaType → Option Choice → List ℕ × List (List ℕ)
@@ -226,26 +198,21 @@ missing (offer ∷ offers) None = (codes "no Accept\n", codes "*/*" ∷ [])
 missing offers choice = ([], [])
 
 abbrev pub AddsMissing : List MediaType → State → State → Type 0
-AddsMissing offers old new =
-    AddsChoice offers (missing offers old.choice).1 (record old { text = old.text ++ (missing offers old.choice).0 }) new
-
--- the row which says that an input is cut off, if it is
-abbrev pub cut_row : Bool → List ℕ
-cut_row cut = if cut then codes "not read after 1048576 bytes\n" else []
+AddsMissing all old new = AddsChoice all (missing all old.choice).1 (record old { text = old.text ++ (missing all old.choice).0 }) new
 
 -- the verdict: acceptable if each `Content-Type` is accepted, and the last choice, if there is one, is `true`
 abbrev pub verdict_of : State → Verdict
-verdict_of state =
-    if state.are_good && unwrap_or (option_map (λ choice. choice.1) state.choice) true then Verdict.Acceptable else Verdict.NotAcceptable
+verdict_of end = if end.are_good && unwrap_or (option_map (λ it. it.1) end.choice) true then Verdict.Acceptable else Verdict.NotAcceptable
 
--- There are heads. The text is the report on them and on offers, without control characters, and the verdict is the report's.
+-- There are heads. The text is the report on them and on offers, and says if they are cut off. It has no control characters. The verdict is
+-- the report's.
 pub record IsReport (offers : List MediaType) (cut : Bool) (heads : List (List (List ℕ))) (text : List ℕ) (verdict : Verdict) : Type 0 where
   pub some : 0 < length heads
   pub state : State
   pub adds : FoldsTo (AddsHead offers (nat_lt 1 (length heads))) (record { text = []; are_good = true; choice = None; asks = false }) heads state
   pub last : State
   pub chosen : AddsMissing offers state last
-  pub is_text : text ≡ without_controls (last.text ++ cut_row cut)
+  pub is_text : text ≡ without_controls (last.text ++ row_when cut (codes "not read after ") (codes "1048576 bytes"))
   pub is_verdict : verdict ≡ verdict_of last
 
 -- whether an input is cut off: more bytes than the limit were read

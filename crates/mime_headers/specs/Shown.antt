@@ -5,28 +5,20 @@ use Rattle.std.specs.Prelude.{ℕ, ◌-◌, Bool, List, [], ◌∷◌, ◌==◌,
 abbrev pub is_within : ℕ → ℕ → ℕ → Bool
 is_within least most b = nat_le least b && nat_le b most
 
--- whether a byte is an ASCII control character other than the line feed: U+0000 to U+001F, or U+007F
-abbrev pub is_ascii_control : ℕ → Bool
-is_ascii_control b = (nat_lt b 32 && not (b == 10)) || b == 127
+-- the number of bytes of the control character that these bytes begin, with 0 for each that is missing: U+0000 to U+001F other than the line
+-- feed, U+007F to U+009F, or one that turns the direction of text: U+061C, U+200E, U+200F, U+202A to U+202E, or U+2066 to U+2069
+abbrev pub len_of : ℕ → ℕ → ℕ → ℕ
+len_of b c d =
+    if (nat_lt b 32 && not (b == 10)) || b == 127 then 1 else
+    if (b == 194 && is_within 128 159 c) || (b == 216 && c == 156) then 2 else
+    if b == 226 && ((c == 128 && (is_within 142 143 d || is_within 170 174 d)) || (c == 129 && is_within 166 169 d)) then 3 else 0
 
--- whether two bytes encode U+0080 to U+009F, or U+061C, which turns the direction of text
-abbrev pub is_control_of_two : ℕ → ℕ → Bool
-is_control_of_two b c = (b == 194 && is_within 128 159 c) || (b == 216 && c == 156)
-
--- whether these bytes after byte 226 encode a character that turns the direction of text: U+200E, U+200F, U+202A to U+202E, or U+2066 to
--- U+2069
-abbrev pub is_direction : ℕ → ℕ → Bool
-is_direction c d = (c == 128 && (is_within 142 143 d || is_within 170 174 d)) || (c == 129 && is_within 166 169 d)
-
--- the number of bytes of the control character that bytes begin with, which is one of the above; 0 if there is none
+-- the number of bytes of the control character that bytes begin with; 0 if there is none
 abbrev pub control_len : List ℕ → ℕ
 control_len [] = 0
-control_len (b ∷ []) = if is_ascii_control b then 1 else 0
-control_len (b ∷ c ∷ []) = if is_ascii_control b then 1 else if is_control_of_two b c then 2 else 0
-control_len (b ∷ c ∷ d ∷ bytes) =
-    if is_ascii_control b then 1 else
-    if is_control_of_two b c then 2 else
-    if b == 226 && is_direction c d then 3 else 0
+control_len (b ∷ []) = len_of b 0 0
+control_len (b ∷ c ∷ []) = len_of b c 0
+control_len (b ∷ c ∷ d ∷ bytes) = len_of b c d
 
 -- the bytes after the first `passed`, with a dot in place of each control character
 abbrev pub shown_after : ℕ → List ℕ → List ℕ

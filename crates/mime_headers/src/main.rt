@@ -12,12 +12,11 @@ mod report;
 mod shown;
 #[cfg(test)]
 mod tests;
-mod verdict;
 
 use crate::offers::read_offers;
 pub use crate::program::run;
+pub use crate::report::Verdict;
 use crate::shown::without_controls;
-pub use crate::verdict::Verdict;
 use mime_http::FieldError;
 use mime_io::{Device, RunError};
 use std::io::{Stdout, Write};
@@ -64,8 +63,8 @@ fn main(rt: HostRuntime) -> ExitCode {
             return stopped(&rt, &format_args!("bad offer {word}: {error}\n{usage}"));
         }
     };
-    let mut input = device(rt.stdin());
-    let mut output = device(Output {
+    let mut input = Device::of(rt.stdin());
+    let mut output = Device::of(Output {
         inner: rt.stdout(),
         is_closed: false,
     });
@@ -73,14 +72,6 @@ fn main(rt: HostRuntime) -> ExitCode {
         // Shells report this status for a write to a closed pipe.
         Err(RunError::Write) if output.inner.is_closed => ExitCode::from(141),
         outcome => status(&rt, outcome),
-    }
-}
-
-/// Returns a device over a reader or a writer.
-fn device<T>(inner: T) -> Device<T> {
-    Device {
-        inner,
-        failed: false,
     }
 }
 

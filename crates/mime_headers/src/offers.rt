@@ -1,8 +1,7 @@
 //! The offers that the arguments name.
 
-ghost use Rattle.std.specs.Prelude.{[], Ok, Err, drop, take, map, string_bytes, MatchResult};
-ghost use Rattle.std.specs.Vec.{vec_items};
-ghost use Rattle.std.specs.Vec.Iter.{into_iter_items, into_iter_len};
+ghost use Rattle.std.specs.Prelude.{[], drop, take, map, string_bytes};
+ghost use Rattle.std.specs.{Result.result_map_both, Vec.vec_items, Vec.Iter.into_iter_items, Vec.Iter.into_iter_len};
 ghost use Rattle.mime_headers.specs.Program.{AreOffers};
 
 use mime::Mime;
@@ -14,18 +13,13 @@ use std::env::Args;
 ///
 /// # Errors
 /// Returns the first argument that isn't a media type, and its fault. If memory runs out, returns the argument reached, and `NoMemory`.
-pub(crate) fn read_offers(
-    alloc: Global,
-    mut arguments: Args,
-) -> Result<Vec<Mime>, (String, FieldError)>
-    ensures { MatchResult result
-        (λ offers. AreOffers (map string_bytes (drop 1 (take (into_iter_len arguments) (into_iter_items arguments)))) []
-        (Ok (map (λ offer. offer.media) (vec_items offers))))
-        (λ error. AreOffers (map string_bytes (drop 1 (take (into_iter_len arguments) (into_iter_items arguments)))) [] (Err error)) }
+pub(crate) fn read_offers(alloc: Global, mut words: Args) -> Result<Vec<Mime>, (String, FieldError)>
+    ensures { AreOffers (map string_bytes (drop 1 (take (into_iter_len words) (into_iter_items words)))) []
+        (result_map_both (λ offers. map (λ offer. offer.media) (vec_items offers)) (λ error. error) result) }
 {
-    let _program = arguments.next();
+    let _program = words.next();
     let mut offers = Vec::new(alloc);
-    while let Some(word) = arguments.next() {
+    while let Some(word) = words.next() {
         let offer = match content_type(alloc, word.as_bytes()) {
             Ok(offer) => offer,
             Err(error) => return Err((word, error)),

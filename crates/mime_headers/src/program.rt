@@ -3,11 +3,9 @@
 ghost use Rattle.std.specs.Prelude.{◌≡◌, ◌≢◌, ℕ, List, ◌≤◌, ◌+◌, [], length, map, false, true, OnOk, IfOk, IfErr};
 ghost use Rattle.std.specs.Io.KnownBytes.{Consumes, Appends, IsAtEnd};
 ghost use Rattle.mime_io.specs.Stops.{limit};
-ghost use Rattle.mime_headers.specs.Head.{bare_lines, heads_of};
-ghost use Rattle.mime_headers.specs.Report.{IsReportOf};
+ghost use Rattle.mime_headers.specs.{Head.bare_lines, Head.heads_of, Report.IsReportOf};
 
-use crate::report::report_of;
-use crate::verdict::Verdict;
+use crate::report::{Verdict, report_of};
 use mime::Mime;
 use mime_io::{LIMIT, RunError, Sink, Source, read_past_limit, write_report};
 use std::alloc::{AllocError, Global};

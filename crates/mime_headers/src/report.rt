@@ -1,19 +1,15 @@
 //! The report on heads.
 
-ghost use Rattle.std.specs.Prelude.{◌≡◌, ◌++◌, ℕ, false, List, [], Err, Ok, Option, map, flat_map, true, if◌then◌else◌, OnOk, IfOk, MatchOption, option_map, slice_get, unwrap_or};
-ghost use Rattle.std.specs.List.{FoldsTo, enumerate_from};
-ghost use Rattle.std.specs.Vec.{vec_items};
+ghost use Rattle.std.specs.Prelude.{◌≡◌, ◌++◌, ℕ, List, [], Err, Ok, Option, map, flat_map, OnOk, IfOk, MatchOption, option_map, slice_get, unwrap_or};
+ghost use Rattle.std.specs.{List.FoldsTo, List.enumerate_from, Vec.vec_items};
 ghost use Rattle.mime_http.specs.Ranking.{IsRanking};
-ghost use Rattle.mime_io.specs.Lines.{row};
-ghost use Rattle.mime_headers.specs.Head.{bare_lines, heads_of};
-ghost use Rattle.mime_headers.specs.Inner.{choice_now, state_now};
-ghost use Rattle.mime_headers.specs.Report.{AddsChoice, AddsEntry, AddsHead, AddsLines, AddsMissing, AddsType, HasBoundary, IsAnswer, IsRead, IsReportOf, asked_by, asks_after, best_row, byte_text, count_row, decider, fault_rows, is_cut, is_plain, lacks_text, media_rows, numbered, offer_row, offer_rows, range_row, row_if, shown, spaced_row, verdict_of, weighed_text, weight_text};
+ghost use Rattle.mime_headers.specs.{Head.bare_lines, Head.heads_of, Inner.choice_now, Inner.medias, Inner.state_now};
+ghost use Rattle.mime_headers.specs.Report.{AddsChoice, AddsEntry, AddsHead, AddsLines, AddsMissing, AddsType, HasBoundary, IsAnswer, IsRead, IsReportOf, asked_by, asks_after, best_row, byte_text, count_row, decider, fault_rows, is_cut, is_plain, lacks_text, media_rows, offer_row, offer_rows, row_if, range_row, row_when, spaced_row, verdict_of, weight_text};
 
 use crate::head::{
     Made, bare_lines, heads_of, is_interim, is_spaced, is_status_line, title_of, values_of,
 };
 use crate::shown::without_controls;
-use crate::verdict::Verdict;
 use mime::Mime;
 use mime_http::{
     FieldError, RankedOffer, boundary, content_type, first_entry, has_quoted_weight, has_weight,
@@ -22,8 +18,15 @@ use mime_http::{
 use mime_io::LIMIT;
 use std::alloc::{AllocError, Global};
 
-/// A report's text and its verdict.
-pub(crate) type Answer = (Vec<u8>, Verdict);
+/// A verdict on all `Content-Type` fields of an input, and on the offers. The last head with an `Accept` decides the offers' weights.
+#[derive(Clone, Copy, PartialEq, Eq, Debug)]
+pub enum Verdict {
+    /// Each `Content-Type` is accepted. An offer weighs more than 0, or there are no offers.
+    Acceptable,
+    /// A `Content-Type` is rejected, or there are offers and each weighs 0. In the latter case, a server may reply with 406 (RFC 9110,
+    /// 15.5.7).
+    NotAcceptable,
+}
 
 /// The ranges of lines of `Accept`, and whether an offer is acceptable or there are no offers. `None` if no head has an `Accept`.
 type Choice = Option<(Vec<Mime>, bool)>;
@@ -46,7 +49,11 @@ struct Report {
 }
 
 /// Returns the text and the verdict of the report on the heads of an input and on offers, or `None` if the input has no head.
-pub(crate) fn report_of(alloc: Global, input: &[u8], offers: &[Mime]) -> Made<Option<Answer>>
+pub(crate) fn report_of(
+    alloc: Global,
+    input: &[u8],
+    offers: &[Mime],
+) -> Made<Option<(Vec<u8>, Verdict)>>
     ensures { IfOk result (λ answer. MatchOption answer (heads_of (is_cut input.now) (bare_lines (is_cut input.now) input.now) ≡ [])
         (λ answer. IsReportOf (map (λ offer. offer.media) offers.now) input.now (vec_items answer.0) answer.1)) }
 {
@@ -67,12 +74,8 @@ pub(crate) fn report_of(alloc: Global, input: &[u8], offers: &[Mime]) -> Made<Op
         push_head(&mut report, offers, many, head.as_slice())?;
     }
     push_missing(&mut report, offers)?;
-    push_shown(
-        &mut report.text,
-        is_cut,
-        b"not read after ",
-        b"1048576 bytes",
-    )?;
+    let text = &mut report.text;
+    push_shown(text, is_cut, b"not read after ", b"1048576 bytes")?;
     let verdict = verdict_of(&report);
     Ok(Some((without_controls(alloc, report.text)?, verdict)))
 }
@@ -90,8 +93,7 @@ fn verdict_of(report: &Report) -> Verdict
 
 /// Adds the rows of a head. `many` says whether there are several heads.
 fn push_head(report: &mut Report, offers: &[Mime], many: bool, head: &[&[u8]]) -> Made<()>
-    ensures { OnOk result (AddsHead (map (λ offer. offer.media) offers.now) many (state_now report.old) (map (λ line. line.now) head.now)
-        (state_now report.new)) }
+    ensures { OnOk result (AddsHead (medias offers.now) many (state_now report.old) (map (λ it. it.now) head.now) (state_now report.new)) }
 {
     let alloc = *report.text.allocator();
     let title = title_of(head);
@@ -111,14 +113,11 @@ fn push_head(report: &mut Report, offers: &[Mime], many: bool, head: &[&[u8]]) -
 /// Returns the ranges by which a head is weighed if it is a response that isn't interim (RFC 9110, 15.2), with one `Content-Type`. So each
 /// `Accept` weighs at most one media type.
 fn asked_by<'a>(choice: &'a Choice, asks: bool, title: &[u8], types: &[Vec<u8>]) -> Asked<'a>
-    ensures { option_map (λ ranges. map (λ range. range.media) ranges.now) result
-        ≡ asked_by asks (choice_now choice.now) title.now (map vec_items types.now) }
+    ensures { option_map (λ ranges. medias ranges.now) result ≡ asked_by asks (choice_now choice.now) title.now (map vec_items types.now) }
 {
+    let is_answer = asks && is_status_line(title) && !is_interim(title) && types.len() == 1;
     match choice {
-        Some((ranges, _))
-            if asks && is_status_line(title) && !is_interim(title) && types.len() == 1 => {
-            Some(ranges)
-        }
+        Some((ranges, _)) if is_answer => Some(ranges),
         _ => None,
     }
 }
@@ -136,7 +135,7 @@ fn asks_after(asks: bool, title: &[u8], accepts: &[Vec<u8>]) -> bool
 
 /// Adds `no Accept`, and the rows of the offers, if there are offers and no head has an `Accept` (RFC 9110, 12.5.1).
 fn push_missing(report: &mut Report, offers: &[Mime]) -> Made<()>
-    ensures { OnOk result (AddsMissing (map (λ offer. offer.media) offers.now) (state_now report.old) (state_now report.new)) }
+    ensures { OnOk result (AddsMissing (medias offers.now) (state_now report.old) (state_now report.new)) }
 {
     if offers.is_empty() || report.choice.is_some() {
         return Ok(());
@@ -148,8 +147,7 @@ fn push_missing(report: &mut Report, offers: &[Mime]) -> Made<()>
 
 /// Adds the rows of the lines of `Accept` and of the offers, or nothing if there are no lines.
 fn push_choice(report: &mut Report, offers: &[Mime], lines: &[Vec<u8>]) -> Made<()>
-    ensures { OnOk result (AddsChoice (map (λ offer. offer.media) offers.now) (map vec_items lines.now) (state_now report.old)
-        (state_now report.new)) }
+    ensures { OnOk result (AddsChoice (medias offers.now) (map vec_items lines.now) (state_now report.old) (state_now report.new)) }
 {
     if lines.is_empty() {
         return Ok(());
@@ -168,10 +166,9 @@ fn push_choice(report: &mut Report, offers: &[Mime], lines: &[Vec<u8>]) -> Made<
 
 /// Adds the rows of offers, the best first, and returns the ranking.
 fn push_offers(text: &mut Vec<u8>, label: &[u8], ranges: &[Mime], offers: &[Mime]) -> Made<Ranking>
-    ensures ranking { IfOk result (λ ranking.
-        IsRanking (map (λ range. range.media) ranges.now) (map (λ offer. offer.media) offers.now) (vec_items ranking)) }
+    ensures ranking { IfOk result (λ ranking. IsRanking (medias ranges.now) (medias offers.now) (vec_items ranking)) }
     ensures rows { IfOk result (λ ranking. vec_items text.new ≡ vec_items text.old
-        ++ offer_rows label.now (map (λ range. range.media) ranges.now) (map (λ offer. offer.media) offers.now) (vec_items ranking)) }
+        ++ offer_rows label.now (medias ranges.now) (medias offers.now) (vec_items ranking)) }
 {
     let ranking = rank_offers(*text.allocator(), ranges, offers)?;
     for one in &ranking {
@@ -203,7 +200,7 @@ fn push_if(text: &mut Vec<u8>, label: &[u8], bytes: Option<&[u8]>) -> Made<()>
 
 /// Adds a row of a label and bytes if `is_wanted`. A dot replaces each byte that isn't printable ASCII.
 fn push_shown(text: &mut Vec<u8>, is_wanted: bool, label: &[u8], bytes: &[u8]) -> Made<()>
-    ensures { OnOk result (vec_items text.new ≡ vec_items text.old ++ (if is_wanted then row label.now (shown bytes.now) else [])) }
+    ensures { OnOk result (vec_items text.new ≡ vec_items text.old ++ row_when is_wanted label.now bytes.now) }
 {
     if !is_wanted {
         return Ok(());
@@ -227,10 +224,9 @@ fn push_spaced(text: &mut Vec<u8>, head: &[&[u8]]) -> Made<()>
     Ok(())
 }
 
-/// Adds the rows of values of `Content-Type`, each trimmed. `asked` has the ranges by which they are weighed, if any. Sets `good` to
-/// `false` if a value is rejected.
+/// Adds the rows of trimmed values of `Content-Type`, weighed by `asked`, if any. Sets `good` to `false` if a value is rejected.
 fn push_types(text: &mut Vec<u8>, good: &mut bool, asked: Asked, values: &[Vec<u8>]) -> Made<()>
-    ensures { OnOk result (FoldsTo (AddsType (option_map (λ ranges. map (λ range. range.media) ranges.now) asked.entry))
+    ensures { OnOk result (FoldsTo (AddsType (option_map (λ ranges. medias ranges.now) asked.entry))
         (vec_items text.old, good.old) (map vec_items values.now) (vec_items text.new, good.new)) }
 {
     for value in values {
@@ -246,7 +242,7 @@ fn push_types(text: &mut Vec<u8>, good: &mut bool, asked: Asked, values: &[Vec<u
 
 /// Adds the row of a response's media type, weighed like an offer by `asked`, or nothing if `asked` is `None`.
 fn push_answer(text: &mut Vec<u8>, asked: Asked, mime: Mime) -> Made<()>
-    ensures { OnOk result ((answer : List ℕ) × IsAnswer (option_map (λ ranges. map (λ range. range.media) ranges.now) asked.entry) mime.media answer
+    ensures { OnOk result ((answer : List ℕ) × IsAnswer (option_map (λ ranges. medias ranges.now) asked.entry) mime.media answer
         × (vec_items text.new ≡ vec_items text.old ++ answer)) }
 {
     if let Some(ranges) = asked {
@@ -302,6 +298,7 @@ fn push_media(text: &mut Vec<u8>, mime: &Mime) -> Made<()>
 }
 
 /// Adds the rows of a rejected value of a field.
+#[tactic(auto, using(std::proofs::Common::append_assoc))]
 fn push_fault(text: &mut Vec<u8>, label: &[u8], value: &[u8], error: FieldError) -> Made<()>
     ensures { OnOk result (vec_items text.new ≡ vec_items text.old ++ fault_rows label.now value.now error) }
 {
@@ -340,10 +337,9 @@ fn push_byte(text: &mut Vec<u8>, byte: Option<u8>) -> Made<()>
         _ if byte.is_ascii_graphic() => &printed,
         _ => b"",
     };
-    let remark = if byte == b'(' {
-        b"): HTTP has no comments".as_slice()
-    } else {
-        b")"
+    let remark = match byte {
+        b'(' => b"): HTTP has no comments".as_slice(),
+        _ => b")",
     };
     let number = format!(in *text.allocator(); "{byte:X}")?;
     push(text, &[name, b" (", number.as_bytes(), remark])
@@ -351,8 +347,8 @@ fn push_byte(text: &mut Vec<u8>, byte: Option<u8>) -> Made<()>
 
 /// Adds the rows of each entry in lines of `Accept`, and pushes the ranges to `ranges`.
 fn push_lines(text: &mut Vec<u8>, ranges: &mut Vec<Mime>, lines: &[Vec<u8>]) -> Made<()>
-    ensures { OnOk result (AddsLines (map vec_items lines.now) (vec_items text.old, map (λ range. range.media) (vec_items ranges.old))
-        (vec_items text.new, map (λ range. range.media) (vec_items ranges.new))) }
+    ensures { OnOk result (AddsLines (map vec_items lines.now) (vec_items text.old, medias (vec_items ranges.old))
+        (vec_items text.new, medias (vec_items ranges.new))) }
 {
     for line in lines {
         let mut left = line.as_slice();
@@ -370,8 +366,8 @@ fn push_lines(text: &mut Vec<u8>, ranges: &mut Vec<Mime>, lines: &[Vec<u8>]) -> 
 
 /// Adds the rows of an entry that isn't empty, and pushes it to `ranges` if it is a range.
 fn push_entry(text: &mut Vec<u8>, ranges: &mut Vec<Mime>, entry: &[u8]) -> Made<()>
-    ensures { OnOk result (AddsEntry (vec_items text.old, map (λ range. range.media) (vec_items ranges.old)) entry.now
-        (vec_items text.new, map (λ range. range.media) (vec_items ranges.new))) }
+    ensures { OnOk result (AddsEntry (vec_items text.old, medias (vec_items ranges.old)) entry.now
+        (vec_items text.new, medias (vec_items ranges.new))) }
 {
     if entry.is_empty() {
         return Ok(());
@@ -387,14 +383,15 @@ fn push_entry(text: &mut Vec<u8>, ranges: &mut Vec<Mime>, entry: &[u8]) -> Made<
 fn push_range(text: &mut Vec<u8>, entry: &[u8], range: &Mime) -> Made<()>
     ensures { OnOk result (vec_items text.new ≡ vec_items text.old ++ range_row entry.now range.now.media) }
 {
-    let weight = weight_of(range);
-    push_weighed(text, b"Accept ", weight, range)?;
+    let (weight, kept) = (decimals(weight_of(range)), range.as_str().as_bytes());
     if is_plain(entry, range) {
-        return push(text, &[b"\n"]);
+        return push(text, &[b"Accept ", &weight, b" ", kept, b"\n"]);
     }
     let remark = b" (q isn't a weight in HTTP, counted as ";
-    push(text, &[remark, &decimals(weight), b")\n"])?;
-    Ok(())
+    push(
+        text,
+        &[b"Accept ", &weight, b" ", kept, remark, &weight, b")\n"],
+    )
 }
 
 /// Returns `true` if an entry has a weight as RFC 9110 allows it (12.4.2), or none. `range` is what is read of the entry.
@@ -409,23 +406,9 @@ fn is_plain(entry: &[u8], range: &Mime) -> bool
 fn decimals(weight: u16) -> [u8; 5]
     ensures { result ≡ weight_text weight }
 {
-    [
-        b'0' + (weight / 1000 % 10) as u8,
-        b'.',
-        b'0' + (weight / 100 % 10) as u8,
-        b'0' + (weight / 10 % 10) as u8,
-        b'0' + (weight % 10) as u8,
-    ]
-}
-
-/// Adds a label, a weight with three decimals, and a media type. `weight` is in thousandths.
-fn push_weighed(text: &mut Vec<u8>, label: &[u8], weight: u16, mime: &Mime) -> Made<()>
-    ensures { OnOk result (vec_items text.new ≡ vec_items text.old ++ weighed_text label.now weight mime.now.media) }
-{
-    push(
-        text,
-        &[label, &decimals(weight), b" ", mime.as_str().as_bytes()],
-    )
+    let digit = |rest: u16| b'0' + (rest % 10) as u8;
+    let (tenth, hundredth) = (digit(weight / 100), digit(weight / 10));
+    [digit(weight / 1000), b'.', tenth, hundredth, digit(weight)]
 }
 
 /// Adds the row of a ranked offer, or nothing if `offer` is `None`.
@@ -437,16 +420,19 @@ fn push_offer(
     offer: Option<&Mime>,
 ) -> Made<()>
     ensures { OnOk result (vec_items text.new ≡ vec_items text.old
-        ++ offer_row label.now (map (λ range. range.media) ranges.now) one.now (option_map (λ offer. offer.now.media) offer.entry)) }
+        ++ offer_row label.now (medias ranges.now) one.now (option_map (λ offer. offer.now.media) offer.entry)) }
 {
     let Some(offer) = offer else {
         return Ok(());
     };
-    push_weighed(text, label, one.weight, offer)?;
-    push(text, &[b" by "])?;
+    let (weight, kept) = (decimals(one.weight), offer.as_str().as_bytes());
+    push(text, &[label, &weight, b" ", kept, b" by "])?;
     let decider = decider(ranges, one);
     match decider {
-        Some((at, range)) => push_numbered(text, at, range)?,
+        Some((at, range)) => {
+            let number = format!(in *text.allocator(); "{}", at as u128 + 1)?;
+            push(text, &[number.as_bytes(), b" ", range.as_str().as_bytes()])?;
+        }
         None => push(text, &[b"none"])?,
     }
     push_lacked(text, ranges, decider.map(|decider| decider.1), offer)?;
@@ -455,30 +441,24 @@ fn push_offer(
 
 /// Returns the range that decides the weight of an offer, with its position, or `None` if none does.
 fn decider<'r>(ranges: &'r [Mime], one: &RankedOffer) -> Option<(usize, &'r Mime)>
-    ensures { option_map (λ item. (item.0, item.1.now.media)) result ≡ decider (map (λ range. range.media) ranges.now) one.now }
+    ensures { option_map (λ item. (item.0, item.1.now.media)) result ≡ decider (medias ranges.now) one.now }
 {
     let at = one.range?;
-    Some((at, nth(ranges, at)?))
+    Some((at, ranges.get(at)?))
 }
 
 /// Adds each range that would decide the weight of an offer if the offer didn't lack a parameter.
-fn push_lacked(
-    text: &mut Vec<u8>,
-    ranges: &[Mime],
-    decider: Option<&Mime>,
-    offer: &Mime,
-) -> Made<()>
+fn push_lacked(text: &mut Vec<u8>, ranges: &[Mime], by: Option<&Mime>, offer: &Mime) -> Made<()>
     ensures { OnOk result (vec_items text.new ≡ vec_items text.old
-        ++ flat_map (lacks_text offer.now.media (option_map (λ decider. decider.now.media) decider.entry))
-        (enumerate_from 0 (map (λ range. range.media) ranges.now))) }
+        ++ flat_map (lacks_text offer.now.media (option_map (λ range. range.now.media) by.entry)) (enumerate_from 0 (medias ranges.now))) }
 {
     for (at, range) in ranges.iter().enumerate() {
-        if let Some((name, value)) = lacked(range, decider, offer) {
+        if let Some((name, value)) = lacked(range, by, offer) {
             push(text, &[b" (lacks ", name.text.as_bytes(), b"="])?;
             unescape(value.text, text)?;
-            push(text, &[b" of "])?;
-            push_numbered(text, at, range)?;
-            push(text, &[b")"])?;
+            let number = format!(in *text.allocator(); "{}", at as u128 + 1)?;
+            let kept = range.as_str().as_bytes();
+            push(text, &[b" of ", number.as_bytes(), b" ", kept, b")"])?;
         }
     }
     Ok(())
@@ -486,35 +466,22 @@ fn push_lacked(
 
 /// Returns the media type at a position, or `None` if there is none.
 fn nth(mimes: &[Mime], at: usize) -> Option<&Mime>
-    ensures { option_map (λ mime. mime.now.media) result ≡ slice_get (map (λ mime. mime.media) mimes.now) at }
+    ensures { option_map (λ mime. mime.now.media) result ≡ slice_get (medias mimes.now) at }
 {
     mimes.get(at)
 }
 
-/// Adds the number (from 1) and the text of the range at position `at`.
-fn push_numbered(text: &mut Vec<u8>, at: usize, range: &Mime) -> Made<()>
-    ensures { OnOk result (vec_items text.new ≡ vec_items text.old ++ numbered (at, range.now.media)) }
-{
-    let number = format!(in *text.allocator(); "{}", at as u128 + 1)?;
-    push(text, &[number.as_bytes(), b" ", range.as_str().as_bytes()])
-}
-
-/// Adds the row of the best offer, or `406 Not Acceptable` if no offer is acceptable. Adds nothing if there are no offers. Returns `true`
-/// if an offer is acceptable or there are no offers.
+/// Adds the row of the best offer, or of 406 if none is acceptable, or nothing if there are none. Returns `false` if it adds that of 406.
 fn push_best(text: &mut Vec<u8>, offers: &[Mime], ranking: &[RankedOffer]) -> Made<bool>
-    ensures rows { OnOk result (vec_items text.new ≡ vec_items text.old ++ (best_row (map (λ offer. offer.media) offers.now) ranking.now).0) }
-    ensures acceptable { IfOk result (λ acceptable. acceptable ≡ (best_row (map (λ offer. offer.media) offers.now) ranking.now).1) }
+    ensures rows { OnOk result (vec_items text.new ≡ vec_items text.old ++ (best_row (medias offers.now) ranking.now).0) }
+    ensures acceptable { IfOk result (λ acceptable. acceptable ≡ (best_row (medias offers.now) ranking.now).1) }
 {
     match ranking.first() {
         None => Ok(true),
-        Some(first) if first.weight == 0 => {
-            push(text, &[b"406 Not Acceptable\n"])?;
-            Ok(false)
-        }
+        Some(first) if first.weight == 0 => push(text, &[b"406 Not Acceptable\n"]).map(|()| false),
         Some(first) => {
             let best = nth(offers, first.offer).map(|best| best.as_str().as_bytes());
-            push_if(text, b"best ", best)?;
-            Ok(true)
+            push_if(text, b"best ", best).map(|()| true)
         }
     }
 }

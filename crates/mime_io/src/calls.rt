@@ -22,14 +22,11 @@ impl Calls {
         input: &'static [u8],
         report: &'static [u8],
     ) -> Device<Calls> {
-        Device {
-            inner: Calls {
-                left,
-                input,
-                report,
-            },
-            failed: false,
-        }
+        Device::of(Calls {
+            left,
+            input,
+            report,
+        })
     }
 
     /// Removes the next expected call if it is `call` or `x`. Succeeds only if it is `call`.

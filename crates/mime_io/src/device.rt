@@ -1,6 +1,6 @@
 //! Sources from which a program reads, sinks to which it writes, and devices, which are sources or sinks.
 
-ghost use Rattle.std.specs.Prelude.{◌≡◌, List, ℕ, Bool, true, Option, Ok, IsErr, MatchResult, OnOk, OnErr, ⊤};
+ghost use Rattle.std.specs.Prelude.{◌≡◌, List, ℕ, Bool, false, true, Option, Ok, IsErr, MatchResult, OnOk, OnErr, ⊤};
 ghost use Rattle.std.specs.Io.{ReadsAtMost};
 ghost use Rattle.std.specs.Io.KnownBytes.{ReadConsumes, Appends, Keeps};
 
@@ -55,7 +55,7 @@ pub trait Sink {
 }
 
 /// An adapter that makes a reader a source, and a writer a sink. Each method calls the method of `inner` with the same
-/// name. For example, `Device { inner: rt.stdin(), failed: false }` reads standard input.
+/// name. For example, `Device::of(rt.stdin())` reads standard input.
 #[derive(Drop)]
 pub struct Device<T> {
     /// The reader or writer.
@@ -65,6 +65,17 @@ pub struct Device<T> {
 }
 
 impl<T> Device<T> {
+    /// Returns a device over a reader or a writer, of which no call has failed.
+    pub fn of(inner: T) -> Device<T>
+        ensures inner { result.inner ≡ inner }
+        ensures failed { result.failed ≡ false }
+    {
+        Device {
+            inner,
+            failed: false,
+        }
+    }
+
     /// Returns `answer`, the result of a call of `inner`, without an error's cause. An error sets the flag `failed`.
     fn flagged<V>(&mut self, answer: io::Result<V>) -> Result<V, Failed>
         ensures inner { self.new.inner ≡ self.old.inner }

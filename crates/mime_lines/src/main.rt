@@ -47,14 +47,7 @@ fn main(rt: HostRuntime) -> ExitCode {
         let _ = eprintln!(rt; "usage: mime_lines [list]");
         return ExitCode::from(2);
     };
-    let mut input = Device {
-        inner: rt.stdin(),
-        failed: false,
-    };
-    let mut output = Device {
-        inner: rt.stdout(),
-        failed: false,
-    };
+    let (mut input, mut output) = (Device::of(rt.stdin()), Device::of(rt.stdout()));
     let outcome = run(rt.alloc(), &mut input, &mut output, mode);
     ended(&rt, outcome)
 }

@@ -8,14 +8,6 @@ const LINE: &[u8] = b"a/b";
 
 const REPORT: &[u8] = b"ok a/b\ntype a\nsubtype b\n";
 
-/// Returns a device over a reader or a writer.
-fn device<T>(inner: T) -> Device<T> {
-    Device {
-        inner,
-        failed: false,
-    }
-}
-
 #[test]
 fn makes_these_calls_alone(rt: HostRuntime) {
     let cases: [(&[u8], &[u8], Result<(), RunError>); 5] = [
@@ -41,7 +33,7 @@ fn a_report_may_be_longer_than_the_limit(rt: HostRuntime) {
     let mut sink = Calls::device(b"of", LINE, REPORT);
     let got = run(
         rt.alloc(),
-        &mut device(line_feeds.as_slice()),
+        &mut Device::of(line_feeds.as_slice()),
         &mut sink,
         Mode::Parts,
     );
@@ -53,9 +45,9 @@ fn a_report_may_be_longer_than_the_limit(rt: HostRuntime) {
 /// nothing.
 fn fills_slice(rt: &HostRuntime, mode: Mode, input: &[u8], report: &[u8]) -> bool {
     let mut room = [0u8; 256];
-    let mut sink = device(room.as_mut_slice());
+    let mut sink = Device::of(room.as_mut_slice());
     let _ = println!(rt; "now");
-    let answer = run(rt.alloc(), &mut device(input), &mut sink, mode);
+    let answer = run(rt.alloc(), &mut Device::of(input), &mut sink, mode);
     let _ = println!(rt; "end");
     let count = 256usize.saturating_sub(sink.inner.len());
     let _ = println!(rt; "{answer:?}, {count} of {} bytes", report.len());

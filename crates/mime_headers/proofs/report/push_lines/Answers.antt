@@ -5,22 +5,16 @@ use Rattle.mime_headers.proofs.report.push_lines.Goals as goal
 pub loop-rest-preserved : goal.loop-rest-preserved
 loop-rest-preserved c end adds =
     let cut = rw c.in-Some.is at c.first_entry.ensures in
-    c.loop-rest.invariant end (rw cut.0 (record {
-      pieces = c.first_entry.result.0.now ∷ adds.pieces;
-      cut = comma _ _ _ adds.pieces cut.1 adds.cut;
-      entries = (_, rw c.trimmed.ensures at c.in_ok-push_entry.ensures, adds.entries);
-    }))
+    let entry = rw c.trimmed.ensures at c.in_ok-push_entry.ensures in
+    c.loop-rest.invariant end (rw cut.0 (c.first_entry.result.0.now ∷ adds.0, comma _ _ _ adds.0 cut.1 adds.1, (_, entry, adds.2)))
 
 pub loop-line-preserved : goal.loop-line-preserved
 loop-line-preserved c end adds =
     let cut = rw c.in_default.is at c.first_entry.ensures in
-    c.loop-rest.invariant end (rw cut.0 (record {
-      pieces = c.first_entry.result.0.now ∷ adds.pieces;
-      cut = line_end _ _ adds.pieces cut.1 adds.cut;
-      entries = (_, rw c.trimmed.ensures at c.in_ok-push_entry.ensures, adds.entries);
-    }))
+    let entry = rw c.trimmed.ensures at c.in_ok-push_entry.ensures in
+    c.loop-rest.invariant end (rw cut.0 (c.first_entry.result.0.now ∷ adds.0, line_end _ _ adds.0 cut.1 adds.1, (_, entry, adds.2)))
 
 pub returns : goal.returns
 returns c =
     let past : length c.args.lines.now ≤ c.loop-line.line-index = omega arith in
-    c.loop-line.invariant _ (rw (drop_of_length-le c.args.lines.now past) (record { pieces = []; cut = no_line; entries = refl }))
+    c.loop-line.invariant _ (rw (drop_of_length-le c.args.lines.now past) ([], no_line, refl))

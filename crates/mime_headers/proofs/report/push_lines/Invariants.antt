@@ -1,19 +1,17 @@
 -- What adding the entries that are left adds, adding all does.
-use Rattle.mime_headers.proofs.Common.{AddsLines, List, MediaType, drop, length, map, vec_items, ℕ, ◌+◌, ◌∷◌}
+use Rattle.mime_headers.proofs.Common.{AddsLines, List, MediaType, drop, length, map, medias, vec_items, ℕ, ◌+◌, ◌∷◌}
 use Rattle.mime_headers.proofs.report.push_lines.Given as goal
 
 abbrev pub invariant-loop-line : goal.invariant-loop-line
 invariant-loop-line l =
-    (end : List ℕ × List MediaType)
-    → AddsLines (map vec_items (drop l.line-index l.lines)) (vec_items l.text, map (λ range. range.media) (vec_items l.ranges)) end
-    → AddsLines (map vec_items l.fn.lines) (vec_items l.fn.text, map (λ range. range.media) (vec_items l.fn.ranges)) end
+    (end : List ℕ × List MediaType) → AddsLines (map vec_items (drop l.line-index l.lines)) (vec_items l.text, medias (vec_items l.ranges)) end
+    → AddsLines (map vec_items l.fn.lines) (vec_items l.fn.text, medias (vec_items l.fn.ranges)) end
 
 abbrev pub invariant-loop-rest : goal.invariant-loop-rest
 invariant-loop-rest l =
-    (end : List ℕ × List MediaType) → AddsLines (l.left ∷ map vec_items (drop (l.line-index + 1) l.lines)) (
-      vec_items l.text,
-      map (λ range. range.media) (vec_items l.ranges),
-    ) end → AddsLines (map vec_items l.fn.lines) (vec_items l.fn.text, map (λ range. range.media) (vec_items l.fn.ranges)) end
+    let left = l.left ∷ map vec_items (drop (l.line-index + 1) l.lines) in
+    (end : List ℕ × List MediaType) → AddsLines left (vec_items l.text, medias (vec_items l.ranges)) end
+    → AddsLines (map vec_items l.fn.lines) (vec_items l.fn.text, medias (vec_items l.fn.ranges)) end
 
 abbrev pub decreases-loop-rest : goal.decreases-loop-rest
 decreases-loop-rest l = length l.left
