@@ -63,8 +63,8 @@ CALLS = [
 ]
 
 
-# The function of mime_bench that makes an operation, if it hasn't its name.
-MADE_BY = {"boundary": "meant_boundary", "weight_of": "weight", "covers": "cover",
+# The function of mime_bench that makes an operation, if it hasn't its name, or has types in it.
+MADE_BY = {"boundary": "meant_boundary", "weight_of": "weight", "covers": "cover", "hash": "hash::*",
            **dict.fromkeys("unescape accept best order rank weight write_charset write_boundary write_name".split(), "one")}
 
 
