@@ -1,7 +1,7 @@
 -- The bytes that a search for the end of a token, or of quoted text, passes.
 use Rattle.std.proofs.Common.{◌≡◌, ℕ, ◌<◌, List, [], ◌∷◌, length, Bool, true, false, not, refl, sym, ap, ◌∙◌, arith, inl, inr}
-use Rattle.std.specs.Prelude.{◌||◌, nat_lt}
-use Rattle.std.specs.{Char.to_ascii_lowercase, List.list_all, List.prefix_len, List.range_with_len, Int.Bits.bit_or}
+use Rattle.std.specs.Prelude.{◌||◌, ◌↔◌, nat_lt}
+use Rattle.std.specs.{Char.to_ascii_lowercase, List.list_all, List.prefix_len, List.range_with_len, Int.Bits.bit_or, Int.Bits.or_zero_r}
 use Rattle.std.proofs.{lemmas.Bool.lt-ltb, lemmas.Bool.cases_lt, lemmas.Bool.not-true, lemmas.Bool.true≢false, lemmas.Bool.Decides.nat_tests, Math.Bool.or-true, Math.Numerals.one-add, lemmas.Nat.le_or_l}
 use Rattle.mime_search.proofs.IgnoringCase.{at_byte}
 use Rattle.mime.specs.{Bytes.is_token_byte, Bytes.is_quoted_byte, Bytes.is_quoted_text_byte, Inner.ByteClasses.is_token_except_plus}
@@ -37,16 +37,21 @@ pub are_quoted_text : (b : ℕ) → not (is_stop TEXT_STOPS b) ≡ true → is_q
 unfolding is_quoted_byte
 are_quoted_text b go = in_ranges TEXT_STOPS is_quoted_text_byte (omega arith) (omega arith) (omega arith) refl b (not-true _ go)
 
--- A search for a capital passes only bytes that are in lowercase.
-are_low : (b : ℕ) → not (is_stop CAPITALS b) ≡ true → to_ascii_lowercase b ≡ b
-are_low b go = grind (arith, nat_tests, go)
+-- A search for a capital passes exactly the bytes that are in lowercase.
+are_low : (b : ℕ) → (not (is_stop CAPITALS b) ≡ true) ↔ (to_ascii_lowercase b ≡ b)
+are_low b = (λ go. grind (arith, nat_tests, go), λ low. grind (arith, nat_tests, or_zero_r b, low))
 
--- Bytes of which each is in lowercase are in lowercase.
-low_bytes : (class : ℕ → Bool) → ((b : ℕ) → class b ≡ true → to_ascii_lowercase b ≡ b) → (bytes : List ℕ)
-    → prefix_len class bytes ≡ length bytes → lowered bytes ≡ bytes
-low_bytes class low [] all = refl
-low_bytes class low (b ∷ bytes) all = grind (arith, nat_tests, one-add (prefix_len class bytes), low b, low_bytes class low bytes, all)
+-- Bytes are in lowercase exactly if a run of those in lowercase has all.
+low_bytes : (class : ℕ → Bool) → ((b : ℕ) → (class b ≡ true) ↔ (to_ascii_lowercase b ≡ b)) → (bytes : List ℕ)
+    → (prefix_len class bytes ≡ length bytes) ↔ (lowered bytes ≡ bytes)
+low_bytes class low [] = (λ _. refl, λ _. refl)
+low_bytes class low (b ∷ bytes) = (
+  λ all. grind (arith, nat_tests, one-add (prefix_len class bytes), (low b).0, (low_bytes class low bytes).0, all),
+  λ same. grind (arith, nat_tests, one-add (prefix_len class bytes), (low b).1, (low_bytes class low bytes).1, same),
+)
 
--- A text in which no capital is found is in lowercase.
-pub no_capital_found : (text : List ℕ) → end_of_run CAPITALS text 0 ≡ length text → lowered text ≡ text
-no_capital_found text all = low_bytes (λ b. not (is_stop CAPITALS b)) are_low text (omega (arith, all))
+-- No capital is found in a text exactly if it is in lowercase.
+pub no_capital_found : (text : List ℕ) → (end_of_run CAPITALS text 0 ≡ length text) ↔ (lowered text ≡ text)
+no_capital_found text =
+    let low = low_bytes (λ b. not (is_stop CAPITALS b)) are_low text in
+    (λ all. low.0 (omega (arith, all)), λ same. omega (arith, low.1 same))

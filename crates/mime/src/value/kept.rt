@@ -38,7 +38,7 @@ fn has_capital_far(bytes: &[u8]) -> bool
 /// Returns `true` if any of the bytes is an ASCII capital.
 #[inline(always)]
 pub(crate) fn has_capital(bytes: &[u8]) -> bool
-    ensures { IsFalse result → lowered bytes.now ≡ bytes.now }
+    ensures { IsFalse result ↔ (lowered bytes.now ≡ bytes.now) }
 {
     if bytes.len() > 8 * BLOCK {
         return has_capital_far(bytes);

@@ -10,7 +10,7 @@ pub returns-then-not-has_capital : goal.returns-then-not-has_capital
 returns-then-not-has_capital c =
     let text = c.args.text.now in
     let none : lowered text ≡ text =
-    subst (λ t. lowered t ≡ t) c.as_bytes.ensures.value (c.has_capital.ensures c.if-not-has_capital.true) in
+    subst (λ t. lowered t ≡ t) c.as_bytes.ensures.value (c.has_capital.ensures.0 c.if-not-has_capital.true) in
     let low = low-in_part text _ (kept-in_part c.args.count c.args.semicolon text) none in
     let P : List ℕ → Type 0 = λ t. IfOk c.from_str.result (λ kept. string_bytes kept ≡ t) in
     subst P (sym low) c.from_str.ensures.ok

@@ -11,5 +11,5 @@ returns-else-has_capital-clause-lowered c =
     let n = length text in
     let same = c.requires.same in
     let low : lowered text ≡ text
-    = ap lowered (sym same) ∙ lowered-take n c.args.block.now ∙ ap (take n) (c.has_capital.ensures c.if-has_capital.false) ∙ same in
+    = ap lowered (sym same) ∙ lowered-take n c.args.block.now ∙ ap (take n) (c.has_capital.ensures.0 c.if-has_capital.false) ∙ same in
     same ∙ sym (low-in_part text _ (kept-in_part c.args.count c.args.semicolon text) low)
