@@ -92,13 +92,6 @@ fn are_token_bytes(bytes: &[u8]) -> bool
     bytes.iter().all(|byte| mime::is_token(*byte))
 }
 
-/// Returns `true` if bytes are a token.
-fn is_token(bytes: &[u8]) -> bool
-    ensures { result ≡ is_token bytes.now }
-{
-    !bytes.is_empty() && are_token_bytes(bytes)
-}
-
 /// Returns `true` if bytes are an HTTP version, such as `HTTP/1.1` or `HTTP/2`.
 #[tactic(auto, unfolding(crate::specs::Head::is_version))]
 fn is_version(bytes: &[u8]) -> bool
@@ -109,23 +102,12 @@ fn is_version(bytes: &[u8]) -> bool
     has_name && bytes[5].is_ascii_digit() && (bytes.len() == 6 || is_minor())
 }
 
-/// Returns `true` if all bytes are digits.
-fn are_digits(bytes: &[u8]) -> bool
-    ensures { result ≡ list_all is_ascii_digit bytes.now }
-{
-    bytes.iter().all(|byte| byte.is_ascii_digit())
-}
-
 /// Returns `true` if a text is a status line, such as `HTTP/1.1 200 OK` or `HTTP/2 200`.
 pub(crate) fn is_status_line(text: &[u8]) -> bool
     ensures { result ≡ is_status_line text.now }
 {
     let (version, rest) = cut(text, b' ');
-    if !is_version(version) {
-        return false;
-    }
-    let code = cut(rest, b' ').0;
-    code.len() == 3 && are_digits(code)
+    is_version(version) && matches!(cut(rest, b' ').0, [b'0'..=b'9', b'0'..=b'9', b'0'..=b'9'])
 }
 
 /// Returns `true` if a status line is that of an interim response, such as `HTTP/1.1 100 Continue`.
@@ -142,7 +124,7 @@ fn is_start(text: &[u8]) -> bool
 {
     let (method, rest) = cut(text, b' ');
     let (target, version) = cut(rest, b' ');
-    is_status_line(text) || (is_version(version) && is_token(method) && !target.is_empty())
+    is_status_line(text) || (is_version(version) && !method.is_empty() && are_token_bytes(method) && !target.is_empty())
 }
 
 /// Returns `true` if a text begins with a field's name and a colon.
@@ -150,14 +132,7 @@ fn is_field(text: &[u8]) -> bool
     ensures { result ≡ is_field text.now }
 {
     let name = cut(text, b':').0;
-    is_token(name) && name.len() < text.len()
-}
-
-/// Returns `true` if a text begins a head. `first` says whether it may be a field's.
-fn begins_head(first: bool, text: &[u8]) -> bool
-    ensures { result ≡ (is_start text.now || (first && is_field text.now)) }
-{
-    is_start(text) || (first && is_field(text))
+    !name.is_empty() && are_token_bytes(name) && name.len() < text.len()
 }
 
 /// Returns `true` if a line that is no start line ends the head with a mark.
@@ -203,7 +178,7 @@ pub(crate) fn heads_of<'a>(alloc: Global, lines: &[&'a [u8]], is_cut: bool) -> M
     let mut mark: &[u8] = &[];
     for line in lines {
         let text = text_of(line);
-        if begins_head(first & !is_open, text) {
+        if is_start(text) || (first && !is_open && is_field(text)) {
             push_counted(&mut heads, is_open, head)?;
             head = Vec::new(alloc);
             head.push(text)?;
