@@ -97,9 +97,8 @@ fn are_token_bytes(bytes: &[u8]) -> bool
 fn is_version(bytes: &[u8]) -> bool
     ensures { result ≡ is_version bytes.now }
 {
-    let has_name = bytes.len() >= 6 && &bytes[..5] == b"HTTP/".as_slice();
-    let is_minor = || bytes.len() == 8 && bytes[6] == b'.' && bytes[7].is_ascii_digit();
-    has_name && bytes[5].is_ascii_digit() && (bytes.len() == 6 || is_minor())
+    let end = bytes.strip_prefix(b"HTTP/");
+    matches!(end, Some([b'0'..=b'9'] | [b'0'..=b'9', b'.', b'0'..=b'9']))
 }
 
 /// Returns `true` if a text is a status line, such as `HTTP/1.1 200 OK` or `HTTP/2 200`.
@@ -124,7 +123,8 @@ fn is_start(text: &[u8]) -> bool
 {
     let (method, rest) = cut(text, b' ');
     let (target, version) = cut(rest, b' ');
-    is_status_line(text) || (is_version(version) && !method.is_empty() && are_token_bytes(method) && !target.is_empty())
+    let has_target = !target.is_empty() && is_version(version);
+    is_status_line(text) || (has_target && !method.is_empty() && are_token_bytes(method))
 }
 
 /// Returns `true` if a text begins with a field's name and a colon.
@@ -151,16 +151,16 @@ pub(crate) fn title_of<'a>(head: &[&'a [u8]]) -> &'a [u8]
     head.first().copied().unwrap_or(&[])
 }
 
-/// Adds a head if `is_wanted` and the head counts: it has a start line, a `Content-Type` or an `Accept`.
-fn push_counted<'a>(heads: &mut Vec<Head<'a>>, is_wanted: bool, head: Head<'a>) -> Made<()>
+/// Adds a head if it has a line and counts: it has a start line, a `Content-Type` or an `Accept`.
+fn push_counted<'a>(heads: &mut Vec<Head<'a>>, head: Head<'a>) -> Made<()>
     ensures { OnOk result (map lines_now (vec_items heads.new) ≡ map lines_now (vec_items heads.old)
-        ++ (if is_wanted then filter counts (lines_now head.entry ∷ []) else [])) }
+        ++ (if length (vec_items head.entry) == 0 then [] else filter counts (lines_now head.entry ∷ []))) }
 {
     let mut counts = is_start(title_of(&head));
     for line in &head {
         counts = counts || begins(b"content-type:", line) || begins(b"accept:", line);
     }
-    if is_wanted && counts {
+    if counts && !head.is_empty() {
         heads.push(head)?;
     }
     Ok(())
@@ -172,33 +172,29 @@ pub(crate) fn heads_of<'a>(alloc: Global, lines: &[&'a [u8]], is_cut: bool) -> M
 {
     let mut heads = Vec::new(alloc);
     let mut first = true;
-    // Whether a head has begun and not ended, its lines so far, and its mark.
-    let mut is_open = false;
+    // The lines so far of a head that has begun and not ended, or none, and the head's mark.
     let mut head = Vec::new(alloc);
     let mut mark: &[u8] = &[];
     for line in lines {
         let text = text_of(line);
-        if is_start(text) || (first && !is_open && is_field(text)) {
-            push_counted(&mut heads, is_open, head)?;
+        if is_start(text) || (first && head.is_empty() && is_field(text)) {
+            push_counted(&mut heads, head)?;
             head = Vec::new(alloc);
             head.push(text)?;
             mark = &line[..line.len() - text.len()];
-            is_open = true;
+        } else if head.is_empty() {
             continue;
-        }
-        if !is_open {
-            continue;
-        }
-        if is_end(mark, line) {
-            push_counted(&mut heads, true, head)?;
+        } else if is_end(mark, line) {
+            push_counted(&mut heads, head)?;
             head = Vec::new(alloc);
-            is_open = false;
             first = false;
         } else if begins(mark, line) {
             head.push(&line[mark.len()..])?;
         }
     }
-    push_counted(&mut heads, is_open & !is_cut, head)?;
+    if !is_cut {
+        push_counted(&mut heads, head)?;
+    }
     Ok(heads)
 }
 
