@@ -205,30 +205,25 @@ fn goes_on(line: &[u8]) -> bool
     matches!(line, [b' ' | b'\t', ..])
 }
 
-/// Returns a field's value: `begin`, and the lines at the start of `after` that continue it. All are trimmed, and joined by single spaces.
-fn whole_value(alloc: Global, begin: &[u8], after: &[&[u8]]) -> Made<Vec<u8>>
-    ensures { IfOk result (λ value. vec_items value ≡ trimmed begin.now ++ continued (map (λ line. line.now) after.now)) }
-{
-    let mut value = trimmed(begin).to_vec(alloc)?;
-    for line in after {
-        if !goes_on(line) {
-            return Ok(value);
-        }
-        value.push(b' ')?;
-        value.extend_from_slice(trimmed(line))?;
-    }
-    Ok(value)
-}
-
-/// Returns the values of a field in a head, in order. `label` is the field's name and a colon.
+/// Returns the values of a field in a head, in order. `label` is the field's name and a colon. A value has the rest of a line, and the next
+/// lines that continue it. All are trimmed, and joined by single spaces.
 pub(crate) fn values_of(alloc: Global, label: &[u8], head: &[&[u8]]) -> Made<Vec<Vec<u8>>>
     ensures { IfOk result (λ values. map vec_items (vec_items values) ≡ values_of label.now (map (λ line. line.now) head.now)) }
 {
     let mut values = Vec::new(alloc);
     for (at, line) in head.iter().enumerate() {
-        if begins(label, line) {
-            values.push(whole_value(alloc, &line[label.len()..], &head[at + 1..])?)?;
+        if !begins(label, line) {
+            continue;
         }
+        let mut value = trimmed(&line[label.len()..]).to_vec(alloc)?;
+        for more in &head[at + 1..] {
+            if !goes_on(more) {
+                break;
+            }
+            value.push(b' ')?;
+            value.extend_from_slice(trimmed(more))?;
+        }
+        values.push(value)?;
     }
     Ok(values)
 }
