@@ -7,13 +7,15 @@ use Rattle.mime_headers.specs.{Head.is_start, Head.is_version, Report.is_plain}
 -- ---- lines
 
 -- White space before and after is left out, which a form feed and a carriage return aren't. A line loses a carriage return at its end, and
--- what is before its first `<` or `>` if it begins with another. An input loses a byte order mark and, if it is cut off, its last line.
+-- what is before its first `<` or `>` if it begins with another. An input loses a byte order mark and, if it is cut off, its last line. An
+-- input of one byte more than 1,048,576 is cut off.
 lines : (map trimmed (codes " \t a b\t " ∷ codes " \r " ∷ (12 ∷ codes " a ") ∷ []) ≡ codes "a b" ∷ codes "\r" ∷ (12 ∷ codes " a") ∷ [])
     × (map bare (lines_of (codes "a<\r\n\ra\r> b<\n\ra< b\n\ra\na\r\r")) ≡ lines_of (codes "a<\n> b<\n< b\n\ra\na\r"))
     × (bare_lines false (239 ∷ 187 ∷ 191 ∷ codes "a\r\nb") ≡ lines_of (codes "a\nb"))
     × (bare_lines false (239 ∷ 187 ∷ codes "a\n") ≡ (239 ∷ 187 ∷ codes "a") ∷ [])
     × (map (bare_lines true) (codes "a\nb\n" ∷ codes "a\nb" ∷ []) ≡ (codes "a" ∷ []) ∷ (codes "a" ∷ []) ∷ [])
-lines = (refl, refl, refl, refl, refl)
+    × ((bytes : List ℕ) → (length bytes ≡ 1048576 → is_cut bytes ≡ false) × (length bytes ≡ 1048577 → is_cut bytes ≡ true))
+lines = (refl, refl, refl, refl, refl, λ bytes. (λ len. rw len refl, λ len. rw len refl))
 
 -- A mark is white space, `> ` or `< `, or both. Lines of its head begin with it. It ends a head, also without the space at its end, and so
 -- does a line that doesn't begin with it if it is an indent.
@@ -30,21 +32,21 @@ start_lines :
     (filter is_version (lines_of (codes "HTTP/1.1\nHTTP/2\nhttp/2\nHTTP/a\nHTTP/1.\nHTTP/1.a\nHTTP/1 1\nHTTP/10\nHTTP/1.11\nHTTP/\nHTTP_2"))
     ≡ lines_of (codes "HTTP/1.1\nHTTP/2"))
     × (filter is_status_line (lines_of (codes "HTTP/1.1 200 O\nHTTP/2 200 \nHTTP/2 200\nHTTP/2 is.\nHTTP/2 2000\nHTTP/2 20a\nHTTP/2  200"))
-    ≡ lines_of (codes "HTTP/1.1 200 O\nHTTP/2 200 \nHTTP/2 200"))
-    × (filter is_start (lines_of (codes "GET / HTTP/2\nHTTP/2 200\n HTTP/2 200\na: b\nGET  HTTP/2\n / HTTP/2\nG:T / HTTP/2\nGET / HTTP/2 \nGET /"))
-    ≡ lines_of (codes "GET / HTTP/2\nHTTP/2 200")) × (is_start (codes "GET / b HTTP/2") ≡ false)
+    ≡ lines_of (codes "HTTP/1.1 200 O\nHTTP/2 200 \nHTTP/2 200")) × (filter is_start (lines_of
+    (codes "GET / HTTP/2\nHTTP/2 200\n HTTP/2 200\na: b\nGET  HTTP/2\n / HTTP/2\nG:T / HTTP/2\nGET / HTTP/2 \nGET /\nGET / b HTTP/2"))
+    ≡ lines_of (codes "GET / HTTP/2\nHTTP/2 200"))
     × (filter is_field (lines_of (codes "a:\na b:\n:\na\na :")) ≡ codes "a:" ∷ [])
 unfolding is_start is_token_byte is_version
-start_lines = (refl, refl, refl, refl, refl)
+start_lines = (refl, refl, refl, refl)
 
 -- ---- heads
 
--- the heads of bytes, with a bar after each line and a line feed after each head
+-- the heads of a text, with a bar after each line and a line feed after each head
 abbrev heads : Bool → List ℕ → List ℕ
-heads cut bytes = flat_map (λ head. flat_map (λ line. line ++ codes "|") head ++ codes "\n") (heads_of cut (bare_lines cut bytes))
+heads cut text = flat_map (λ head. flat_map (λ line. line ++ codes "|") head ++ codes "\n") (heads_of cut (bare_lines cut text))
 
--- What curl prints: 100, 103, 101 and redirects, a proxy's CONNECT, a refused connection, and a progress meter. What wget prints with -S and
--- with -d, heads that are indented, and bodies. A body has a head only if it has a start line.
+-- What curl prints: 100, 103, 101 and redirects, a proxy's CONNECT, a refused connection, and a progress meter. What wget prints with -S
+-- and with -d, heads that are indented, and bodies. A body has a head only if it has a start line.
 printed :
     (heads false (codes "* a:\n> PUT / HTTP/2\r\n> B: c\r\n> \r\n< HTTP/2 100\r\n} [2 bytes]\n* d: e\n< HTTP/2 200\r\n< F: g\r\n< \r\n< h")
     ≡ codes "PUT / HTTP/2|B: c|\nHTTP/2 100|\nHTTP/2 200|F: g|\n")
@@ -52,8 +54,8 @@ printed :
     ≡ codes "HTTP/2 103 |B: c|\nHTTP/2 302 |d: e|\nGET /a HTTP/2|H: i|\n")
     × (heads false (codes "> CONNECT a:1 HTTP/1.1\r\n> B: c\r\n> \r\n< HTTP/1.0 200 OK\r\n< \r\n* d\n> GET / HTTP/1.1\n> E: f\n> \n")
     ≡ codes "CONNECT a:1 HTTP/1.1|B: c|\nHTTP/1.0 200 OK|\nGET / HTTP/1.1|E: f|\n")
-    × (heads false (codes "*   Trying 127.0.0.1:1...\n* connect to 127.0.0.1 port 1 failed: refused\n") ≡ [])
-    × (heads false (codes "> GET / HTTP/2\n> \n\r  0 --:-- 0< HTTP/2 200 \r\n\r100 --:--\n< a: b\n") ≡ codes "GET / HTTP/2|\nHTTP/2 200 |a: b|\n")
+    × (heads false (codes "*   Trying 127.0.0.1:1...\n* connect to 127.0.0.1 port 1 failed: refused\n") ≡ []) × (heads false
+    (codes "> GET / HTTP/2\n> \n\r  0 --:-- 0< HTTP/2 200 \r\n\r100 --:--\n< a: b\n") ≡ codes "GET / HTTP/2|\nHTTP/2 200 |a: b|\n")
     × (heads false (codes "--2026-- http://a/\n  HTTP/1.1 302 Found\n  A: b\nLocation: c\n  HTTP/1.1 200 OK\n  D: e\n   f\n g\n  h\n")
     ≡ codes "HTTP/1.1 302 Found|A: b|\nHTTP/1.1 200 OK|D: e| f|\n")
     × (heads false (codes "---request begin---\nGET / HTTP/1.1\r\nA: b\r\n\r\n---request end---\nC: d\nHTTP/1.1 200 OK\r\n\r\n200 OK\n")
@@ -77,12 +79,6 @@ pasted : (heads false (codes "\n* a\nFrom: b\nCONTENT-TYPE: c/d\n \r\n\r\nAccept
     ≡ replicate 3 (codes "HTTP/2 200|\n")) × (heads true (codes "Accept: a\n\nb") ≡ codes "Accept: a|\n")
 unfolding is_start is_token_byte is_version
 pasted = (refl, refl, refl, refl, refl, refl, refl, refl, refl)
-
--- An input of one byte more than 1,048,576 is cut off.
-cut_inputs : (bytes : List ℕ) → (length bytes ≡ 1048576 → is_cut bytes ≡ false) × (length bytes ≡ 1048577 → is_cut bytes ≡ true)
-cut_inputs bytes = (λ len. rw len refl, λ len. rw len refl)
-
--- ---- fields
 
 -- A name may have any case. A line that begins with white space goes on with the one before it, whose value it joins.
 values :
@@ -137,10 +133,11 @@ rows_of_heads :
 rows_of_heads = (refl, refl, refl, refl, refl, refl, refl, λ cut heads text verdict is. is.is_text)
 
 -- A control character of each kind has one dot, also at the end of a text, and others and the line feed stay.
-controls : (without_controls (97 ∷ 27 ∷ 10 ∷ 127 ∷ 194 ∷ 155 ∷ 51 ∷ 226 ∷ 128 ∷ 174 ∷ 226 ∷ 129 ∷ 166 ∷ 216 ∷ 156 ∷ 98 ∷ []) ≡ codes "a.\n..3...b")
+controls :
+    (without_controls (97 ∷ 27 ∷ 10 ∷ 127 ∷ 194 ∷ 155 ∷ 51 ∷ 226 ∷ 128 ∷ 174 ∷ 226 ∷ 129 ∷ 166 ∷ 216 ∷ 156 ∷ 98 ∷ []) ≡ codes "a.\n..3...b")
     × (map (λ d. control_len (194 ∷ d ∷ [])) (127 ∷ 128 ∷ 159 ∷ 160 ∷ []) ≡ 0 ∷ 2 ∷ 2 ∷ 0 ∷ [])
-    × (map (λ d. control_len (216 ∷ d ∷ [])) (155 ∷ 156 ∷ 157 ∷ []) ≡ 0 ∷ 2 ∷ 0 ∷ [])
-    × (map (λ d. control_len (226 ∷ 128 ∷ d ∷ [])) (141 ∷ 142 ∷ 143 ∷ 144 ∷ 169 ∷ 170 ∷ 174 ∷ 175 ∷ []) ≡ 0 ∷ 3 ∷ 3 ∷ 0 ∷ 0 ∷ 3 ∷ 3 ∷ 0 ∷ [])
+    × (map (λ d. control_len (216 ∷ d ∷ [])) (155 ∷ 156 ∷ 157 ∷ []) ≡ 0 ∷ 2 ∷ 0 ∷ []) × (map (λ d. control_len (226 ∷ 128 ∷ d ∷ []))
+    (141 ∷ 142 ∷ 143 ∷ 144 ∷ 169 ∷ 170 ∷ 174 ∷ 175 ∷ []) ≡ 0 ∷ 3 ∷ 3 ∷ 0 ∷ 0 ∷ 3 ∷ 3 ∷ 0 ∷ [])
     × (map (λ d. control_len (226 ∷ 129 ∷ d ∷ [])) (165 ∷ 166 ∷ 169 ∷ 170 ∷ []) ≡ 0 ∷ 3 ∷ 3 ∷ 0 ∷ []) × (control_len (226 ∷ 128 ∷ []) ≡ 0)
 controls = (refl, refl, refl, refl, refl, refl)
 
@@ -170,17 +167,13 @@ rows_of_offers : (map weight_text (1000 ∷ 50 ∷ 7 ∷ []) ≡ codes "1.000" �
 unfolding is_plain
 rows_of_offers = (refl, refl, refl, refl, refl, refl, refl, refl, refl, refl, refl)
 
--- what is known after heads, of which the last choice is this one
-abbrev after : Bool → Option (List MediaType × Bool) → State
-after are_good choice = record { text = []; are_good = are_good; choice = choice; asks = false }
-
 -- The best offer has a row, and one that isn't acceptable another. The verdict is that of all values and of the last choice.
 verdicts : (best_row (plain ∷ media ∷ []) (ranked 1 1 (Some 0) ∷ []) ≡ (codes "best a/b+c;p=\"x\\\"y\"\n", true))
     × (best_row (media ∷ []) (ranked 0 0 None ∷ []) ≡ (codes "406 Not Acceptable\n", false)) × (best_row [] [] ≡ ([], true))
-    × (map (λ choice. verdict_of (after true choice)) (Some ([], true) ∷ None ∷ Some ([], false) ∷ [])
-    ≡ Verdict.Acceptable ∷ Verdict.Acceptable ∷ Verdict.NotAcceptable ∷ [])
-    × (verdict_of (after false (Some ([], true))) ≡ Verdict.NotAcceptable)
-verdicts = (refl, refl, refl, refl, refl)
+    × (map (λ (it : Bool × Option (List MediaType × Bool)). verdict_of (record { text = []; are_good = it.0; choice = it.1; asks = false }))
+    ((true, Some ([], true)) ∷ (true, None) ∷ (true, Some ([], false)) ∷ (false, Some ([], true)) ∷ [])
+    ≡ Verdict.Acceptable ∷ Verdict.Acceptable ∷ Verdict.NotAcceptable ∷ Verdict.NotAcceptable ∷ [])
+verdicts = (refl, refl, refl, refl)
 
 -- A response that isn't interim answers the last request, with one media type, and no later response does. A request begins anew.
 answers :
@@ -196,27 +189,23 @@ unfolding is_version
 answers = (refl, refl, refl, refl, refl, refl, refl)
 
 -- Without a head there is no report. Without a request a media type has no answer.
-no_heads :
-    ((text : List ℕ) (verdict : Verdict) → ¬ (IsReport [] false [] text verdict)) × ((answer : List ℕ) → IsAnswer None plain answer → answer ≡ [])
+no_heads : ((text : List ℕ) (verdict : Verdict) → ¬ (IsReport [] false [] text verdict))
+    × ((answer : List ℕ) → IsAnswer None plain answer → answer ≡ [])
 no_heads = (λ text verdict is. absurd (omega (arith, is.some)), λ answer is. is)
 
--- Each word that is a media type names an offer, in its order.
-offers_of_words : (word other : List ℕ) (offer second : MediaType) → IsRead word (Ok offer) → IsRead other (Ok second)
-    → AreOffers (word ∷ other ∷ []) [] (Ok (offer ∷ second ∷ []))
-offers_of_words word other offer second reads also = a_word reads (a_word also no_word)
+-- Each word that is a media type names an offer, in its order. After it, a word is rejected by its fault.
+words : (word : List ℕ) (offer : MediaType) → IsRead word (Ok offer)
+    → ((other : List ℕ) (second : MediaType) → IsRead other (Ok second) → AreOffers (word ∷ other ∷ []) [] (Ok (offer ∷ second ∷ [])))
+    × ((other : String Global) (error : FieldError) → IsRead (string_bytes other) (Err error)
+    → AreOffers (word ∷ string_bytes other ∷ []) [] (Err (other, error)))
+words word offer reads =
+    (λ other second also. a_word reads (a_word also no_word), λ other error is. a_word reads (bad_word other error (λ _. is.1)))
 
 -- A word that isn't a media type names no offer.
 no_offer_of_a_fault : (word : List ℕ) (words : List (List ℕ)) (offers all : List MediaType) → ¬ (IsHttpMediaType word)
     → ¬ (AreOffers (word ∷ words) offers (Ok all))
 no_offer_of_a_fault word words offers all isnt (a_word reads others) = isnt (_, reads.1)
 
--- A word is rejected by its fault, after one that isn't.
-refused_words : (word : List ℕ) (offer : MediaType) (other : String Global) (error : FieldError) → IsRead word (Ok offer)
-    → IsRead (string_bytes other) (Err error) → AreOffers (word ∷ string_bytes other ∷ []) [] (Err (other, error))
-refused_words word offer other error reads is = a_word reads (bad_word other error (λ _. is.1))
-
 -- If there is no word, none is rejected.
-some_refused : (words : List (List ℕ)) (offers : List MediaType) (error : String Global × FieldError)
-    → AreOffers words offers (Err error) → words ≢ []
-some_refused words offers error (a_word reads rest) none = absurd (cc)
-some_refused words offers error (bad_word word fault is) none = absurd (cc)
+none_refused : (offers : List MediaType) (error : String Global × FieldError) → ¬ (AreOffers [] offers (Err error))
+none_refused offers error is = elim is [ ]

@@ -212,18 +212,17 @@ pub(crate) fn values_of(alloc: Global, label: &[u8], head: &[&[u8]]) -> Made<Vec
 {
     let mut values = Vec::new(alloc);
     for (at, line) in head.iter().enumerate() {
-        if !begins(label, line) {
-            continue;
-        }
-        let mut value = trimmed(&line[label.len()..]).to_vec(alloc)?;
-        for more in &head[at + 1..] {
-            if !goes_on(more) {
-                break;
+        if begins(label, line) {
+            let mut value = trimmed(&line[label.len()..]).to_vec(alloc)?;
+            for more in &head[at + 1..] {
+                if !goes_on(more) {
+                    break;
+                }
+                value.push(b' ')?;
+                value.extend_from_slice(trimmed(more))?;
             }
-            value.push(b' ')?;
-            value.extend_from_slice(trimmed(more))?;
+            values.push(value)?;
         }
-        values.push(value)?;
     }
     Ok(values)
 }
