@@ -1,7 +1,8 @@
 -- Heads, rows and verdicts for which each definition is true, and others for which it is false, so that a page that says less or more
 -- doesn't check.
-use Rattle.mime_headers.proofs.Common.{AreOffers, Bool, Err, FieldError, Global, Invalid, IsAnswer, IsHttpMediaType, IsRead, IsReport, List, MediaType, MissingSubtype, None, NotUtf8, Ok, Option, RankedOffer, Some, State, String, Verdict, [], a_word, arith, asked_by, asks_after, bad_word, bare, bare_lines, begins, best_row, byte_text, codes, continued, control_len, count_row, decider, decimal, digits, empty_row, false, fault_rows, field_error_text, filter, flat_map, goes_on, heads_of, is_cut, is_field, is_end, is_interim, is_status_line, lacks_text, length, lines_of, map, mark_of, media_rows, missing, no_word, numbered, offer_row, offer_rows, range_row, refl, replicate, row, shown, string_bytes, text_of, trimmed, true, values_of, verdict_of, weight_text, with_entry, without_controls, ℕ, ◌++◌, ◌∷◌, ◌≡◌, ◌≢◌, if◌then◌else◌, title_rows}
+use Rattle.mime_headers.proofs.Common.{AreOffers, Bool, Err, FieldError, Global, Invalid, IsAnswer, IsHttpMediaType, IsRead, IsReport, List, MediaType, MissingSubtype, None, NotUtf8, Ok, Option, RankedOffer, Some, State, String, Verdict, [], a_word, arith, asked_by, asks_after, bad_word, bare, bare_lines, begins, best_row, byte_text, codes, continued, control_len, count_row, decider, empty_row, false, fault_rows, field_error_text, filter, flat_map, goes_on, heads_of, is_cut, is_field, is_end, is_interim, is_status_line, lacks_text, length, lines_of, map, mark_of, media_rows, missing, no_word, numbered, offer_row, offer_rows, range_row, refl, replicate, row, shown, string_bytes, text_of, trimmed, true, values_of, verdict_of, weight_text, with_entry, without_controls, ℕ, ◌++◌, ◌∷◌, ◌≡◌, ◌≢◌, if◌then◌else◌, title_rows}
 use Rattle.mime.specs.Bytes.{is_token_byte}
+use Rattle.std.specs.Fmt.{digits}
 use Rattle.mime_headers.specs.{Head.is_start, Head.is_version, Report.is_plain}
 
 -- ---- lines
@@ -34,8 +35,7 @@ start_lines :
     × (filter is_status_line (lines_of (codes "HTTP/1.1 200 O\nHTTP/2 200 \nHTTP/2 200\nHTTP/2 is.\nHTTP/2 2000\nHTTP/2 20a\nHTTP/2  200"))
     ≡ lines_of (codes "HTTP/1.1 200 O\nHTTP/2 200 \nHTTP/2 200")) × (filter is_start (lines_of
     (codes "GET / HTTP/2\nHTTP/2 200\n HTTP/2 200\na: b\nGET  HTTP/2\n / HTTP/2\nG:T / HTTP/2\nGET / HTTP/2 \nGET /\nGET / b HTTP/2"))
-    ≡ lines_of (codes "GET / HTTP/2\nHTTP/2 200"))
-    × (filter is_field (lines_of (codes "a:\na b:\n:\na\na :")) ≡ codes "a:" ∷ [])
+    ≡ lines_of (codes "GET / HTTP/2\nHTTP/2 200")) × (filter is_field (lines_of (codes "a:\na b:\n:\na\na :")) ≡ codes "a:" ∷ [])
 unfolding is_start is_token_byte is_version
 start_lines = (refl, refl, refl, refl)
 
@@ -100,32 +100,27 @@ media = record plain { pairs = (codes "p", codes "x\\\"y") ∷ []; kept = codes 
 abbrev star : List ℕ → MediaType
 star q = record { essence = codes "*/*"; slash = 1; plus = None; pairs = (codes "q", q) ∷ []; kept = codes "*/*;q=" ++ q }
 
--- the name of a byte in hexadecimal
-abbrev hex : ℕ → List ℕ
-hex b = codes " (" ++ (digits 16 true b ++ codes ")")
-
 -- A media type has a row for each part. Bytes that aren't printable ASCII have dots. A caret is under the byte at fault, which is named, or
 -- after the value.
 rows_of_values : (media_rows media None ≡ codes "Content-Type a/b+c;p=\"x\\\"y\"\nessence a/b+c\nsuffix c\nparam p=x\"y\n")
     × (media_rows (star (codes "1")) (Some (codes "d")) ≡ codes "Content-Type */*;q=1\nessence */*\nparam q=1\nboundary d\n")
-    × (shown (97 ∷ 32 ∷ 126 ∷ 0 ∷ 9 ∷ 27 ∷ 127 ∷ 195 ∷ []) ≡ codes "a ~.....") × (map byte_text (99 ∷ 32 ∷ 9 ∷ 233 ∷ [])
-    ≡ (codes " c" ++ hex 99) ∷ (codes " space" ++ hex 32) ∷ (codes " tab" ++ hex 9) ∷ hex 233 ∷ [])
-    × (byte_text 40 ≡ codes " ( (" ++ (digits 16 true 40 ++ codes "): HTTP has no comments"))
+    × (shown (97 ∷ 32 ∷ 126 ∷ 0 ∷ 9 ∷ 27 ∷ 127 ∷ 195 ∷ []) ≡ codes "a ~.....") × (map byte_text (99 ∷ 32 ∷ 9 ∷ 233 ∷ 40 ∷ [])
+    ≡ codes " c (63)" ∷ codes " space (20)" ∷ codes " tab (9)" ∷ codes " (E9)" ∷ codes " ( (28): HTTP has no comments" ∷ [])
     × (fault_rows (codes "bad Content-Type ") (codes "a\tb/") (Invalid MissingSubtype)
     ≡ codes "bad Content-Type mime parse error: a subtype was missing behind the slash (/)\n    a.b/\n        ^\n")
     × (fault_rows (codes "bad Accept ") (codes "a c") (NotUtf8 1)
-    ≡ row (codes "bad Accept ") (field_error_text (NotUtf8 1)) ++ (codes "    a c\n     ^" ++ (byte_text 32 ++ codes "\n")))
-rows_of_values = (refl, refl, refl, refl, refl, refl, refl)
+    ≡ row (codes "bad Accept ") (field_error_text (NotUtf8 1)) ++ codes "    a c\n     ^ space (20)\n")
+unfolding digits
+rows_of_values = (refl, refl, refl, refl, refl, refl)
 
 -- A field that isn't there has a row, `Accept` only if there are offers, and so have an empty `Accept`, the title of a head among many,
 -- white space before a colon, and an input that is cut off.
 rows_of_heads :
     (map (missing (plain ∷ [])) (None ∷ Some false ∷ []) ≡ (codes "no Accept\n", codes "*/*" ∷ []) ∷ ([], []) ∷ [])
     × (missing {Choice = Bool} [] None ≡ ([], [])) × (flat_map count_row ([] ∷ ([] ∷ []) ∷ ([] ∷ [] ∷ []) ∷ [])
-    ≡ codes "no Content-Type\nseveral Content-Type lines (HTTP allows one)\n")
+    ≡ codes "no Content-Type\nseveral Content-Type lines (HTTP allows one)\n") × (title_rows false (codes "a" ∷ []) ≡ [])
     × (map (empty_row (codes "a")) (codes "a" ∷ codes "ab" ∷ []) ≡ codes "empty Accept\n" ∷ [] ∷ [])
     × (map (title_rows true) (lines_of (codes "GET /\t\nb: c") ∷ [] ∷ []) ≡ codes "head GET /.\n" ∷ codes "head \n" ∷ [])
-    × (title_rows false (codes "a" ∷ []) ≡ [])
     × (title_rows false (lines_of (codes "Content-Type \t: a\naccept :\nAccept: a\nAccept a:\nAccept \nX-Accept : a"))
     ≡ codes "white space before the colon: Content-Type .: a\nwhite space before the colon: accept :\n")
     × ((cut : Bool) (heads : List (List (List ℕ))) (text : List ℕ) (verdict : Verdict) → (is : IsReport [] cut heads text verdict)
@@ -157,14 +152,12 @@ rows_of_offers : (map weight_text (1000 ∷ 50 ∷ 7 ∷ []) ≡ codes "1.000" �
     × (with_entry (codes "<", plain ∷ []) (codes "a") (Err (NotUtf8 0))
     ≡ (codes "<" ++ fault_rows (codes "bad Accept ") (codes "a") (NotUtf8 0), plain ∷ []))
     × (offer_rows (codes "offer ") [] (plain ∷ star (codes "1") ∷ []) (ranked 1 0 None ∷ ranked 0 1 None ∷ ranked 2 1 None ∷ [])
-    ≡ codes "offer 0.000 */*;q=1 by none\noffer 0.001 a/b+c by none\n")
+    ≡ codes "offer 0.000 */*;q=1 by none\noffer 0.001 a/b+c by none\n") × (decider (plain ∷ []) (ranked 0 1 (Some 1)) ≡ None)
     × (offer_row (codes "offer ") (star (codes "1") ∷ media ∷ plain ∷ []) (ranked 0 1 (Some 0)) (Some plain)
-    ≡ codes "offer 0.001 a/b+c by " ++ (numbered (0, star (codes "1"))
-    ++ (flat_map (lacks_text plain (Some (star (codes "1")))) ((1, media) ∷ []) ++ codes "\n")))
-    × (lacks_text plain None (1, media) ≡ codes " (lacks p=x\"y of " ++ (numbered (1, media) ++ codes ")"))
-    × (lacks_text plain (Some plain) (1, star (codes "1")) ≡ []) × (numbered (1, plain) ≡ decimal 2 ++ codes " a/b+c")
-    × (decider (plain ∷ []) (ranked 0 1 (Some 1)) ≡ None)
-unfolding is_plain
+    ≡ codes "offer 0.001 a/b+c by 1 */*;q=1 (lacks p=x\"y of 2 a/b+c;p=\"x\\\"y\")\n")
+    × (lacks_text plain None (1, media) ≡ codes " (lacks p=x\"y of 2 a/b+c;p=\"x\\\"y\")")
+    × (lacks_text plain (Some plain) (1, star (codes "1")) ≡ []) × (numbered (1, plain) ≡ codes "2 a/b+c")
+unfolding digits is_plain
 rows_of_offers = (refl, refl, refl, refl, refl, refl, refl, refl, refl, refl, refl)
 
 -- The best offer has a row, and one that isn't acceptable another. The verdict is that of all values and of the last choice.
@@ -181,10 +174,9 @@ answers :
     × (map (λ title. asked_by true (Some (plain ∷ [], true)) title ([] ∷ [])) (lines_of (codes "HTTP/2 200\nHTTP/2 103\nGET / HTTP/2"))
     ≡ Some (plain ∷ []) ∷ None ∷ None ∷ [])
     × (map (asked_by true (Some ([], true)) (codes "HTTP/2 200")) ([] ∷ ([] ∷ [] ∷ []) ∷ []) ≡ None ∷ None ∷ [])
-    × (asked_by false (Some ([], true)) (codes "HTTP/2 200") ([] ∷ []) ≡ None)
+    × (asked_by false (Some ([], true)) (codes "HTTP/2 200") ([] ∷ []) ≡ None) × (asks_after true (codes "HTTP/2 103") ([] ∷ []) ≡ false)
     × (map (λ title. asks_after true title []) (lines_of (codes "HTTP/2 200\nHTTP/2 103\nGET / HTTP/2")) ≡ false ∷ true ∷ false ∷ [])
     × (map (λ title. asks_after false title ([] ∷ [])) (lines_of (codes "HTTP/2 103\nGET / HTTP/2")) ≡ false ∷ true ∷ [])
-    × (asks_after true (codes "HTTP/2 103") ([] ∷ []) ≡ false)
 unfolding is_version
 answers = (refl, refl, refl, refl, refl, refl, refl)
 

@@ -7,5 +7,5 @@ pub next_word : {offers : List MediaType} {all : Result (List MediaType) (String
     → AreOffers (string_bytes word ∷ map string_bytes (take m rest)) offers all → AreOffers (map string_bytes (take n words)) offers all
 next_word n m word words rest len is are = search rules
 
--- How a word is read.
+-- The answer to the words that are left is found by these rules.
 pub ruleset reading = (next_word, no_word, a_word, bad_word, map-append)

@@ -44,8 +44,7 @@ fn bare(line: &[u8]) -> &[u8]
     line
 }
 
-/// Returns the lines of an input, without their line endings, and without a byte order mark at the start. If the input is cut off, leaves out
-/// the last line.
+/// Returns the lines of an input without line endings and a byte order mark, and without the last line if the input is cut off.
 pub(crate) fn bare_lines(alloc: Global, input: &[u8], is_cut: bool) -> Made<Vec<&[u8]>>
     ensures { IfOk result (λ lines. lines_now lines ≡ bare_lines is_cut input.now) }
 {
