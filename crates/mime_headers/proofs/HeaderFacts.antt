@@ -1,6 +1,6 @@
 -- Heads, rows and verdicts for which each definition is true, and others for which it is false, so that a page that says less or more
 -- doesn't check.
-use Rattle.mime_headers.proofs.Common.{AreOffers, Bool, Err, FieldError, Global, Invalid, IsAnswer, IsHttpMediaType, IsRead, IsReport, List, MediaType, MissingSubtype, None, NotUtf8, Ok, Option, RankedOffer, Some, State, String, Verdict, [], a_word, arith, asked_by, asks_after, bad_word, bare, bare_lines, begins, best_row, byte_text, codes, continued, control_len, count_row, decider, empty_row, false, fault_rows, field_error_text, filter, flat_map, goes_on, heads_of, is_cut, is_field, is_end, is_interim, is_status_line, lacks_text, length, lines_of, map, mark_of, media_rows, missing, no_word, numbered, offer_row, offer_rows, range_row, refl, replicate, row, shown, string_bytes, text_of, trimmed, true, values_of, verdict_of, weight_text, with_entry, without_controls, ℕ, ◌++◌, ◌∷◌, ◌≡◌, ◌≢◌, if◌then◌else◌, title_rows}
+use Rattle.mime_headers.proofs.Common.{AreOffers, Bool, Err, FieldError, Global, Invalid, IsAnswer, IsHttpMediaType, IsRead, IsReport, List, MediaType, MissingSubtype, None, NotUtf8, Ok, Option, RankedOffer, Some, String, Verdict, [], a_word, arith, asked_by, asks_after, bad_word, bare, bare_lines, begins, best_row, byte_text, codes, continued, control_len, count_row, decider, empty_row, false, fault_rows, field_error_text, filter, flat_map, goes_on, heads_of, is_cut, is_field, is_end, is_interim, is_status_line, lacks_text, length, lines_of, map, mark_of, media_rows, missing, no_word, numbered, offer_row, offer_rows, range_row, refl, replicate, row, shown, string_bytes, text_of, trimmed, true, values_of, verdict_of, weight_text, with_entry, without_controls, ℕ, ◌++◌, ◌∷◌, ◌≡◌, if◌then◌else◌, title_rows}
 use Rattle.mime.specs.Bytes.{is_token_byte}
 use Rattle.std.specs.Fmt.{digits}
 use Rattle.mime_headers.specs.{Head.is_start, Head.is_version, Report.is_plain}
