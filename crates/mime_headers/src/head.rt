@@ -1,11 +1,10 @@
 //! The heads of an input, and the values of their fields.
 
 ghost use Rattle.std.specs.Prelude.{◌≡◌, ◌≤◌, [], ◌∷◌, ◌++◌, ◌==◌, ◌||◌, ◌&&◌, if◌then◌else◌, length, map, filter, vec_items, IfOk, OnOk};
-ghost use Rattle.std.specs.Char.{is_ascii_digit};
 ghost use Rattle.std.specs.List.{before_first, after_first, list_all};
 ghost use Rattle.mime.specs.Bytes.{is_token_byte};
 ghost use Rattle.mime_http.specs.HttpList.{trimmed};
-ghost use Rattle.mime_headers.specs.Head.{bare, bare_lines, begins, continued, counts, from_angle, goes_on, heads_of, is_end, is_field, is_interim, is_spaced, is_start, is_status_line, is_token, is_version, text_of, title_of, values_of};
+ghost use Rattle.mime_headers.specs.Head.{bare, bare_lines, begins, counts, from_angle, goes_on, heads_of, is_end, is_field, is_interim, is_spaced, is_start, is_status_line, is_token, is_version, text_of, title_of, values_of};
 ghost use Rattle.mime_headers.specs.Inner.{lines_now};
 
 use mime_http::trimmed;
