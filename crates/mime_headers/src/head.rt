@@ -120,6 +120,9 @@ fn is_start(text: &[u8]) -> bool
     ensures { result ≡ is_start text.now }
 {
     let (method, rest) = cut(text, b' ');
+    if rest.is_empty() {
+        return false;
+    }
     let (target, version) = cut(rest, b' ');
     let has_target = !target.is_empty() && is_version(version);
     is_status_line(text) || (has_target && !method.is_empty() && are_token_bytes(method))
