@@ -2,3 +2,4 @@ mod Common
 mod HeaderFacts
 mod ReportFacts
 mod Rows
+mod Words

@@ -1,11 +1,10 @@
 //! The heads of an input, and the values of their fields.
 
 ghost use Rattle.std.specs.Prelude.{◌≡◌, ◌≤◌, [], ◌∷◌, ◌++◌, ◌==◌, ◌||◌, ◌&&◌, if◌then◌else◌, length, map, filter, vec_items, IfOk, OnOk};
-ghost use Rattle.std.specs.Char.{is_ascii_digit};
 ghost use Rattle.std.specs.List.{before_first, after_first, list_all};
 ghost use Rattle.mime.specs.Bytes.{is_token_byte};
 ghost use Rattle.mime_http.specs.HttpList.{trimmed};
-ghost use Rattle.mime_headers.specs.Head.{bare, bare_lines, begins, continued, counts, from_angle, goes_on, heads_of, is_end, is_field, is_interim, is_spaced, is_start, is_status_line, is_token, is_version, text_of, title_of, values_of};
+ghost use Rattle.mime_headers.specs.Head.{bare, bare_lines, begins, counts, from_angle, goes_on, heads_of, is_end, is_field, is_interim, is_spaced, is_start, is_status_line, is_token, is_version, text_of, title_of, values_of};
 ghost use Rattle.mime_headers.specs.Inner.{lines_now};
 
 use mime_http::trimmed;
@@ -44,8 +43,7 @@ fn bare(line: &[u8]) -> &[u8]
     line
 }
 
-/// Returns the lines of an input, without their line endings, and without a byte order mark at the start. If the input is cut off, leaves out
-/// the last line.
+/// Returns the lines of an input without line endings and a byte order mark, and without the last line if the input is cut off.
 pub(crate) fn bare_lines(alloc: Global, input: &[u8], is_cut: bool) -> Made<Vec<&[u8]>>
     ensures { IfOk result (λ lines. lines_now lines ≡ bare_lines is_cut input.now) }
 {
@@ -92,28 +90,13 @@ fn are_token_bytes(bytes: &[u8]) -> bool
     bytes.iter().all(|byte| mime::is_token(*byte))
 }
 
-/// Returns `true` if bytes are a token.
-fn is_token(bytes: &[u8]) -> bool
-    ensures { result ≡ is_token bytes.now }
-{
-    !bytes.is_empty() && are_token_bytes(bytes)
-}
-
 /// Returns `true` if bytes are an HTTP version, such as `HTTP/1.1` or `HTTP/2`.
 #[tactic(auto, unfolding(crate::specs::Head::is_version))]
 fn is_version(bytes: &[u8]) -> bool
     ensures { result ≡ is_version bytes.now }
 {
-    let has_name = bytes.len() >= 6 && &bytes[..5] == b"HTTP/".as_slice();
-    let is_minor = || bytes.len() == 8 && bytes[6] == b'.' && bytes[7].is_ascii_digit();
-    has_name && bytes[5].is_ascii_digit() && (bytes.len() == 6 || is_minor())
-}
-
-/// Returns `true` if all bytes are digits.
-fn are_digits(bytes: &[u8]) -> bool
-    ensures { result ≡ list_all is_ascii_digit bytes.now }
-{
-    bytes.iter().all(|byte| byte.is_ascii_digit())
+    let end = bytes.strip_prefix(b"HTTP/");
+    matches!(end, Some([b'0'..=b'9'] | [b'0'..=b'9', b'.', b'0'..=b'9']))
 }
 
 /// Returns `true` if a text is a status line, such as `HTTP/1.1 200 OK` or `HTTP/2 200`.
@@ -121,11 +104,7 @@ pub(crate) fn is_status_line(text: &[u8]) -> bool
     ensures { result ≡ is_status_line text.now }
 {
     let (version, rest) = cut(text, b' ');
-    if !is_version(version) {
-        return false;
-    }
-    let code = cut(rest, b' ').0;
-    code.len() == 3 && are_digits(code)
+    is_version(version) && matches!(cut(rest, b' ').0, [b'0'..=b'9', b'0'..=b'9', b'0'..=b'9'])
 }
 
 /// Returns `true` if a status line is that of an interim response, such as `HTTP/1.1 100 Continue`.
@@ -141,8 +120,12 @@ fn is_start(text: &[u8]) -> bool
     ensures { result ≡ is_start text.now }
 {
     let (method, rest) = cut(text, b' ');
+    if rest.is_empty() {
+        return false;
+    }
     let (target, version) = cut(rest, b' ');
-    is_status_line(text) || (is_version(version) && is_token(method) && !target.is_empty())
+    let has_target = !target.is_empty() && is_version(version);
+    is_status_line(text) || (has_target && !method.is_empty() && are_token_bytes(method))
 }
 
 /// Returns `true` if a text begins with a field's name and a colon.
@@ -150,14 +133,7 @@ fn is_field(text: &[u8]) -> bool
     ensures { result ≡ is_field text.now }
 {
     let name = cut(text, b':').0;
-    is_token(name) && name.len() < text.len()
-}
-
-/// Returns `true` if a text begins a head. `first` says whether it may be a field's.
-fn begins_head(first: bool, text: &[u8]) -> bool
-    ensures { result ≡ (is_start text.now || (first && is_field text.now)) }
-{
-    is_start(text) || (first && is_field(text))
+    !name.is_empty() && are_token_bytes(name) && name.len() < text.len()
 }
 
 /// Returns `true` if a line that is no start line ends the head with a mark.
@@ -176,16 +152,16 @@ pub(crate) fn title_of<'a>(head: &[&'a [u8]]) -> &'a [u8]
     head.first().copied().unwrap_or(&[])
 }
 
-/// Adds a head if `is_wanted` and the head counts: it has a start line, a `Content-Type` or an `Accept`.
-fn push_counted<'a>(heads: &mut Vec<Head<'a>>, is_wanted: bool, head: Head<'a>) -> Made<()>
+/// Adds a head if it has a line and counts: it has a start line, a `Content-Type` or an `Accept`.
+fn push_counted<'a>(heads: &mut Vec<Head<'a>>, head: Head<'a>) -> Made<()>
     ensures { OnOk result (map lines_now (vec_items heads.new) ≡ map lines_now (vec_items heads.old)
-        ++ (if is_wanted then filter counts (lines_now head.entry ∷ []) else [])) }
+        ++ (if length (vec_items head.entry) == 0 then [] else filter counts (lines_now head.entry ∷ []))) }
 {
     let mut counts = is_start(title_of(&head));
     for line in &head {
         counts = counts || begins(b"content-type:", line) || begins(b"accept:", line);
     }
-    if is_wanted && counts {
+    if counts && !head.is_empty() {
         heads.push(head)?;
     }
     Ok(())
@@ -197,33 +173,29 @@ pub(crate) fn heads_of<'a>(alloc: Global, lines: &[&'a [u8]], is_cut: bool) -> M
 {
     let mut heads = Vec::new(alloc);
     let mut first = true;
-    // Whether a head has begun and not ended, its lines so far, and its mark.
-    let mut is_open = false;
+    // The lines so far of a head that has begun and not ended, or none, and the head's mark.
     let mut head = Vec::new(alloc);
     let mut mark: &[u8] = &[];
     for line in lines {
         let text = text_of(line);
-        if begins_head(first & !is_open, text) {
-            push_counted(&mut heads, is_open, head)?;
+        if is_start(text) || (first && head.is_empty() && is_field(text)) {
+            push_counted(&mut heads, head)?;
             head = Vec::new(alloc);
             head.push(text)?;
             mark = &line[..line.len() - text.len()];
-            is_open = true;
+        } else if head.is_empty() {
             continue;
-        }
-        if !is_open {
-            continue;
-        }
-        if is_end(mark, line) {
-            push_counted(&mut heads, true, head)?;
+        } else if is_end(mark, line) {
+            push_counted(&mut heads, head)?;
             head = Vec::new(alloc);
-            is_open = false;
             first = false;
         } else if begins(mark, line) {
             head.push(&line[mark.len()..])?;
         }
     }
-    push_counted(&mut heads, is_open & !is_cut, head)?;
+    if !is_cut {
+        push_counted(&mut heads, head)?;
+    }
     Ok(heads)
 }
 
@@ -234,29 +206,23 @@ fn goes_on(line: &[u8]) -> bool
     matches!(line, [b' ' | b'\t', ..])
 }
 
-/// Returns a field's value: `begin`, and the lines at the start of `after` that continue it. All are trimmed, and joined by single spaces.
-fn whole_value(alloc: Global, begin: &[u8], after: &[&[u8]]) -> Made<Vec<u8>>
-    ensures { IfOk result (λ value. vec_items value ≡ trimmed begin.now ++ continued (map (λ line. line.now) after.now)) }
-{
-    let mut value = trimmed(begin).to_vec(alloc)?;
-    for line in after {
-        if !goes_on(line) {
-            return Ok(value);
-        }
-        value.push(b' ')?;
-        value.extend_from_slice(trimmed(line))?;
-    }
-    Ok(value)
-}
-
-/// Returns the values of a field in a head, in order. `label` is the field's name and a colon.
+/// Returns the values of a field in a head, in order. `label` is the field's name and a colon. A value has the rest of a line, and the next
+/// lines that continue it. All are trimmed, and joined by single spaces.
 pub(crate) fn values_of(alloc: Global, label: &[u8], head: &[&[u8]]) -> Made<Vec<Vec<u8>>>
     ensures { IfOk result (λ values. map vec_items (vec_items values) ≡ values_of label.now (map (λ line. line.now) head.now)) }
 {
     let mut values = Vec::new(alloc);
     for (at, line) in head.iter().enumerate() {
         if begins(label, line) {
-            values.push(whole_value(alloc, &line[label.len()..], &head[at + 1..])?)?;
+            let mut value = trimmed(&line[label.len()..]).to_vec(alloc)?;
+            for more in &head[at + 1..] {
+                if !goes_on(more) {
+                    break;
+                }
+                value.push(b' ')?;
+                value.extend_from_slice(trimmed(more))?;
+            }
+            values.push(value)?;
         }
     }
     Ok(values)

@@ -13,6 +13,7 @@ use std::env::Args;
 ///
 /// # Errors
 /// Returns the first argument that isn't a media type, and its fault. If memory runs out, returns the argument reached, and `NoMemory`.
+#[tactic(auto, using(crate::proofs::Words::reading))]
 pub(crate) fn read_offers(alloc: Global, mut words: Args) -> Result<Vec<Mime>, (String, FieldError)>
     ensures { AreOffers (map string_bytes (drop 1 (take (into_iter_len words) (into_iter_items words)))) []
         (result_map_both (λ offers. map (λ offer. offer.media) (vec_items offers)) (λ error. error) result) }

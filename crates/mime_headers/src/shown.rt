@@ -6,15 +6,13 @@ ghost use Rattle.mime_headers.specs.Shown.{control_len, without_controls};
 
 use std::alloc::{AllocError, Global};
 
-/// Returns the number of bytes of the control character at the start of these bytes, or 0 if there is none. Here, a line feed doesn't count
-/// as a control character, but the characters that turn the direction of text do: U+061C, U+200E, U+200F, U+202A to U+202E, and U+2066 to
-/// U+2069.
+/// Returns the number of bytes of the control character at the start of these bytes, or 0 if there is none. A line feed isn't one here. The
+/// characters that turn the direction of text are: U+061C, U+200E, U+200F, U+202A to U+202E, and U+2066 to U+2069.
 fn control_len(bytes: &[u8]) -> usize
     ensures { result ≡ control_len bytes.now }
 {
     match bytes {
-        [b'\n', ..] => 0,
-        [0..=31 | 127, ..] => 1,
+        [0..=9 | 11..=31 | 127, ..] => 1,
         [0xC2, 0x80..=0x9F, ..] | [0xD8, 0x9C, ..] => 2,
         [0xE2, 0x80, 0x8E | 0x8F | 0xAA..=0xAE, ..] | [0xE2, 0x81, 0xA6..=0xA9, ..] => 3,
         _ => 0,
