@@ -1,4 +1,3 @@
 mod Common
 mod HeaderFacts
 mod ReportFacts
-mod Rows

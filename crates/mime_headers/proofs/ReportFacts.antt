@@ -38,14 +38,11 @@ one_answer (Some ranges) media answer other (ranking, is, rows) (another, too, o
 -- A value of `Content-Type` adds one text.
 one_type : (asked : Option (List MediaType)) (old : List ℕ × Bool) (value : List ℕ) (new other : List ℕ × Bool)
     → AddsType asked old value new → AddsType asked old value other → new ≡ other
-one_type asked old value new other (Ok media, is, one) (Ok another, too, two) =
-    let same : media ≡ another = cc (one_reading (trimmed value) (Ok media) (Ok another) is too) in
-    let more = rw (← same) at two in
-    one.4 ∙ ap₂ (λ boundary answer. (old.0 ++ (media_rows media boundary ++ answer), old.1)) (one_boundary media one.0 more.0 one.2 more.2)
-    (one_answer asked media one.1 more.1 one.3 more.3) ∙ sym more.4
-one_type asked old value new other (Err e, is, one) (Err f, too, two) = cc (one_reading (trimmed value) (Err e) (Err f) is too)
-one_type asked old value new other (Ok m, is, one) (Err e, too, two) = absurd (cc (one_reading (trimmed value) (Ok m) (Err e) is too))
-one_type asked old value new other (Err e, is, one) (Ok m, too, two) = absurd (cc (one_reading (trimmed value) (Err e) (Ok m) is too))
+one_type asked old value new other (Ok media, is, one) (another, too, two) =
+    let more = rw (← one_reading (trimmed value) (Ok media) another is too) at two in
+    cc (one.4, more.4, one_boundary media one.0 more.0 one.2 more.2, one_answer asked media one.1 more.1 one.3 more.3)
+one_type asked old value new other (Err error, is, one) (another, too, two) =
+    one ∙ sym (rw (← one_reading (trimmed value) (Err error) another is too) at two)
 
 -- Lines of `Accept` add one text and make one choice.
 one_choice : (offers : List MediaType) (lines : List (List ℕ)) (old new other : State)
@@ -68,8 +65,6 @@ one_head offers many old head new other (one, types, chosen) (two, also, choice)
 one_report : (offers : List MediaType) (bytes text other : List ℕ) (verdict another : Verdict) → IsReportOf offers bytes text verdict
     → IsReportOf offers bytes other another → (text ≡ other) × (verdict ≡ another)
 one_report offers bytes text other verdict another one two =
-    let heads = heads_of (is_cut bytes) (bare_lines (is_cut bytes) bytes) in
-    let none : State = record { text = []; are_good = true; choice = None; asks = false } in
-    let same = one_of_all _ (one_head offers (nat_lt 1 (length heads))) none heads one.state two.state one.adds two.adds in
-    let last = one_choice offers _ _ _ _ (rw same at one.chosen) two.chosen in
+    let same = one_of_all _ (one_head offers _) _ _ _ _ one.adds.1 two.adds.1 in
+    let last = one_choice offers _ _ _ _ (rw same at one.adds.2) two.adds.2 in
     (cc (one.is_text, two.is_text, last), cc (one.is_verdict, two.is_verdict, last))
