@@ -37,8 +37,9 @@ byte_text b = (if b == 32 then codes " space" else if b == 9 then codes " tab" e
 
 -- the rows of a rejected value of a field: its fault, and the value over a caret at the byte at fault, with this byte, if there is one
 abbrev pub fault_rows : List ℕ → List ℕ → FieldError → List ℕ
-fault_rows label value error = row label (field_error_text error) ++ (row (codes "    ") (shown value) ++ (codes "    "
-    ++ (replicate (fault_position value error) 32 ++ row (codes "^") (unwrap_or (option_map byte_text (slice_get value (fault_position value error))) []))))
+fault_rows label value error = let at = fault_position value error in
+    row label (field_error_text error) ++ (row (codes "    ") (shown value) ++ (codes "    "
+    ++ (replicate at 32 ++ row (codes "^") (unwrap_or (option_map byte_text (slice_get value at)) []))))
 
 -- ---- Content-Type
 
@@ -68,9 +69,8 @@ is_plain entry range = unwrap_or (option_map is_qvalue (first_value (codes "q") 
 
 -- the row of a range that is read of an entry, with a remark if its `q` isn't allowed
 abbrev pub range_row : List ℕ → MediaType → List ℕ
-range_row entry range =
-    codes "Accept " ++ (weight_text (weight_of range) ++ (codes " " ++ (range.kept ++ (if is_plain entry range then codes "\n"
-    else codes " (q isn't a weight in HTTP, counted as " ++ (weight_text (weight_of range) ++ codes ")\n")))))
+range_row entry range = codes "Accept " ++ (weight_text (weight_of range) ++ (codes " " ++ (range.kept ++ (if is_plain entry range
+    then codes "\n" else codes " (q isn't a weight in HTTP, counted as " ++ (weight_text (weight_of range) ++ codes ")\n")))))
 
 -- a report and its ranges after an entry: an entry that is a range adds its row and itself, and a rejected entry adds its fault's rows
 abbrev pub with_entry : List ℕ × List MediaType → List ℕ → Result MediaType FieldError → List ℕ × List MediaType
@@ -79,8 +79,7 @@ with_entry (text, ranges) entry (Err error) = (text ++ fault_rows (codes "bad Ac
 
 -- An empty entry changes nothing. Any other entry is read and added.
 abbrev pub AddsEntry : List ℕ × List MediaType → List ℕ → List ℕ × List MediaType → Type 0
-AddsEntry old entry new =
-    (length entry ≡ 0 → new ≡ old)
+AddsEntry old entry new = (length entry ≡ 0 → new ≡ old)
     × (0 < length entry → (reading : Result MediaType FieldError) × IsRead entry reading × (new ≡ with_entry old entry reading))
 
 -- Lines add their entries in order: the texts between commas outside strings, each without the white space around it.
@@ -149,9 +148,8 @@ empty_row old new = if length old == length new then codes "empty Accept\n" else
 -- The lines of `Accept`, which are one list (RFC 9110, 5.3), and the offers add their rows to a report, and make a choice by their ranges.
 -- Without lines, nothing is added, and no choice is made.
 abbrev pub AddsChoice : List MediaType → List (List ℕ) → State → State → Type 0
-AddsChoice offers lines old new =
-    (length lines ≡ 0 → new ≡ old) × (0 < length lines → (read : List ℕ × List MediaType) × (ranking : List RankedOffer)
-    × AddsLines lines (old.text, []) read × IsRanking read.1 offers ranking × (new ≡ record old {
+AddsChoice offers lines old new = (length lines ≡ 0 → new ≡ old) × (0 < length lines → (read : List ℕ × List MediaType)
+    × (ranking : List RankedOffer) × AddsLines lines (old.text, []) read × IsRanking read.1 offers ranking × (new ≡ record old {
       text = read.0 ++ (empty_row old.text read.0 ++ (offer_rows (codes "offer ") read.1 offers ranking ++ (best_row offers ranking).0));
       choice = Some (read.1, (best_row offers ranking).1);
     }))
@@ -197,8 +195,7 @@ AddsMissing all old new = AddsChoice all (missing all old.choice).1 (record old 
 abbrev pub verdict_of : State → Verdict
 verdict_of end = if end.are_good && unwrap_or (option_map (λ it. it.1) end.choice) true then Verdict.Acceptable else Verdict.NotAcceptable
 
--- There are heads. The text is the report on them and on offers, and says if they are cut off. It has no control characters. The verdict is
--- the report's.
+-- There are heads. The text is the report on them and on offers, without controls, and says if they are cut off. The verdict is the report's.
 pub record IsReport (offers : List MediaType) (cut : Bool) (heads : List (List (List ℕ))) (text : List ℕ) (verdict : Verdict) : Type 0 where
   pub some : 0 < length heads
   pub last : State

@@ -23,8 +23,7 @@ use std::alloc::{AllocError, Global};
 pub enum Verdict {
     /// Each `Content-Type` is accepted. An offer weighs more than 0, or there are no offers.
     Acceptable,
-    /// A `Content-Type` is rejected, or there are offers and each weighs 0. In the latter case, a server may reply with 406 (RFC 9110,
-    /// 15.5.7).
+    /// A `Content-Type` is rejected, or there are offers and each weighs 0, for which a server may reply with 406 (RFC 9110, 15.5.7).
     NotAcceptable,
 }
 
@@ -85,9 +84,8 @@ fn verdict_of(report: &Report) -> Verdict
     ensures { result ≡ verdict_of (state_now report.now) }
 {
     match report.choice {
-        _ if !report.are_good => Verdict::NotAcceptable,
-        Some((_, false)) => Verdict::NotAcceptable,
-        _ => Verdict::Acceptable,
+        Some((_, true)) | None if report.are_good => Verdict::Acceptable,
+        _ => Verdict::NotAcceptable,
     }
 }
 
@@ -118,10 +116,8 @@ fn asked_by<'a>(choice: &'a Choice, asks: bool, title: &[u8], types: &[Vec<u8>])
     ensures { option_map (λ ranges. medias ranges.now) result ≡ asked_by asks (choice_now choice.now) title.now (map vec_items types.now) }
 {
     let is_answer = asks && is_status_line(title) && !is_interim(title) && types.len() == 1;
-    match choice {
-        Some((ranges, _)) if is_answer => Some(ranges),
-        _ => None,
-    }
+    let choice = choice.as_ref()?;
+    is_answer.then_some(choice.0.as_slice())
 }
 
 /// Returns `true` if the last choice is that of the last request, which is still without an answer after a head.

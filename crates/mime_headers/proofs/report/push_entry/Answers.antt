@@ -1,5 +1,5 @@
 -- An entry is a range or bad.
-use Rattle.mime_headers.proofs.Common.{Err, Ok, ap, arith, length, map-append, medias, rules, tests, vec_items, ◌<◌}
+use Rattle.mime_headers.proofs.Common.{Err, Ok, arith, length, map-append, rules, tests, ◌<◌}
 use Rattle.mime_headers.proofs.report.push_entry.Goals as goal
 
 pub returns-in_ok-push : goal.returns-in_ok-push
@@ -13,4 +13,4 @@ pub returns-in_default : goal.returns-in_default
 returns-in_default c =
     let some : 0 < length c.args.entry.now = search (rules, tests) in
     let read = rw c.in_default.is at c.in_ok-range.ensures in
-    (λ none. absurd (omega (arith, some, none)), λ _. (Err read.0, read.1, ap (λ text. (text, medias (vec_items c.args.ranges.now))) read.2))
+    (λ none. absurd (omega (arith, some, none)), λ _. (Err read.0, read.1, simp read.2))

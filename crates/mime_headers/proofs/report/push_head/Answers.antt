@@ -11,7 +11,8 @@ returns c =
     let rows = simp (c.in_ok-push_spaced.ensures, c.in_ok-push_shown.ensures, title, append_assoc) at c.in_ok-push_types.ensures in
     let asked = rw (title, c.deref.ensures.value, made) at c.asked_by-asked.ensures in
     let asks = rw (title, c.deref-3.ensures.value, c.in_ok-accepts.ensures) at c.asks_after-report.ensures in
-    let counted = simp (c.in_ok-push_shown-2.ensures, c.is_empty.ensures, c.len.ensures, rw made at len, append_assoc) at c.in_ok-push_shown-3.ensures in (
+    let none = simp (c.is_empty.ensures, rw made at len) at c.in_ok-push_shown-2.ensures in
+    let counted = simp (none, c.len.ensures, rw made at len, append_assoc) at c.in_ok-push_shown-3.ensures in (
       (vec_items c.push_types.new.text, c.push_types.new.good),
       rw (asked, c.deref-2.ensures.value, made) at rows,
       rw (c.deref-4.ensures.value, c.in_ok-accepts.ensures, counted, asks) at c.in_ok-push_choice.ensures,

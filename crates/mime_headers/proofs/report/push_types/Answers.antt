@@ -12,12 +12,9 @@ pub loop-value-preserved : goal.loop-value-preserved
 loop-value-preserved c =
     let read = rw (c.trimmed.ensures, c.deref.ensures.value, c.in-Some.is) at c.in_ok-mime.ensures in
     let rows = c.in_ok-push_media.ensures in
-    let answer = c.in_ok-push_answer.ensures in
-    let text : vec_items c.push_answer.new.text ≡ vec_items c.loop-value.text ++ (media_rows c.in-Some.mime.media rows.0 ++ answer.0) =
-    simp (answer.2, rows.2, read.1, append_assoc) in
+    let more = c.in_ok-push_answer.ensures in
     rw (map_more vec_items c.args.values.now c.loop-value.value-index c.value-item.result c.loop-value-test.true, ← c.value-item.is)
-    (FoldsTo-push _ _ _ _ _ _ c.loop-value.invariant
-    (Ok c.in-Some.mime.media, read.0, (rows.0, answer.0, rows.1, answer.1, ap (λ text. (text, c.loop-value.good)) text)))
+    (FoldsTo-push _ _ _ _ _ _ c.loop-value.invariant (Ok _, read.0, (_, _, rows.1, more.1, simp (more.2, rows.2, read.1, append_assoc))))
 
 pub returns : goal.returns
 returns c = search (take_all, rules)

@@ -14,13 +14,13 @@ pub returns : goal.returns
 returns c =
     let heads = c.in_ok-heads.heads in
     let all = rw (c.deref.ensures.value, c.in_ok-lines.ensures) at c.in_ok-heads.ensures in
-    let some : 0 < length (vec_items heads) = search (rules, tests) in
     let past : length c.deref-head-items.result.now ≤ c.loop-head.head-index = omega arith in
     let len : c.len-many.result ≡ length (map lines_now (vec_items heads)) =
     omega (arith, length-map (vec_items heads) lines_now, c.len-many.ensures) in
-    let adds = rw (take_all c.loop-head.head-index c.deref-head-items.result.now past, c.deref-head-items.ensures.value) at c.loop-head.invariant in
+    let all_now = take_all c.loop-head.head-index c.deref-head-items.result.now past in
+    let adds = rw (all_now, c.deref-head-items.ensures.value) at c.loop-head.invariant in
     record {
-      some = rw (← all, length-map) some;
+      some = rw (← all, length-map) (search (rules, tests));
       last = state_now c.push_missing.new.report;
       adds = (state_now c.loop-head.report, rw (len, all) at adds, c.in_ok-push_missing.ensures);
       is_text = simp (c.in_ok-without_controls.ensures, c.in_ok-push_shown.ensures);
