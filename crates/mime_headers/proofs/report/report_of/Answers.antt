@@ -1,5 +1,5 @@
 -- The next head is added.
-use Rattle.mime_headers.proofs.Common.{FoldsTo-push, arith, length, length-map, lines_now, map, map_more, nil_from_length, rules, state_now, take_all, tests, vec_items, ◌<◌, ◌≡◌, ◌≤◌}
+use Rattle.mime_headers.proofs.Common.{FoldsTo-push, arith, length, length-map, lines_now, map, map_more, nil_from_length, rules, state_now, take_all, tests, vec_items, ◌<◌, ◌≡◌}
 use Rattle.mime_headers.proofs.report.report_of.Goals as goal
 
 pub returns-then-is_empty : goal.returns-then-is_empty
@@ -14,10 +14,9 @@ pub returns : goal.returns
 returns c =
     let heads = c.in_ok-heads.heads in
     let all = rw (c.deref.ensures.value, c.in_ok-lines.ensures) at c.in_ok-heads.ensures in
-    let past : length c.deref-head-items.result.now ≤ c.loop-head.head-index = omega arith in
     let len : c.len-many.result ≡ length (map lines_now (vec_items heads)) =
     omega (arith, length-map (vec_items heads) lines_now, c.len-many.ensures) in
-    let all_now = take_all c.loop-head.head-index c.deref-head-items.result.now past in
+    let all_now = take_all c.loop-head.head-index c.deref-head-items.result.now (omega arith) in
     let adds = rw (all_now, c.deref-head-items.ensures.value) at c.loop-head.invariant in
     record {
       some = rw (← all, length-map) (search (rules, tests));
