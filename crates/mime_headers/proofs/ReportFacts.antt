@@ -1,5 +1,5 @@
 -- Heads and offers have one report, with one verdict, so that a page that says less doesn't check.
-use Rattle.mime_headers.proofs.Common.{AddsChoice, AddsEntry, AddsHead, AddsType, Bool, Err, FieldError, FoldsTo, HasBoundary, IsAnswer, IsRead, IsReportOf, List, MediaType, None, Ok, Option, Result, Some, State, Verdict, [], ap, ap₂, arith, bare_lines, false, heads_of, is_cut, length, media_rows, nat_lt, no_field_error, one_field_error, one_printed_text, one_ranking, only_cut, refl, sym, trimmed, true, ℕ, ◌++◌, ◌∙◌, ◌∷◌, ◌≡◌, rules}
+use Rattle.mime_headers.proofs.Common.{AddsChoice, AddsEntry, AddsHead, AddsType, Bool, Err, FieldError, FoldsTo, HasBoundary, IsAnswer, IsRead, IsReportOf, List, MediaType, None, Ok, Option, Result, Some, State, Verdict, [], ap, arith, no_field_error, one_field_error, one_printed_text, one_ranking, only_cut, refl, sym, trimmed, ℕ, ◌∙◌, ◌∷◌, ◌≡◌, rules}
 
 -- A value is read in one way.
 one_reading : (value : List ℕ) (one other : Result MediaType FieldError) → IsRead value one → IsRead value other → one ≡ other
@@ -16,8 +16,7 @@ one_boundary media (Some bytes) None is none = absurd (none bytes is)
 one_boundary media (Some bytes) (Some other) is too = sym is.found ∙ too.found
 
 -- An entry adds one text.
-one_entry : (old : List ℕ × List MediaType) (entry : List ℕ) (new other : List ℕ × List MediaType) → AddsEntry old entry new
-    → AddsEntry old entry other → new ≡ other
+one_entry : (p : List ℕ × List MediaType) (text : List ℕ) (q r : List ℕ × List MediaType) → AddsEntry p text q → AddsEntry p text r → q ≡ r
 one_entry old [] new other one two = one.0 refl ∙ sym (two.0 refl)
 one_entry old (b ∷ entry) new other one two = search (one_reading, rules)
 
@@ -25,15 +24,13 @@ one_entry old (b ∷ entry) new other one two = search (one_reading, rules)
 one_of_all : {P A : Type 0} (R : P → A → P → Type 0) → ((p : P) (x : A) (q r : P) → R p x q → R p x r → q ≡ r)
     → (p : P) (xs : List A) (q r : P) → FoldsTo R p xs q → FoldsTo R p xs r → q ≡ r
 one_of_all R one p [] q r is too = sym is ∙ too
-one_of_all R one p (x ∷ xs) q r (next, is, rest) (other, too, others) =
-    one_of_all R one other xs q r (rw (one p x next other is too) at rest) others
+one_of_all R one p (x ∷ xs) q r (j, is, rest) (k, too, more) = one_of_all R one k xs q r (rw (one p x j k is too) at rest) more
 
 -- A response's media type has one answer.
-one_answer : (asked : Option (List MediaType)) (media : MediaType) (answer other : List ℕ) → IsAnswer asked media answer
-    → IsAnswer asked media other → answer ≡ other
-one_answer None media answer other is too = is ∙ sym too
-one_answer (Some ranges) media answer other (ranking, is, rows) (another, too, others) =
-    cc (rows, others, one_ranking ranges (media ∷ []) ranking another is too)
+one_answer : (by : Option (List MediaType)) (media : MediaType) (one other : List ℕ) → IsAnswer by media one → IsAnswer by media other
+    → one ≡ other
+one_answer None media one other is too = is ∙ sym too
+one_answer (Some by) media one other (a, is, rows) (b, too, more) = cc (rows, more, one_ranking by (media ∷ []) a b is too)
 
 -- A value of `Content-Type` adds one text.
 one_type : (asked : Option (List MediaType)) (old : List ℕ × Bool) (value : List ℕ) (new other : List ℕ × Bool)
@@ -45,8 +42,7 @@ one_type asked old value new other (Err error, is, one) (another, too, two) =
     one ∙ sym (rw (← one_reading (trimmed value) (Err error) another is too) at two)
 
 -- Lines of `Accept` add one text and make one choice.
-one_choice : (offers : List MediaType) (lines : List (List ℕ)) (old new other : State)
-    → AddsChoice offers lines old new → AddsChoice offers lines old other → new ≡ other
+one_choice : (all : List MediaType) (lines : List (List ℕ)) (p q r : State) → AddsChoice all lines p q → AddsChoice all lines p r → q ≡ r
 one_choice offers [] old new other one two = one.0 refl ∙ sym (two.0 refl)
 one_choice offers (line ∷ lines) old new other one two =
     let adds = one.1 (omega arith) in

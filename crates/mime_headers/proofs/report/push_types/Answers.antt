@@ -1,5 +1,5 @@
 -- The next value is added.
-use Rattle.mime_headers.proofs.Common.{Err, FoldsTo-push, Ok, ap, append_assoc, false, map_more, media_rows, rules, take_all, vec_items, ◌++◌, ◌≡◌}
+use Rattle.mime_headers.proofs.Common.{Err, FoldsTo-push, Ok, ap, append_assoc, false, map_more, rules, take_all, vec_items}
 use Rattle.mime_headers.proofs.report.push_types.Goals as goal
 
 pub loop-value-preserved-in_default : goal.loop-value-preserved-in_default

@@ -1,5 +1,5 @@
 -- The next head is added.
-use Rattle.mime_headers.proofs.Common.{FoldsTo-push, arith, length, length-map, lines_now, map, map_more, nil_from_length, rules, state_now, take_all, tests, vec_items, ◌<◌, ◌≡◌}
+use Rattle.mime_headers.proofs.Common.{FoldsTo-push, arith, length, length-map, lines_now, map, map_more, nil_from_length, rules, state_now, take_all, tests, vec_items, ◌≡◌}
 use Rattle.mime_headers.proofs.report.report_of.Goals as goal
 
 pub returns-then-is_empty : goal.returns-then-is_empty

@@ -1,5 +1,5 @@
 -- The heads so far are added.
-use Rattle.mime_headers.proofs.Common.{AddsHead, FoldsTo, None, State, [], false, lines_now, map, medias, state_now, take, true}
+use Rattle.mime_headers.proofs.Common.{AddsHead, FoldsTo, None, [], false, lines_now, map, medias, state_now, take, true}
 use Rattle.mime_headers.proofs.report.report_of.Given as goal
 
 abbrev pub invariant-loop-head : goal.invariant-loop-head
