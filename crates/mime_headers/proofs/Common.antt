@@ -6,7 +6,7 @@ pub use Rattle.mime_headers.specs.{Inner.choice_now, Inner.lines_now, Inner.stat
 pub use Rattle.mime_http.proofs.HandedOut.{no_field_error, one_field_error, one_printed_text, one_ranking, only_cut}
 pub use Rattle.mime_http.specs.{Boundary.IsBoundaryOf, HttpFaults.HttpExplains, HttpFaults.fault_position, HttpList.AreBetweenCommas.comma, HttpList.AreBetweenCommas.line_end, HttpList.AreBetweenCommas.no_line, HttpList.BeginsPiece, HttpList.IsPiece, HttpList.trim_start, HttpList.trimmed, HttpMediaType.IsHttpMediaType, HttpPrinted.field_error_text, Ranking.IsRanking, Unescaped.unescaped, declared.ranking.RankedOffer.RankedOffer, declared.value.FieldError.FieldError, declared.value.FieldError.TheVariants.Invalid, declared.value.FieldError.TheVariants.NoMemory, declared.value.FieldError.TheVariants.NotUtf8}
 pub use Rattle.mime_io.specs.{Lines.lines_of, Lines.row}
-pub use Rattle.std.proofs.Common.{Bool, Bor, Err, List, MatchOption, MatchResult, Vec, None, Ok, Option, Result, Some, String, [], add-one, ap, append-nil, append_assoc, ap₂, arith, codes, drop, drop-cons, drop_of_length-le, false, filter, flat_map, get_or, if◌then◌else◌, length, map, nat_lt, not, option_map, option_to_list, refl, replicate, rules, slice_get, string_bytes, subst, suc, sym, take, true, vec_items, ℕ, ◌&&◌, ◌++◌, ◌+◌, ◌<◌, ◌==◌, ◌||◌, ◌∙◌, ◌∷◌, ◌≡◌, ◌≢◌, ◌≤◌}
-pub use Rattle.std.proofs.lemmas.{Bool.Decides.nat_tests, Bool.ltb-true, Fn.FoldsTo-push, List.drop_more, List.length-map, List.map-append, List.nil_from_length, List.take_all, List.take_more, Option.slice_get-map, Option.slice_get_read}
+pub use Rattle.std.proofs.Common.{Bool, Bor, Err, List, MatchOption, MatchResult, Vec, None, Ok, Option, Result, Some, String, [], add-one, ap, append-nil, append_assoc, ap₂, arith, codes, drop, drop-cons, drop_of_length-le, false, filter, flat_map, get_or, if◌then◌else◌, length, map, nat_lt, not, option_map, option_to_list, refl, replicate, rules, slice_get, string_bytes, subst, suc, sym, take, true, vec_items, vec_len, ℕ, ◌&&◌, ◌++◌, ◌+◌, ◌<◌, ◌==◌, ◌||◌, ◌∙◌, ◌∷◌, ◌≡◌, ◌≢◌, ◌≤◌}
+pub use Rattle.std.proofs.lemmas.{Bool.Decides.nat_tests, Bool.ltb-true, Fn.FoldsTo-push, List.drop_more, List.length-map, List.map-append, List.map_more, List.Folds.flat_map-map, List.nil_from_length, List.take_all, List.take_more, Option.slice_get-map, Option.slice_get_read}
 pub use Rattle.std.specs.{Bool.then_some, Fmt.decimal, Fmt.digits, Global.Global, List.FoldsTo, List.after_first, List.before_first, List.enumerate_from, List.list_all, List.list_any, List.position_or_len, Str.bytes_eq, Str.IsUtf8, Str.Lines.strip_carriage_return, Vec.Iter.into_iter_items, Vec.Iter.into_iter_len}
 pub use borrow.Author.Tests.{tests}

@@ -1,5 +1,4 @@
 mod Common
 mod HeaderFacts
 mod ReportFacts
-mod Rows
 mod Words

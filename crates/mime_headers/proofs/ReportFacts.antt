@@ -1,5 +1,5 @@
 -- Heads and offers have one report, with one verdict, so that a page that says less doesn't check.
-use Rattle.mime_headers.proofs.Common.{AddsChoice, AddsEntry, AddsHead, AddsType, Bool, Err, FieldError, FoldsTo, HasBoundary, IsAnswer, IsRead, IsReportOf, List, MediaType, None, Ok, Option, Result, Some, State, Verdict, [], ap, ap₂, arith, bare_lines, false, heads_of, is_cut, length, media_rows, nat_lt, no_field_error, one_field_error, one_printed_text, one_ranking, only_cut, refl, sym, trimmed, true, ℕ, ◌++◌, ◌∙◌, ◌∷◌, ◌≡◌, rules}
+use Rattle.mime_headers.proofs.Common.{AddsChoice, AddsEntry, AddsHead, AddsType, Bool, Err, FieldError, FoldsTo, HasBoundary, IsAnswer, IsRead, IsReportOf, List, MediaType, None, Ok, Option, Result, Some, State, Verdict, [], ap, arith, no_field_error, one_field_error, one_printed_text, one_ranking, only_cut, refl, sym, trimmed, ℕ, ◌∙◌, ◌∷◌, ◌≡◌, rules}
 
 -- A value is read in one way.
 one_reading : (value : List ℕ) (one other : Result MediaType FieldError) → IsRead value one → IsRead value other → one ≡ other
@@ -16,8 +16,7 @@ one_boundary media (Some bytes) None is none = absurd (none bytes is)
 one_boundary media (Some bytes) (Some other) is too = sym is.found ∙ too.found
 
 -- An entry adds one text.
-one_entry : (old : List ℕ × List MediaType) (entry : List ℕ) (new other : List ℕ × List MediaType) → AddsEntry old entry new
-    → AddsEntry old entry other → new ≡ other
+one_entry : (p : List ℕ × List MediaType) (text : List ℕ) (q r : List ℕ × List MediaType) → AddsEntry p text q → AddsEntry p text r → q ≡ r
 one_entry old [] new other one two = one.0 refl ∙ sym (two.0 refl)
 one_entry old (b ∷ entry) new other one two = search (one_reading, rules)
 
@@ -25,31 +24,25 @@ one_entry old (b ∷ entry) new other one two = search (one_reading, rules)
 one_of_all : {P A : Type 0} (R : P → A → P → Type 0) → ((p : P) (x : A) (q r : P) → R p x q → R p x r → q ≡ r)
     → (p : P) (xs : List A) (q r : P) → FoldsTo R p xs q → FoldsTo R p xs r → q ≡ r
 one_of_all R one p [] q r is too = sym is ∙ too
-one_of_all R one p (x ∷ xs) q r (next, is, rest) (other, too, others) =
-    one_of_all R one other xs q r (rw (one p x next other is too) at rest) others
+one_of_all R one p (x ∷ xs) q r (j, is, rest) (k, too, more) = one_of_all R one k xs q r (rw (one p x j k is too) at rest) more
 
 -- A response's media type has one answer.
-one_answer : (asked : Option (List MediaType)) (media : MediaType) (answer other : List ℕ) → IsAnswer asked media answer
-    → IsAnswer asked media other → answer ≡ other
-one_answer None media answer other is too = is ∙ sym too
-one_answer (Some ranges) media answer other (ranking, is, rows) (another, too, others) =
-    cc (rows, others, one_ranking ranges (media ∷ []) ranking another is too)
+one_answer : (by : Option (List MediaType)) (media : MediaType) (one other : List ℕ) → IsAnswer by media one → IsAnswer by media other
+    → one ≡ other
+one_answer None media one other is too = is ∙ sym too
+one_answer (Some by) media one other (a, is, rows) (b, too, more) = cc (rows, more, one_ranking by (media ∷ []) a b is too)
 
 -- A value of `Content-Type` adds one text.
 one_type : (asked : Option (List MediaType)) (old : List ℕ × Bool) (value : List ℕ) (new other : List ℕ × Bool)
     → AddsType asked old value new → AddsType asked old value other → new ≡ other
-one_type asked old value new other (Ok media, is, one) (Ok another, too, two) =
-    let same : media ≡ another = cc (one_reading (trimmed value) (Ok media) (Ok another) is too) in
-    let more = rw (← same) at two in
-    one.4 ∙ ap₂ (λ boundary answer. (old.0 ++ (media_rows media boundary ++ answer), old.1)) (one_boundary media one.0 more.0 one.2 more.2)
-    (one_answer asked media one.1 more.1 one.3 more.3) ∙ sym more.4
-one_type asked old value new other (Err e, is, one) (Err f, too, two) = cc (one_reading (trimmed value) (Err e) (Err f) is too)
-one_type asked old value new other (Ok m, is, one) (Err e, too, two) = absurd (cc (one_reading (trimmed value) (Ok m) (Err e) is too))
-one_type asked old value new other (Err e, is, one) (Ok m, too, two) = absurd (cc (one_reading (trimmed value) (Err e) (Ok m) is too))
+one_type asked old value new other (Ok media, is, one) (another, too, two) =
+    let more = rw (← one_reading (trimmed value) (Ok media) another is too) at two in
+    cc (one.4, more.4, one_boundary media one.0 more.0 one.2 more.2, one_answer asked media one.1 more.1 one.3 more.3)
+one_type asked old value new other (Err error, is, one) (another, too, two) =
+    one ∙ sym (rw (← one_reading (trimmed value) (Err error) another is too) at two)
 
 -- Lines of `Accept` add one text and make one choice.
-one_choice : (offers : List MediaType) (lines : List (List ℕ)) (old new other : State)
-    → AddsChoice offers lines old new → AddsChoice offers lines old other → new ≡ other
+one_choice : (all : List MediaType) (lines : List (List ℕ)) (p q r : State) → AddsChoice all lines p q → AddsChoice all lines p r → q ≡ r
 one_choice offers [] old new other one two = one.0 refl ∙ sym (two.0 refl)
 one_choice offers (line ∷ lines) old new other one two =
     let adds = one.1 (omega arith) in
@@ -68,8 +61,6 @@ one_head offers many old head new other (one, types, chosen) (two, also, choice)
 one_report : (offers : List MediaType) (bytes text other : List ℕ) (verdict another : Verdict) → IsReportOf offers bytes text verdict
     → IsReportOf offers bytes other another → (text ≡ other) × (verdict ≡ another)
 one_report offers bytes text other verdict another one two =
-    let heads = heads_of (is_cut bytes) (bare_lines (is_cut bytes) bytes) in
-    let none : State = record { text = []; are_good = true; choice = None; asks = false } in
-    let same = one_of_all _ (one_head offers (nat_lt 1 (length heads))) none heads one.state two.state one.adds two.adds in
-    let last = one_choice offers _ _ _ _ (rw same at one.chosen) two.chosen in
+    let same = one_of_all _ (one_head offers _) _ _ _ _ one.adds.1 two.adds.1 in
+    let last = one_choice offers _ _ _ _ (rw same at one.adds.2) two.adds.2 in
     (cc (one.is_text, two.is_text, last), cc (one.is_verdict, two.is_verdict, last))

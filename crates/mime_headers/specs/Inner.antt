@@ -18,5 +18,4 @@ choice_now choice = option_map (λ choice. (medias (vec_items choice.0), choice.
 
 -- what a report knows
 abbrev pub state_now : Report → State
-state_now report =
-    record { text = vec_items report.text; are_good = report.are_good; choice = choice_now report.choice; asks = report.asks }
+state_now it = record { text = vec_items it.text; are_good = it.are_good; choice = choice_now it.choice; asks = it.asks }

@@ -26,17 +26,20 @@ pub record State : Type 0 where
 abbrev pub shown : List ℕ → List ℕ
 shown bytes = map (λ b. if b == 32 || is_ascii_graphic b then b else 46) bytes
 
+-- a row of what is shown of bytes, if it is wanted
+abbrev pub row_when : Bool → List ℕ → List ℕ → List ℕ
+row_when wanted label bytes = if wanted then row label (shown bytes) else []
+
 -- a byte as a person reads it, and in hexadecimal; with a remark if it is `(`, which begins a comment in mail
 abbrev pub byte_text : ℕ → List ℕ
-byte_text b =
-    (if b == 32 then codes " space" else if b == 9 then codes " tab" else if is_ascii_graphic b then 32 ∷ b ∷ [] else [])
+byte_text b = (if b == 32 then codes " space" else if b == 9 then codes " tab" else if is_ascii_graphic b then 32 ∷ b ∷ [] else [])
     ++ (codes " (" ++ (digits 16 true b ++ (if b == 40 then codes "): HTTP has no comments" else codes ")")))
 
 -- the rows of a rejected value of a field: its fault, and the value over a caret at the byte at fault, with this byte, if there is one
 abbrev pub fault_rows : List ℕ → List ℕ → FieldError → List ℕ
-fault_rows label value error =
+fault_rows label value error = let at = fault_position value error in
     row label (field_error_text error) ++ (row (codes "    ") (shown value) ++ (codes "    "
-    ++ (replicate (fault_position value error) 32 ++ row (codes "^") (unwrap_or (option_map byte_text (slice_get value (fault_position value error))) []))))
+    ++ (replicate at 32 ++ row (codes "^") (unwrap_or (option_map byte_text (slice_get value at)) []))))
 
 -- ---- Content-Type
 
@@ -44,13 +47,11 @@ fault_rows label value error =
 abbrev pub row_if : List ℕ → Option (List ℕ) → List ℕ
 row_if label text = unwrap_or (option_map (row label) text) []
 
--- the rows of a media type: its kept text, its essence, its suffix if there is one, each parameter with what its value means, and its
--- boundary if there is one
+-- the rows of a media type: its kept text, its essence, any suffix, each parameter with what its value means, and any boundary
 abbrev pub media_rows : MediaType → Option (List ℕ) → List ℕ
-media_rows media boundary =
-    codes "Content-Type " ++ (media.kept ++ (codes "\nessence " ++ (media.essence ++ (codes "\n" ++ (row_if (codes "suffix ")
-    (suffix_of media) ++ (flat_map (λ pair. row (codes "param ") (pair.0 ++ (codes "=" ++ unescaped pair.1))) media.pairs
-    ++ row_if (codes "boundary ") boundary))))))
+media_rows media boundary = codes "Content-Type " ++ (media.kept ++ (codes "\nessence " ++ (media.essence ++ (codes "\n"
+    ++ (row_if (codes "suffix ") (suffix_of media) ++ (flat_map (λ pair. row (codes "param ") (pair.0 ++ (codes "=" ++ unescaped pair.1)))
+    media.pairs ++ row_if (codes "boundary ") boundary))))))
 
 -- a media type has this boundary, or none
 abbrev pub HasBoundary : MediaType → Option (List ℕ) → Type 0
@@ -68,9 +69,8 @@ is_plain entry range = unwrap_or (option_map is_qvalue (first_value (codes "q") 
 
 -- the row of a range that is read of an entry, with a remark if its `q` isn't allowed
 abbrev pub range_row : List ℕ → MediaType → List ℕ
-range_row entry range =
-    codes "Accept " ++ (weight_text (weight_of range) ++ (codes " " ++ (range.kept ++ (if is_plain entry range then codes "\n"
-    else codes " (q isn't a weight in HTTP, counted as " ++ (weight_text (weight_of range) ++ codes ")\n")))))
+range_row entry range = codes "Accept " ++ (weight_text (weight_of range) ++ (codes " " ++ (range.kept ++ (if is_plain entry range
+    then codes "\n" else codes " (q isn't a weight in HTTP, counted as " ++ (weight_text (weight_of range) ++ codes ")\n")))))
 
 -- a report and its ranges after an entry: an entry that is a range adds its row and itself, and a rejected entry adds its fault's rows
 abbrev pub with_entry : List ℕ × List MediaType → List ℕ → Result MediaType FieldError → List ℕ × List MediaType
@@ -79,8 +79,7 @@ with_entry (text, ranges) entry (Err error) = (text ++ fault_rows (codes "bad Ac
 
 -- An empty entry changes nothing. Any other entry is read and added.
 abbrev pub AddsEntry : List ℕ × List MediaType → List ℕ → List ℕ × List MediaType → Type 0
-AddsEntry old entry new =
-    (length entry ≡ 0 → new ≡ old)
+AddsEntry old entry new = (length entry ≡ 0 → new ≡ old)
     × (0 < length entry → (reading : Result MediaType FieldError) × IsRead entry reading × (new ≡ with_entry old entry reading))
 
 -- Lines add their entries in order: the texts between commas outside strings, each without the white space around it.
@@ -100,15 +99,13 @@ decider ranges one = option_and_then (λ at. option_map (λ range. (at, range)) 
 
 -- that a range would decide but for a parameter; nothing if it wouldn't
 abbrev pub lacks_text : MediaType → Option MediaType → ℕ × MediaType → List ℕ
-lacks_text offer decider (at, range) =
-    unwrap_or (option_map (λ pair. codes " (lacks " ++ (pair.0 ++ (codes "=" ++ (unescaped pair.1 ++ (codes " of "
-    ++ (numbered (at, range) ++ codes ")")))))) (lacked range decider offer)) []
+lacks_text offer decider (at, range) = unwrap_or (option_map (λ pair. codes " (lacks " ++ (pair.0 ++ (codes "=" ++ (unescaped pair.1
+    ++ (codes " of " ++ (numbered (at, range) ++ codes ")")))))) (lacked range decider offer)) []
 
 -- the row of an offer, if there is one: its weight, its kept text, the range that decides, and those that would but for a parameter
 abbrev pub offer_row : List ℕ → List MediaType → RankedOffer → Option MediaType → List ℕ
 offer_row label ranges one None = []
-offer_row label ranges one (Some offer) =
-    label ++ (weight_text one.weight ++ (codes " " ++ (offer.kept ++ (codes " by "
+offer_row label ranges one (Some offer) = label ++ (weight_text one.weight ++ (codes " " ++ (offer.kept ++ (codes " by "
     ++ (unwrap_or (option_map numbered (decider ranges one)) (codes "none")
     ++ (flat_map (lacks_text offer (option_map (λ item. item.1) (decider ranges one))) (enumerate_from 0 ranges) ++ codes "\n"))))))
 
@@ -132,16 +129,15 @@ IsAnswer asked media answer = MatchOption asked (answer ≡ []) (λ ranges. (ran
 -- A value of `Content-Type` is read without the white space around it (RFC 9110, 5.5), and what is read adds its rows to a report, for the
 -- ranges `asked` of a request. `are_good`, whether all values so far are accepted, becomes `false` if this value is rejected.
 abbrev pub AddsType : Option (List MediaType) → List ℕ × Bool → List ℕ → List ℕ × Bool → Type 0
-AddsType asked (text, are_good) value new =
-    (reading : Result MediaType FieldError) × IsRead (trimmed value) reading × MatchResult reading
+AddsType asked (text, are_good) value new = (reading : Result MediaType FieldError) × IsRead (trimmed value) reading × MatchResult reading
     (λ media. (boundary : Option (List ℕ)) × (answer : List ℕ) × HasBoundary media boundary × IsAnswer asked media answer
     × (new ≡ (text ++ (media_rows media boundary ++ answer), are_good)))
     (λ error. new ≡ (text ++ fault_rows (codes "bad Content-Type ") (trimmed value) error, false))
 
 -- the row which says that there is no `Content-Type`, or more than one; nothing if there is one
 abbrev pub count_row : List (List ℕ) → List ℕ
-count_row [] = codes "no Content-Type\n"
-count_row (value ∷ values) = if length values == 0 then [] else codes "several Content-Type lines (HTTP allows one)\n"
+count_row values = row_when (length values == 0) (codes "no Content-Type") []
+    ++ row_when (nat_lt 1 (length values)) (codes "several Content-Type lines (HTTP allows one)") []
 
 -- ---- heads
 
@@ -152,16 +148,11 @@ empty_row old new = if length old == length new then codes "empty Accept\n" else
 -- The lines of `Accept`, which are one list (RFC 9110, 5.3), and the offers add their rows to a report, and make a choice by their ranges.
 -- Without lines, nothing is added, and no choice is made.
 abbrev pub AddsChoice : List MediaType → List (List ℕ) → State → State → Type 0
-AddsChoice offers lines old new =
-    (length lines ≡ 0 → new ≡ old) × (0 < length lines → (read : List ℕ × List MediaType) × (ranking : List RankedOffer)
-    × AddsLines lines (old.text, []) read × IsRanking read.1 offers ranking × (new ≡ record old {
+AddsChoice offers lines old new = (length lines ≡ 0 → new ≡ old) × (0 < length lines → (read : List ℕ × List MediaType)
+    × (ranking : List RankedOffer) × AddsLines lines (old.text, []) read × IsRanking read.1 offers ranking × (new ≡ record old {
       text = read.0 ++ (empty_row old.text read.0 ++ (offer_rows (codes "offer ") read.1 offers ranking ++ (best_row offers ranking).0));
       choice = Some (read.1, (best_row offers ranking).1);
     }))
-
--- a row of what is shown of bytes, if it is wanted
-abbrev pub row_when : Bool → List ℕ → List ℕ → List ℕ
-row_when wanted label bytes = if wanted then row label (shown bytes) else []
 
 -- the row of a line with white space between the name `Content-Type` or `Accept` and a colon
 abbrev pub spaced_row : List ℕ → List ℕ
@@ -204,14 +195,12 @@ AddsMissing all old new = AddsChoice all (missing all old.choice).1 (record old 
 abbrev pub verdict_of : State → Verdict
 verdict_of end = if end.are_good && unwrap_or (option_map (λ it. it.1) end.choice) true then Verdict.Acceptable else Verdict.NotAcceptable
 
--- There are heads. The text is the report on them and on offers, and says if they are cut off. It has no control characters. The verdict is
--- the report's.
+-- There are heads. The text is the report on them and on offers, without controls, and says if they are cut off. The verdict is the report's.
 pub record IsReport (offers : List MediaType) (cut : Bool) (heads : List (List (List ℕ))) (text : List ℕ) (verdict : Verdict) : Type 0 where
   pub some : 0 < length heads
-  pub state : State
-  pub adds : FoldsTo (AddsHead offers (nat_lt 1 (length heads))) (record { text = []; are_good = true; choice = None; asks = false }) heads state
   pub last : State
-  pub chosen : AddsMissing offers state last
+  pub adds : (state : State) × FoldsTo (AddsHead offers (nat_lt 1 (length heads)))
+      (record { text = []; are_good = true; choice = None; asks = false }) heads state × AddsMissing offers state last
   pub is_text : text ≡ without_controls (last.text ++ row_when cut (codes "not read after ") (codes "1048576 bytes"))
   pub is_verdict : verdict ≡ verdict_of last
 

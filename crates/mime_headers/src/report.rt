@@ -4,7 +4,7 @@ ghost use Rattle.std.specs.Prelude.{◌≡◌, ◌++◌, ℕ, List, [], Err, Ok,
 ghost use Rattle.std.specs.{List.FoldsTo, List.enumerate_from, Vec.vec_items};
 ghost use Rattle.mime_http.specs.Ranking.{IsRanking};
 ghost use Rattle.mime_headers.specs.{Head.bare_lines, Head.heads_of, Inner.choice_now, Inner.medias, Inner.state_now};
-ghost use Rattle.mime_headers.specs.Report.{AddsChoice, AddsEntry, AddsHead, AddsLines, AddsMissing, AddsType, HasBoundary, IsAnswer, IsRead, IsReportOf, asked_by, asks_after, best_row, byte_text, count_row, decider, fault_rows, is_cut, is_plain, lacks_text, media_rows, offer_row, offer_rows, row_if, range_row, row_when, spaced_row, verdict_of, weight_text};
+ghost use Rattle.mime_headers.specs.Report.{AddsChoice, AddsEntry, AddsHead, AddsLines, AddsMissing, AddsType, HasBoundary, IsAnswer, IsRead, IsReportOf, asked_by, asks_after, best_row, byte_text, decider, is_plain, fault_rows, is_cut, lacks_text, media_rows, offer_row, offer_rows, row_if, range_row, row_when, spaced_row, verdict_of, weight_text};
 
 use crate::head::{
     Made, bare_lines, heads_of, is_interim, is_spaced, is_status_line, title_of, values_of,
@@ -23,8 +23,7 @@ use std::alloc::{AllocError, Global};
 pub enum Verdict {
     /// Each `Content-Type` is accepted. An offer weighs more than 0, or there are no offers.
     Acceptable,
-    /// A `Content-Type` is rejected, or there are offers and each weighs 0. In the latter case, a server may reply with 406 (RFC 9110,
-    /// 15.5.7).
+    /// A `Content-Type` is rejected, or there are offers and each weighs 0, for which a server may reply with 406 (RFC 9110, 15.5.7).
     NotAcceptable,
 }
 
@@ -85,9 +84,8 @@ fn verdict_of(report: &Report) -> Verdict
     ensures { result ≡ verdict_of (state_now report.now) }
 {
     match report.choice {
-        _ if !report.are_good => Verdict::NotAcceptable,
-        Some((_, false)) => Verdict::NotAcceptable,
-        _ => Verdict::Acceptable,
+        Some((_, true)) | None if report.are_good => Verdict::Acceptable,
+        _ => Verdict::NotAcceptable,
     }
 }
 
@@ -104,7 +102,9 @@ fn push_head(report: &mut Report, offers: &[Mime], many: bool, head: &[&[u8]]) -
     push_spaced(text, head)?;
     let asked = asked_by(&report.choice, report.asks, title, &types);
     push_types(text, &mut report.are_good, asked, &types)?;
-    push(text, &[count_row(&types)])?;
+    push_shown(text, types.is_empty(), b"no Content-Type", b"")?;
+    let several = b"several Content-Type lines (HTTP allows one)";
+    push_shown(text, types.len() > 1, several, b"")?;
     report.asks = asks_after(report.asks, title, &accepts);
     push_choice(report, offers, &accepts)?;
     Ok(())
@@ -116,10 +116,8 @@ fn asked_by<'a>(choice: &'a Choice, asks: bool, title: &[u8], types: &[Vec<u8>])
     ensures { option_map (λ ranges. medias ranges.now) result ≡ asked_by asks (choice_now choice.now) title.now (map vec_items types.now) }
 {
     let is_answer = asks && is_status_line(title) && !is_interim(title) && types.len() == 1;
-    match choice {
-        Some((ranges, _)) if is_answer => Some(ranges),
-        _ => None,
-    }
+    let choice = choice.as_ref()?;
+    is_answer.then_some(choice.0.as_slice())
 }
 
 /// Returns `true` if the last choice is that of the last request, which is still without an answer after a head.
@@ -267,17 +265,6 @@ fn read(text: &mut Vec<u8>, label: &[u8], value: &[u8]) -> Made<Option<Mime>>
     }
 }
 
-/// Returns the row for no `Content-Type` or for several, or an empty slice for one.
-fn count_row(values: &[Vec<u8>]) -> &'static [u8]
-    ensures { result.now ≡ count_row (map vec_items values.now) }
-{
-    match values {
-        [] => b"no Content-Type\n",
-        [_] => b"",
-        _ => b"several Content-Type lines (HTTP allows one)\n",
-    }
-}
-
 /// Adds the rows of a media type.
 fn push_media(text: &mut Vec<u8>, mime: &Mime) -> Made<()>
     ensures { OnOk result ((boundary : Option (List ℕ)) × HasBoundary mime.now.media boundary
@@ -312,8 +299,7 @@ fn push_fault(text: &mut Vec<u8>, label: &[u8], value: &[u8], error: FieldError)
     }
     push(text, &[b"^"])?;
     push_byte(text, byte_at(value, at))?;
-    push(text, &[b"\n"])?;
-    Ok(())
+    push(text, &[b"\n"])
 }
 
 /// Returns the byte at a position, or `None` if there is none.
@@ -383,15 +369,16 @@ fn push_entry(text: &mut Vec<u8>, ranges: &mut Vec<Mime>, entry: &[u8]) -> Made<
 fn push_range(text: &mut Vec<u8>, entry: &[u8], range: &Mime) -> Made<()>
     ensures { OnOk result (vec_items text.new ≡ vec_items text.old ++ range_row entry.now range.now.media) }
 {
-    let (weight, kept) = (decimals(weight_of(range)), range.as_str().as_bytes());
-    if is_plain(entry, range) {
-        return push(text, &[b"Accept ", &weight, b" ", kept, b"\n"]);
-    }
-    let remark = b" (q isn't a weight in HTTP, counted as ";
+    let weight = decimals(weight_of(range));
     push(
         text,
-        &[b"Accept ", &weight, b" ", kept, remark, &weight, b")\n"],
-    )
+        &[b"Accept ", &weight, b" ", range.as_str().as_bytes()],
+    )?;
+    if is_plain(entry, range) {
+        return push(text, &[b"\n"]);
+    }
+    let remark = b" (q isn't a weight in HTTP, counted as ";
+    push(text, &[remark, &weight, b")\n"])
 }
 
 /// Returns `true` if an entry has a weight as RFC 9110 allows it (12.4.2), or none. `range` is what is read of the entry.

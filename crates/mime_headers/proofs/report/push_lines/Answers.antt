@@ -3,16 +3,14 @@ use Rattle.mime_headers.proofs.Common.{[], arith, comma, drop_of_length-le, leng
 use Rattle.mime_headers.proofs.report.push_lines.Goals as goal
 
 pub loop-rest-preserved : goal.loop-rest-preserved
-loop-rest-preserved c end adds =
+loop-rest-preserved c q is =
     let cut = rw c.in-Some.is at c.first_entry.ensures in
-    let entry = rw c.trimmed.ensures at c.in_ok-push_entry.ensures in
-    c.loop-rest.invariant end (rw cut.0 (c.first_entry.result.0.now ∷ adds.0, comma _ _ _ adds.0 cut.1 adds.1, (_, entry, adds.2)))
+    c.loop-rest.invariant q (rw cut.0 (_ ∷ is.0, comma _ _ _ _ cut.1 is.1, (_, rw c.trimmed.ensures at c.in_ok-push_entry.ensures, is.2)))
 
 pub loop-line-preserved : goal.loop-line-preserved
-loop-line-preserved c end adds =
+loop-line-preserved c q is =
     let cut = rw c.in_default.is at c.first_entry.ensures in
-    let entry = rw c.trimmed.ensures at c.in_ok-push_entry.ensures in
-    c.loop-rest.invariant end (rw cut.0 (c.first_entry.result.0.now ∷ adds.0, line_end _ _ adds.0 cut.1 adds.1, (_, entry, adds.2)))
+    c.loop-rest.invariant q (rw cut.0 (_ ∷ is.0, line_end _ _ _ cut.1 is.1, (_, rw c.trimmed.ensures at c.in_ok-push_entry.ensures, is.2)))
 
 pub returns : goal.returns
 returns c =

@@ -1,8 +1,7 @@
--- What is added, and what is left to add, make up all rows.
-use Rattle.mime_headers.proofs.Common.{drop, map, offer_rows, vec_items, ◌++◌, ◌≡◌}
+-- The rows so far are added.
+use Rattle.mime_headers.proofs.Common.{medias, offer_rows, take, vec_items, ◌++◌, ◌≡◌}
 use Rattle.mime_headers.proofs.report.push_offers.Given as goal
 
 abbrev pub invariant-loop-one : goal.invariant-loop-one
 invariant-loop-one l =
-    let rows = offer_rows l.fn.label (map (λ range. range.media) l.ranges) (map (λ offer. offer.media) l.fn.offers) in
-    vec_items l.text ++ rows (drop l.one-index l.one-items) ≡ vec_items l.initial.text ++ rows l.one-items
+    vec_items l.text ≡ vec_items l.fn.text ++ offer_rows l.label (medias l.ranges) (medias l.offers) (take l.one-index l.one-items)
