@@ -104,8 +104,8 @@ star q = record { essence = codes "*/*"; slash = 1; plus = None; pairs = (codes 
 -- after the value.
 rows_of_values : (media_rows media None ≡ codes "Content-Type a/b+c;p=\"x\\\"y\"\nessence a/b+c\nsuffix c\nparam p=x\"y\n")
     × (media_rows (star (codes "1")) (Some (codes "d")) ≡ codes "Content-Type */*;q=1\nessence */*\nparam q=1\nboundary d\n")
-    × (shown (97 ∷ 32 ∷ 126 ∷ 0 ∷ 9 ∷ 27 ∷ 127 ∷ 195 ∷ []) ≡ codes "a ~.....") × (map byte_text (99 ∷ 32 ∷ 9 ∷ 233 ∷ 40 ∷ [])
-    ≡ codes " c (63)" ∷ codes " space (20)" ∷ codes " tab (9)" ∷ codes " (E9)" ∷ codes " ( (28): HTTP has no comments" ∷ [])
+    × (shown (97 ∷ 32 ∷ 126 ∷ 0 ∷ 9 ∷ 27 ∷ 127 ∷ 195 ∷ []) ≡ codes "a ~.....") × (map byte_text (99 ∷ 32 ∷ 9 ∷ 234 ∷ 40 ∷ [])
+    ≡ codes " c (63)" ∷ codes " space (20)" ∷ codes " tab (9)" ∷ codes " (EA)" ∷ codes " ( (28): HTTP has no comments" ∷ [])
     × (fault_rows (codes "bad Content-Type ") (codes "a\tb/") (Invalid MissingSubtype)
     ≡ codes "bad Content-Type mime parse error: a subtype was missing behind the slash (/)\n    a.b/\n        ^\n")
     × (fault_rows (codes "bad Accept ") (codes "a c") (NotUtf8 1)
