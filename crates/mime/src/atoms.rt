@@ -11,8 +11,8 @@ use crate::value::Mime;
 use std::fmt;
 
 /// A constant media type (RFC 7231, 3.1.1.1). [`Atom::mime`] returns it as a [`Mime`], and [`Atom::text`] as a string:
-/// `TEXT_PLAIN.mime()` is the media type `text/plain`. An `Atom` can be matched and copied, and never allocates. `Atom`
-/// doesn't implement `Ord`, but `Mime` does.
+/// `TEXT_PLAIN.mime()` is the media type `text/plain`. An `Atom` can be matched and copied, and never allocates. A `match` needs an arm
+/// for other constants, since a later version may have more. `Atom` doesn't implement `Ord`, but `Mime` does.
 ///
 /// The crate root exports each variant, such as [`TEXT_PLAIN`](crate::TEXT_PLAIN), so that a `match` can name it:
 ///
@@ -32,6 +32,7 @@ use std::fmt;
 /// IANA's registry of media types (RFC 6838) lists most of the constants. Constants with a `*` are media ranges (RFC 7231, 5.3.2).
 #[derive(Clone, Copy, PartialEq, Eq, Hash)]
 #[allow(non_camel_case_types)]
+#[non_exhaustive]
 pub enum Atom {
     /// `*/*`
     STAR_STAR,
