@@ -1,14 +1,16 @@
-"""What the tools share: commands with time limits, none of which outlives its tool; what passed in earlier runs; and programs. Run by
+"""What the tools share: commands with time limits, none of which outlives its tool; what passed in earlier runs; proofs and programs. Run by
 tools/run_proved, by Python 3.8 or later, it proves and builds one. A tool that reads this with `--help` alone only prints its head."""
 
 import fcntl
 import functools
+import hashlib
 import os
 import re
 import shutil
 import signal
 import subprocess
 import sys
+import tempfile
 import time
 from collections import namedtuple
 from concurrent.futures import ThreadPoolExecutor, wait
@@ -19,10 +21,15 @@ from pathlib import Path
 
 TOP = os.path.dirname(os.path.dirname(os.path.realpath(__file__)))
 TOOL = re.sub("^tools/", "", os.path.relpath(os.path.realpath(sys.argv[0]), TOP))
-# Where the crates lie with the proofs that `rt check` keeps. `check` names a copy, since rt ci keeps none.
+# Where the crates lie with the proofs that `rt check` keeps. `check` names a copy, since rt ci keeps none, and a file that is there once
+# rt ci has ended. With COMING, `check` puts the libraries that rt ci proves into the copy.
 PROVED = os.environ.get("PROVED") or TOP
-# What passed in earlier runs: a file each, with a checksum of all that it rests on. A fresh clone has none.
-KEPT = f"{TOP}/out/kept"
+CI_ENDED, COMING = os.environ.get("CI_ENDED"), bool(os.environ.get("COMING"))
+# What is kept beyond this clone: what passed, and copies with proofs. With ANEW, nothing that earlier runs kept is taken.
+CACHE = os.environ.get("LEKHSOM_CACHE") or os.path.join(os.environ.get("XDG_CACHE_HOME") or os.path.expanduser("~/.cache"), "lekhsom")
+PASSED, ANEW = f"{CACHE}/passed", bool(os.environ.get("ANEW"))
+# The days after which what no run has asked for is removed.
+KEPT_DAYS = 60
 # The seconds that rt may take for one command, and a program for one input. Both take far less, unless they make way for others.
 RT_SECONDS, PROGRAM_SECONDS = 60 * 60, 60
 
@@ -131,21 +138,54 @@ def tracked():
 
 
 @functools.lru_cache(None)
+def kit():
+    """What tells the kit: what it says of itself, its command, the sizes and times of its files, and the Python that runs the tools."""
+    listed, folder = "", os.path.dirname(run_ok("rt", "doc").strip())
+    if folder:
+        own = "-type d ( -name out -o -name __pycache__ ) -prune -o -type f -printf %P\\t%s\\t%T@\\n".split()
+        listed = "\n".join(sorted(run_ok("find", folder, *own).split("\n")))
+    return hashlib.sha256(repr((run_ok("rt", "version"), Path(shutil.which("rt")).read_bytes(), listed, sys.version)).encode()).hexdigest()
+
+
+@functools.lru_cache(None)
 def checksum(*paths):
     """A checksum of the kit, and of these files and folders as far as git doesn't ignore them."""
-    files = 'git ls-files -coz --exclude-standard -- "$@" | LC_ALL=C sort -z | xargs -0 sha256sum'
-    return run_ok("bash", "-eo", "pipefail", "-c", f"(rt version; {files}) | sha256sum", "bash", *paths)
+    found = hashlib.sha256(kit().encode())
+    for path in sorted(run_ok("git", "ls-files", "-coz", "--exclude-standard", "--", *paths).split("\0")[:-1]):
+        content = hashlib.sha256(Path(TOP, path).read_bytes()).hexdigest()
+        found.update(f"{content} {os.access(f'{TOP}/{path}', os.X_OK)} {path}\n".encode())
+    return found.hexdigest()
+
+
+def kept_file(name, paths, more):
+    """The file that is there if a thing has passed, and that has another name if these files and folders, or more, are others."""
+    return Path(PASSED, f"{name.replace('/', '.')}.{hashlib.sha256((checksum(*paths) + more).encode()).hexdigest()}")
 
 
 def is_kept(name, paths, more):
-    """Whether a thing has passed, and nothing that it rests on has changed since: these files and folders, and more."""
-    return os.path.exists(f"{KEPT}/{name}") and Path(KEPT, name).read_text(encoding="utf-8") == checksum(*paths) + more
+    """Whether a thing has passed on this machine, in any clone, and nothing that it rests on has changed since: these files and folders,
+    and more."""
+    with suppress(OSError):
+        os.utime(kept_file(name, paths, more))
+        return not ANEW
+    return False
 
 
 def keep(name, paths, more):
-    """Keeps that a thing passed, unless a file that it rests on has changed meanwhile."""
-    if checksum.__wrapped__(*paths) == checksum(*paths):
-        write(f"{KEPT}/{name}", checksum(*paths) + more)
+    """Keeps that a thing passed, unless a file that it rests on has changed meanwhile. What can't be written isn't kept."""
+    with suppress(OSError):
+        if checksum.__wrapped__(*paths) == checksum(*paths):
+            prune()
+            kept_file(name, paths, more).touch()
+
+
+@functools.lru_cache(None)
+def prune():
+    """Removes what no run has asked for in a long time."""
+    os.makedirs(PASSED, exist_ok=True)
+    for it in os.scandir(PASSED):
+        if it.stat().st_mtime < time.time() - KEPT_DAYS * 24 * 60 * 60:
+            os.remove(it.path)
 
 
 def need(what, *packages):
@@ -180,23 +220,59 @@ def write(path, text):
     Path(path).write_text(text, encoding="utf-8")
 
 
+def link_or_copy(file, copied):
+    """Gives a file a second name, or copies it, if it can't have one."""
+    try:
+        os.link(file, copied)
+    except OSError:
+        shutil.copy2(file, copied)
+
+
 def copy_built(top, to, crates):
     """Copies what was built of these crates below one folder to another. A file of a proof or a library only gets a second name, if it can,
     since rt replaces such a file and writes into none."""
     def copy(file, copied):
-        with suppress(OSError):
-            if file.endswith(".oantt") or "/out/rlib/" in file:
-                return os.link(file, copied)
-        return shutil.copy2(file, copied)
+        is_replaced = file.endswith(".oantt") or "/out/rlib/" in file
+        return link_or_copy(file, copied) if is_replaced else shutil.copy2(file, copied)
 
-    for it in (it for crate in crates for it in glob(f"crates/{crate}/out", root_dir=top)):
-        shutil.copytree(f"{top}/{it}", f"{to}/{it}", copy_function=copy)
+    for folder in (folder for crate in crates for folder in glob(f"crates/{crate}/out", root_dir=top)):
+        shutil.copytree(f"{top}/{folder}", f"{to}/{folder}", copy_function=copy)
+
+
+def copy_sources(to, crates):
+    """Copies the sources of these crates from here, without what was built of them, to a repository that rt takes for one."""
+    for name in ("crates.txt", "HANDLES"):
+        write(f"{to}/{name}", text_of(name))
+    for crate in crates:
+        shutil.copytree(f"{TOP}/crates/{crate}", f"{to}/crates/{crate}", ignore=shutil.ignore_patterns("out"))
+    os.makedirs(f"{to}/.git", exist_ok=True)
 
 
 def below(crate):
     """A crate, and the repository's libraries that its line of crates.txt names, the lowest first."""
     libraries = re.search(rf"(?m)^{crate}\b[^:\n]*:(.*)", text_of("crates.txt"))[1].split()
     return [*dict.fromkeys(name for it in libraries for name in below(it)), crate]
+
+
+def is_static(crate):
+    return f"\n{crate} staticlib:" in text_of("crates.txt")
+
+
+def is_library(crate):
+    """Whether other crates can stand on a crate."""
+    return not is_static(crate) and not os.path.exists(f"{TOP}/crates/{crate}/src/main.rt")
+
+
+def prove(crate):
+    """Proves a crate in PROVED, as far as it isn't. A library that rt ci proves, and that `check` puts there, is waited for."""
+    folder = f"{PROVED}/crates/{crate}"
+    while COMING and is_library(crate) and not os.path.exists(CI_ENDED):
+        if os.path.exists(f"{folder}/out/rlib/stamp"):
+            return
+        run_ok("sleep", "1")
+    # A static library is built as tools/c_library takes it.
+    kind = ["lib"] if is_library(crate) else ["lib", "--cpu", "x86-64"] if is_static(crate) else ["check"]
+    run_ok("rt", *kind, "--jobs", "1", folder=folder)
 
 
 def build(crate, command, log):
