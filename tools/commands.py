@@ -1,5 +1,5 @@
-"""What the tools share: commands with time limits, none of which outlives its tool; what passed in earlier runs; proofs and programs. Run by
-tools/run_proved, by Python 3.8 or later, it proves and builds one. A tool that reads this with `--help` alone only prints its head."""
+"""What the tools share: commands with time limits, none of which outlives its tool; what passed in earlier runs; proofs and programs. Run
+by tools/run_proved, by Python 3.8 or later, it proves and builds one. A tool that reads this with `--help` alone only prints its head."""
 
 import fcntl
 import functools
@@ -13,7 +13,7 @@ import sys
 import tempfile
 import time
 from collections import namedtuple
-from concurrent.futures import ThreadPoolExecutor, wait
+from concurrent.futures import FIRST_COMPLETED, ThreadPoolExecutor, wait
 from contextlib import suppress
 from difflib import unified_diff
 from glob import glob
@@ -235,16 +235,15 @@ def copy_built(top, to, crates):
         is_replaced = file.endswith(".oantt") or "/out/rlib/" in file
         return link_or_copy(file, copied) if is_replaced else shutil.copy2(file, copied)
 
-    for folder in (folder for crate in crates for folder in glob(f"crates/{crate}/out", root_dir=top)):
-        shutil.copytree(f"{top}/{folder}", f"{to}/{folder}", copy_function=copy)
+    for folder in (folder for crate in crates for folder in glob(f"{top}/crates/{crate}/out")):
+        shutil.copytree(folder, to + folder[len(top) :], copy_function=copy)
 
 
-def copy_sources(to, crates):
-    """Copies the sources of these crates from here, without what was built of them, to a repository that rt takes for one."""
+def copy_sources(to):
+    """Makes a repository for rt of the crates here, without what was built of them."""
     for name in ("crates.txt", "HANDLES"):
         write(f"{to}/{name}", text_of(name))
-    for crate in crates:
-        shutil.copytree(f"{TOP}/crates/{crate}", f"{to}/crates/{crate}", ignore=shutil.ignore_patterns("out"))
+    shutil.copytree(f"{TOP}/crates", f"{to}/crates", ignore=shutil.ignore_patterns("out"))
     os.makedirs(f"{to}/.git", exist_ok=True)
 
 
@@ -263,47 +262,86 @@ def is_library(crate):
     return not is_static(crate) and not os.path.exists(f"{TOP}/crates/{crate}/src/main.rt")
 
 
+def comes(crate):
+    """Whether `check` puts this library into PROVED, once rt ci has proved it."""
+    return COMING and is_library(crate)
+
+
+def is_here(crate):
+    """Whether a library that comes is in PROVED."""
+    return os.path.exists(f"{PROVED}/crates/{crate}/out/rlib/stamp")
+
+
 def prove(crate):
-    """Proves a crate in PROVED, as far as it isn't. A library that rt ci proves, and that `check` puts there, is waited for."""
-    folder = f"{PROVED}/crates/{crate}"
-    while COMING and is_library(crate) and not os.path.exists(CI_ENDED):
-        if os.path.exists(f"{folder}/out/rlib/stamp"):
-            return
-        run_ok("sleep", "1")
-    # A static library is built as tools/c_library takes it.
+    """Proves a crate in PROVED, as far as it isn't. A static library is built as tools/c_library takes it."""
     kind = ["lib"] if is_library(crate) else ["lib", "--cpu", "x86-64"] if is_static(crate) else ["check"]
-    run_ok("rt", *kind, "--jobs", "1", folder=folder)
+    run_ok("rt", *kind, "--jobs", "1", folder=f"{PROVED}/crates/{crate}")
 
 
-def build(crate, command, log):
-    """Has rt prove and build a program of a crate, and says how far it is: on a terminal on one line, otherwise on a new line each half
-    minute. Libraries come first: given only the program, rt would first read all sources in a separate pass."""
-    start, end, pause = ("\r\033[K", "", 1) if sys.stderr.isatty() else ("", "\n", 30)
-    began = time.monotonic()
-    for it in below(crate):
-        words = (command if it == crate else "rt lib").split()
-        with ThreadPoolExecutor() as pool, open(log, "w", encoding="utf-8") as said:
-            rt = pool.submit(run, words, stdout=said, stderr=subprocess.STDOUT, cwd=f"{TOP}/crates/{it}")
-            while not wait([rt], pause).done:
-                minutes, seconds = divmod(int(time.monotonic() - began), 60)
-                far = re.findall("(?m)^so far.*", Path(log).read_text("utf-8", "replace"))[-1:]
-                say(f"{start}{crate}: {minutes} min {seconds} s, {', '.join([f'crate {it}', *far])}", end=end)
-        if rt.result().returncode:
-            break
-    say(end=start)
+def jobs():
+    """How many processes share a proof in a chain: each one more takes 20 s of processor time, and up to 2.4 GB of memory."""
+    free = int(re.search(r"MemAvailable: +(\d+)", Path("/proc/meminfo").read_text("utf-8"))[1])
+    return str(max(1, min(3, len(os.sched_getaffinity(0)), free // 2_400_000)))
+
+
+def prove_here(crate, words, log):
+    """Runs rt in a crate's folder, and returns whether it succeeds."""
+    with open(log, "w", encoding="utf-8") as said:
+        return not run([*words, "--jobs", jobs()], stdout=said, stderr=subprocess.STDOUT, cwd=f"{TOP}/crates/{crate}").returncode
+
+
+def prove_beside(crate, words, log):
+    """Does so in a copy, beside another run of rt: while that works, it holds the folders of its crate and of all below."""
+    with tempfile.TemporaryDirectory() as room, open(log, "w", encoding="utf-8") as said:
+        copy_sources(room)
+        copy_built(TOP, room, below(crate))
+        status = run([*words, "--jobs", "1"], stdout=said, stderr=subprocess.STDOUT, cwd=f"{room}/crates/{crate}").returncode
+        for built in glob(f"{room}/crates/{crate}/out/*/"):
+            to = f"{TOP}/crates/{crate}/out/{os.path.basename(built[:-1])}"
+            shutil.rmtree(to, ignore_errors=True)
+            shutil.move(built, to)
+    return not status
+
+
+def build(crate, command):
+    """Has rt prove and build a program of a crate, after its libraries, side by side as far as they don't stand on each other. Given only
+    the program, rt would first read all sources in a separate pass. Returns the log of what fails."""
+    left, running, began = below(crate), {}, time.monotonic()
+    logs = {name: f"{TOP}/crates/{name}/out/build.log" for name in left}
+    with ThreadPoolExecutor() as pool:
+        while left or running:
+            for name in [name for name in left if not {*below(name)[:-1]} & {*left, *running.values()}]:
+                left.remove(name)
+                write(logs[name], "")
+                words = (command if name == crate else "rt lib").split()
+                running[pool.submit(prove_beside if running else prove_here, name, words, logs[name])] = name
+            for done in wait(running, 1 if sys.stderr.isatty() else 30, FIRST_COMPLETED).done:
+                name = running.pop(done)
+                if not done.result():
+                    return logs[name]
+            tell_progress(crate, began, {name: logs[name] for name in running.values()})
+
+
+def tell_progress(crate, began, logs):
+    """Says what is proved and how far it is: on a terminal on one line, otherwise on a new line."""
+    start, end = ("\r\033[K", "") if sys.stderr.isatty() else ("", "\n")
+    minutes, seconds = divmod(int(time.monotonic() - began), 60)
+    far = {name: re.findall("(?m)^so far.*", Path(log).read_text("utf-8", "replace"))[-1:] for name, log in logs.items()}
+    parts = [", ".join([f"crate {name}", *said]) for name, said in far.items()]
+    say(start + "; ".join([f"{crate}: {minutes} min {seconds} s", *parts]), end=end)
 
 
 @functools.lru_cache(None)
 def program(crate, kind=""):
     """The program of a crate, of one kind, that was proved and built from its sources; if none was, rt does so, once no other run does."""
     out, sources, command = f"{TOP}/crates/{crate}/out", run_ok("tools/sources", crate), KINDS[kind]
-    made, began, log = f"{out}/{crate}{kind}", f"{out}/build.began", f"{out}/build.log"
+    made, began = f"{out}/{crate}{kind}", f"{out}/build.began"
     mark, marked = Path(f"{made}.sources"), lambda: sources + run_ok("sh", "-c", 'cksum <"$0"', made)
     is_current = lambda: os.path.exists(made) and mark.exists() and mark.read_text("utf-8") == marked()
     if is_current():
         return made
     say(f"{crate}: `{command}` proves and builds the program, and the libraries {' '.join(below(crate)[:-1])}, as far as they aren't up to "
-        "date. This may take some minutes and some hundred MB of disk.")
+        "date. This may take some minutes, 2 GB of disk and 2.4 GB of memory for each of up to four processes.")
     if not (version := run_ok("rt", "version").strip()).endswith(LOGIC):
         say(f"{crate}: made for the logic {LOGIC}; the command rt here is of '{version}', and may not be able to build it")
     write(began, "")
@@ -313,9 +351,10 @@ def program(crate, kind=""):
             built = made.replace(".by-rattle", "")
             Path(built).unlink(missing_ok=True)
             mark.unlink(missing_ok=True)
-            build(crate, command, log)
+            log = build(crate, command) or f"{out}/build.log"
             if not os.path.exists(built):
-                raise OSError(f"the proof or the build of {crate} failed; {log} has what rt said:\n{Path(log).read_text('utf-8', 'replace')[-3000:]}")
+                said = Path(log).read_text("utf-8", "replace")[-3000:]
+                raise OSError(f"the proof or the build of {crate} failed; {log} has what rt said:\n{said}")
             os.replace(built, made)
             # If a source was touched or is lost meanwhile, the next run builds again.
             if not output(["tools/sources", crate], env={**os.environ, "SINCE": began})[0]:

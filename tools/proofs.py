@@ -59,7 +59,7 @@ def copy_of_crates(room):
 
 
 def copied(top):
-    copy_sources(top, os.listdir(f"{TOP}/crates"))
+    copy_sources(top)
     return top
 
 
