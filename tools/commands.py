@@ -1,17 +1,19 @@
-"""What the tools share: commands with time limits, none of which outlives its tool; what passed in earlier runs; and programs. Run by
-tools/run_proved, by Python 3.8 or later, it proves and builds one. A tool that reads this with `--help` alone only prints its head."""
+"""What the tools share: commands with time limits, none of which outlives its tool; what passed in earlier runs; proofs and programs. Run
+by tools/run_proved, by Python 3.8 or later, it proves and builds one. A tool that reads this with `--help` alone only prints its head."""
 
 import fcntl
 import functools
+import hashlib
 import os
 import re
 import shutil
 import signal
 import subprocess
 import sys
+import tempfile
 import time
 from collections import namedtuple
-from concurrent.futures import ThreadPoolExecutor, wait
+from concurrent.futures import FIRST_COMPLETED, ThreadPoolExecutor, wait
 from contextlib import suppress
 from difflib import unified_diff
 from glob import glob
@@ -19,10 +21,15 @@ from pathlib import Path
 
 TOP = os.path.dirname(os.path.dirname(os.path.realpath(__file__)))
 TOOL = re.sub("^tools/", "", os.path.relpath(os.path.realpath(sys.argv[0]), TOP))
-# Where the crates lie with the proofs that `rt check` keeps. `check` names a copy, since rt ci keeps none.
+# Where the crates lie with the proofs that `rt check` keeps. `check` names a copy, since rt ci keeps none, and a file that is there once
+# rt ci has ended. With COMING, `check` puts the libraries that rt ci proves into the copy.
 PROVED = os.environ.get("PROVED") or TOP
-# What passed in earlier runs: a file each, with a checksum of all that it rests on. A fresh clone has none.
-KEPT = f"{TOP}/out/kept"
+CI_ENDED, COMING = os.environ.get("CI_ENDED"), bool(os.environ.get("COMING"))
+# What is kept beyond this clone: what passed, and copies with proofs. With ANEW, nothing that earlier runs kept is taken.
+CACHE = os.environ.get("LEKHSOM_CACHE") or os.path.join(os.environ.get("XDG_CACHE_HOME") or os.path.expanduser("~/.cache"), "lekhsom")
+PASSED, ANEW = f"{CACHE}/passed", bool(os.environ.get("ANEW"))
+# The days after which what no run has asked for is removed.
+KEPT_DAYS = 60
 # The seconds that rt may take for one command, and a program for one input. Both take far less, unless they make way for others.
 RT_SECONDS, PROGRAM_SECONDS = 60 * 60, 60
 
@@ -131,21 +138,54 @@ def tracked():
 
 
 @functools.lru_cache(None)
+def kit():
+    """What tells the kit: what it says of itself, its command, the sizes and times of its files, and the Python that runs the tools."""
+    listed, folder = "", os.path.dirname(run_ok("rt", "doc").strip())
+    if folder:
+        own = "-type d ( -name out -o -name __pycache__ ) -prune -o -type f -printf %P\\t%s\\t%T@\\n".split()
+        listed = "\n".join(sorted(run_ok("find", folder, *own).split("\n")))
+    return hashlib.sha256(repr((run_ok("rt", "version"), Path(shutil.which("rt")).read_bytes(), listed, sys.version)).encode()).hexdigest()
+
+
+@functools.lru_cache(None)
 def checksum(*paths):
     """A checksum of the kit, and of these files and folders as far as git doesn't ignore them."""
-    files = 'git ls-files -coz --exclude-standard -- "$@" | LC_ALL=C sort -z | xargs -0 sha256sum'
-    return run_ok("bash", "-eo", "pipefail", "-c", f"(rt version; {files}) | sha256sum", "bash", *paths)
+    found = hashlib.sha256(kit().encode())
+    for path in sorted(run_ok("git", "ls-files", "-coz", "--exclude-standard", "--", *paths).split("\0")[:-1]):
+        content = hashlib.sha256(Path(TOP, path).read_bytes()).hexdigest()
+        found.update(f"{content} {os.access(f'{TOP}/{path}', os.X_OK)} {path}\n".encode())
+    return found.hexdigest()
+
+
+def kept_file(name, paths, more):
+    """The file that is there if a thing has passed, and that has another name if these files and folders, or more, are others."""
+    return Path(PASSED, f"{name.replace('/', '.')}.{hashlib.sha256((checksum(*paths) + more).encode()).hexdigest()}")
 
 
 def is_kept(name, paths, more):
-    """Whether a thing has passed, and nothing that it rests on has changed since: these files and folders, and more."""
-    return os.path.exists(f"{KEPT}/{name}") and Path(KEPT, name).read_text(encoding="utf-8") == checksum(*paths) + more
+    """Whether a thing has passed on this machine, in any clone, and nothing that it rests on has changed since: these files and folders,
+    and more."""
+    with suppress(OSError):
+        os.utime(kept_file(name, paths, more))
+        return not ANEW
+    return False
 
 
 def keep(name, paths, more):
-    """Keeps that a thing passed, unless a file that it rests on has changed meanwhile."""
-    if checksum.__wrapped__(*paths) == checksum(*paths):
-        write(f"{KEPT}/{name}", checksum(*paths) + more)
+    """Keeps that a thing passed, unless a file that it rests on has changed meanwhile. What can't be written isn't kept."""
+    with suppress(OSError):
+        if checksum.__wrapped__(*paths) == checksum(*paths):
+            prune()
+            kept_file(name, paths, more).touch()
+
+
+@functools.lru_cache(None)
+def prune():
+    """Removes what no run has asked for in a long time."""
+    os.makedirs(PASSED, exist_ok=True)
+    for it in os.scandir(PASSED):
+        if it.stat().st_mtime < time.time() - KEPT_DAYS * 24 * 60 * 60:
+            os.remove(it.path)
 
 
 def need(what, *packages):
@@ -180,17 +220,31 @@ def write(path, text):
     Path(path).write_text(text, encoding="utf-8")
 
 
+def link_or_copy(file, copied):
+    """Gives a file a second name, or copies it, if it can't have one."""
+    try:
+        os.link(file, copied)
+    except OSError:
+        shutil.copy2(file, copied)
+
+
 def copy_built(top, to, crates):
     """Copies what was built of these crates below one folder to another. A file of a proof or a library only gets a second name, if it can,
     since rt replaces such a file and writes into none."""
     def copy(file, copied):
-        with suppress(OSError):
-            if file.endswith(".oantt") or "/out/rlib/" in file:
-                return os.link(file, copied)
-        return shutil.copy2(file, copied)
+        is_replaced = file.endswith(".oantt") or "/out/rlib/" in file
+        return link_or_copy(file, copied) if is_replaced else shutil.copy2(file, copied)
 
-    for it in (it for crate in crates for it in glob(f"crates/{crate}/out", root_dir=top)):
-        shutil.copytree(f"{top}/{it}", f"{to}/{it}", copy_function=copy)
+    for folder in (folder for crate in crates for folder in glob(f"{top}/crates/{crate}/out")):
+        shutil.copytree(folder, to + folder[len(top) :], copy_function=copy)
+
+
+def copy_sources(to):
+    """Makes a repository for rt of the crates here, without what was built of them."""
+    for name in ("crates.txt", "HANDLES"):
+        write(f"{to}/{name}", text_of(name))
+    shutil.copytree(f"{TOP}/crates", f"{to}/crates", ignore=shutil.ignore_patterns("out"))
+    os.makedirs(f"{to}/.git", exist_ok=True)
 
 
 def below(crate):
@@ -199,35 +253,95 @@ def below(crate):
     return [*dict.fromkeys(name for it in libraries for name in below(it)), crate]
 
 
-def build(crate, command, log):
-    """Has rt prove and build a program of a crate, and says how far it is: on a terminal on one line, otherwise on a new line each half
-    minute. Libraries come first: given only the program, rt would first read all sources in a separate pass."""
-    start, end, pause = ("\r\033[K", "", 1) if sys.stderr.isatty() else ("", "\n", 30)
-    began = time.monotonic()
-    for it in below(crate):
-        words = (command if it == crate else "rt lib").split()
-        with ThreadPoolExecutor() as pool, open(log, "w", encoding="utf-8") as said:
-            rt = pool.submit(run, words, stdout=said, stderr=subprocess.STDOUT, cwd=f"{TOP}/crates/{it}")
-            while not wait([rt], pause).done:
-                minutes, seconds = divmod(int(time.monotonic() - began), 60)
-                far = re.findall("(?m)^so far.*", Path(log).read_text("utf-8", "replace"))[-1:]
-                say(f"{start}{crate}: {minutes} min {seconds} s, {', '.join([f'crate {it}', *far])}", end=end)
-        if rt.result().returncode:
-            break
-    say(end=start)
+def is_static(crate):
+    return f"\n{crate} staticlib:" in text_of("crates.txt")
+
+
+def is_library(crate):
+    """Whether other crates can stand on a crate."""
+    return not is_static(crate) and not os.path.exists(f"{TOP}/crates/{crate}/src/main.rt")
+
+
+def comes(crate):
+    """Whether `check` puts this library into PROVED, once rt ci has proved it."""
+    return COMING and is_library(crate)
+
+
+def is_here(crate):
+    """Whether a library that comes is in PROVED."""
+    return os.path.exists(f"{PROVED}/crates/{crate}/out/rlib/stamp")
+
+
+def prove(crate):
+    """Proves a crate in PROVED, as far as it isn't. A static library is built as tools/c_library takes it."""
+    kind = ["lib"] if is_library(crate) else ["lib", "--cpu", "x86-64"] if is_static(crate) else ["check"]
+    run_ok("rt", *kind, "--jobs", "1", folder=f"{PROVED}/crates/{crate}")
+
+
+def jobs():
+    """How many processes share a proof in a chain: each one more takes 20 s of processor time, and up to 2.4 GB of memory."""
+    free = int(re.search(r"MemAvailable: +(\d+)", Path("/proc/meminfo").read_text("utf-8"))[1])
+    return str(max(1, min(3, len(os.sched_getaffinity(0)), free // 2_400_000)))
+
+
+def prove_here(crate, words, log):
+    """Runs rt in a crate's folder, and returns whether it succeeds."""
+    with open(log, "w", encoding="utf-8") as said:
+        return not run([*words, "--jobs", jobs()], stdout=said, stderr=subprocess.STDOUT, cwd=f"{TOP}/crates/{crate}").returncode
+
+
+def prove_beside(crate, words, log):
+    """Does so in a copy, beside another run of rt: while that works, it holds the folders of its crate and of all below."""
+    with tempfile.TemporaryDirectory() as room, open(log, "w", encoding="utf-8") as said:
+        copy_sources(room)
+        copy_built(TOP, room, below(crate))
+        status = run([*words, "--jobs", "1"], stdout=said, stderr=subprocess.STDOUT, cwd=f"{room}/crates/{crate}").returncode
+        for built in glob(f"{room}/crates/{crate}/out/*/"):
+            to = f"{TOP}/crates/{crate}/out/{os.path.basename(built[:-1])}"
+            shutil.rmtree(to, ignore_errors=True)
+            shutil.move(built, to)
+    return not status
+
+
+def build(crate, command):
+    """Has rt prove and build a program of a crate, after its libraries, side by side as far as they don't stand on each other. Given only
+    the program, rt would first read all sources in a separate pass. Returns the log of what fails."""
+    left, running, began = below(crate), {}, time.monotonic()
+    logs = {name: f"{TOP}/crates/{name}/out/build.log" for name in left}
+    with ThreadPoolExecutor() as pool:
+        while left or running:
+            for name in [name for name in left if not {*below(name)[:-1]} & {*left, *running.values()}]:
+                left.remove(name)
+                write(logs[name], "")
+                words = (command if name == crate else "rt lib").split()
+                running[pool.submit(prove_beside if running else prove_here, name, words, logs[name])] = name
+            for done in wait(running, 1 if sys.stderr.isatty() else 30, FIRST_COMPLETED).done:
+                name = running.pop(done)
+                if not done.result():
+                    return logs[name]
+            tell_progress(crate, began, {name: logs[name] for name in running.values()})
+
+
+def tell_progress(crate, began, logs):
+    """Says what is proved and how far it is: on a terminal on one line, otherwise on a new line."""
+    start, end = ("\r\033[K", "") if sys.stderr.isatty() else ("", "\n")
+    minutes, seconds = divmod(int(time.monotonic() - began), 60)
+    far = {name: re.findall("(?m)^so far.*", Path(log).read_text("utf-8", "replace"))[-1:] for name, log in logs.items()}
+    parts = [", ".join([f"crate {name}", *said]) for name, said in far.items()]
+    say(start + "; ".join([f"{crate}: {minutes} min {seconds} s", *parts]), end=end)
 
 
 @functools.lru_cache(None)
 def program(crate, kind=""):
     """The program of a crate, of one kind, that was proved and built from its sources; if none was, rt does so, once no other run does."""
     out, sources, command = f"{TOP}/crates/{crate}/out", run_ok("tools/sources", crate), KINDS[kind]
-    made, began, log = f"{out}/{crate}{kind}", f"{out}/build.began", f"{out}/build.log"
+    made, began = f"{out}/{crate}{kind}", f"{out}/build.began"
     mark, marked = Path(f"{made}.sources"), lambda: sources + run_ok("sh", "-c", 'cksum <"$0"', made)
     is_current = lambda: os.path.exists(made) and mark.exists() and mark.read_text("utf-8") == marked()
     if is_current():
         return made
     say(f"{crate}: `{command}` proves and builds the program, and the libraries {' '.join(below(crate)[:-1])}, as far as they aren't up to "
-        "date. This may take some minutes and some hundred MB of disk.")
+        "date. This may take some minutes, 2 GB of disk and 2.4 GB of memory for each of up to four processes.")
     if not (version := run_ok("rt", "version").strip()).endswith(LOGIC):
         say(f"{crate}: made for the logic {LOGIC}; the command rt here is of '{version}', and may not be able to build it")
     write(began, "")
@@ -237,9 +351,10 @@ def program(crate, kind=""):
             built = made.replace(".by-rattle", "")
             Path(built).unlink(missing_ok=True)
             mark.unlink(missing_ok=True)
-            build(crate, command, log)
+            log = build(crate, command) or f"{out}/build.log"
             if not os.path.exists(built):
-                raise OSError(f"the proof or the build of {crate} failed; {log} has what rt said:\n{Path(log).read_text('utf-8', 'replace')[-3000:]}")
+                said = Path(log).read_text("utf-8", "replace")[-3000:]
+                raise OSError(f"the proof or the build of {crate} failed; {log} has what rt said:\n{said}")
             os.replace(built, made)
             # If a source was touched or is lost meanwhile, the next run builds again.
             if not output(["tools/sources", crate], env={**os.environ, "SINCE": began})[0]:
