@@ -149,9 +149,9 @@ def kit():
 
 @functools.lru_cache(None)
 def checksum(*paths):
-    """A checksum of the kit, and of these files and folders as far as git doesn't ignore them."""
+    """A checksum of the kit, of what the tools share, and of these files and folders, as far as git doesn't ignore them."""
     found = hashlib.sha256(kit().encode())
-    for path in sorted(run_ok("git", "ls-files", "-coz", "--exclude-standard", "--", *paths).split("\0")[:-1]):
+    for path in sorted(run_ok("git", "ls-files", "-coz", "--exclude-standard", "--", "tools/*.py", *paths).split("\0")[:-1]):
         content = hashlib.sha256(Path(TOP, path).read_bytes()).hexdigest()
         found.update(f"{content} {os.access(f'{TOP}/{path}', os.X_OK)} {path}\n".encode())
     return found.hexdigest()
@@ -278,16 +278,18 @@ def prove(crate):
     run_ok("rt", *kind, "--jobs", "1", folder=f"{PROVED}/crates/{crate}")
 
 
-def jobs():
-    """How many processes share a proof in a chain: each one more takes 20 s of processor time, and up to 2.4 GB of memory."""
+def jobs(crate):
+    """How many processes share a proof. Each one more takes 10 to 20 s of processor time, which pays off if there are many functions, and
+    up to 2.4 GB of memory."""
+    functions = sum(Path(path).read_text("utf-8").count("fn ") for path in glob(f"{TOP}/crates/{crate}/src/**/*.rt", recursive=True))
     free = int(re.search(r"MemAvailable: +(\d+)", Path("/proc/meminfo").read_text("utf-8"))[1])
-    return str(max(1, min(3, len(os.sched_getaffinity(0)), free // 2_400_000)))
+    return str(max(1, min(4 if functions > 50 else 2, len(os.sched_getaffinity(0)), free // 2_400_000)))
 
 
 def prove_here(crate, words, log):
     """Runs rt in a crate's folder, and returns whether it succeeds."""
     with open(log, "w", encoding="utf-8") as said:
-        return not run([*words, "--jobs", jobs()], stdout=said, stderr=subprocess.STDOUT, cwd=f"{TOP}/crates/{crate}").returncode
+        return not run([*words, "--jobs", jobs(crate)], stdout=said, stderr=subprocess.STDOUT, cwd=f"{TOP}/crates/{crate}").returncode
 
 
 def prove_beside(crate, words, log):

@@ -15,8 +15,8 @@ from pathlib import Path
 
 from commands import ANEW, CACHE, TOP, below, checksum, copy_sources, link_or_copy, output, write
 
-# What decides what lies in a copy, beside the kit.
-SOURCES = "crates.txt", "HANDLES", "crates", "tools/c_library", "tools/commands.py", "tools/mutation_test", "tools/proofs.py"
+# What decides what lies in a copy, beside the kit and what the tools share.
+SOURCES = "crates.txt", "HANDLES", "crates", "tools/c_library", "tools/mutation_test"
 # How many copies are kept, and for how many seconds any other, in which a run may still work.
 MOST, LONGEST_RUN = 2, 10_800
 # Prints each library below a folder, and the mark by which rt knows that a library is built from the sources there.
@@ -102,9 +102,9 @@ class Proofs:
             return {*os.listdir(f"{self.top}/crates")}
         proved = IS_PROVED.findall(Path(self.said).read_text("utf-8", "replace")) if os.path.exists(self.said) else []
         for crate in sorted({*self.marks} - self.there, key=lambda it: len(below(it))):
-            if crate in proved or self.is_here(crate):
-                if not self.is_here(crate):
-                    self.put(crate)
+            if crate in proved and not self.is_here(crate):
+                self.put(crate)
+            if self.is_here(crate):
                 self.there.add(crate)
         return self.there
 
