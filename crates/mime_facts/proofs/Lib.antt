@@ -9,3 +9,7 @@ pub mod RunFacts
 pub mod LawFacts
 pub mod HeaderFacts
 pub mod HashFacts
+pub mod HttpFacts
+pub mod NegotiationFacts
+pub mod RangesFacts
+pub mod LacksFacts
