@@ -7,7 +7,7 @@ pub mod FaultFacts
 pub mod CutFacts
 pub mod RunFacts
 pub mod LawFacts
-pub mod HeaderFacts
+pub mod HeaderLawFacts
 pub mod HashFacts
 pub mod HttpFacts
 pub mod NegotiationFacts
