@@ -21,7 +21,7 @@ pub use Rattle.mime.proofs.GrammarLemmas.Viability.{dead-from_stop, stop-from_wa
 pub use Rattle.mime.proofs.GrammarLemmas.Faults.{completed_is_rejected, one_fault}
 pub use Rattle.mime.proofs.ValueLemmas.Reading.{rejected-from_fault, Explains-from_fault}
 -- The essence of a value that was read is read as the value without its parameters; a token is quoted content.
-pub use Rattle.mime.proofs.LawsLemmas.Written.{essence_is_read, content-from_token, kept_is_safe, walked-safe}
+pub use Rattle.mime.proofs.LawLemmas.Written.{essence_is_read, content-from_token, kept_is_safe, walked-safe}
 -- What is printed of a value that was read is read as the value.
 pub use Rattle.mime.proofs.ValueLemmas.KeptText.{kept_is_read, text_of-essence, length-essence_of, value_of_low, value_of-lowering, keeps-tree, kept-in_part}
 -- A comma ends whatever precedes it, and leaves what follows it as it is.

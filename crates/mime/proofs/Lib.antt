@@ -11,6 +11,6 @@ pub mod CompareLemmas
 pub mod CutLemmas
 pub mod IterLemmas
 -- laws on which no code rests
-pub mod LawsLemmas
+pub mod LawLemmas
 -- for crates over this one
 pub mod HandedOut

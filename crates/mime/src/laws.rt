@@ -1,6 +1,6 @@
 //! The laws of the definitions, as functions. A caller of such a function can use its law in a proof. `name_constants` returns the constant
 //! names. The other functions do nothing. docs/LAWS.md lists all claims, and docs/RULES.md defines viable, accepted and cut.
-#![tactic(auto, using(crate::proofs::LawsLemmas::laws))]
+#![tactic(auto, using(crate::proofs::LawLemmas::laws))]
 
 ghost use Rattle.std.specs.Borrow.{Bor};
 ghost use Rattle.std.specs.Prelude.{◌≡◌, ◌↔◌, IsTrue, List, ℕ, map};

@@ -2,11 +2,20 @@
 use Rattle.std.proofs.Common.{rules, ◌≡◌, ◌≢◌, ℕ, true, List, [], ◌∷◌, ◌++◌, map, length, refl, sym, ap, ◌∙◌, arith, codes, Some, None}
 use Rattle.std.specs.Str.{IsUtf8, IsValidUpTo}
 use Rattle.std.proofs.{lemmas.Str.IsUtf8-nil, lemmas.List.take_all}
-use Rattle.mime.specs.{Bytes.is_token_byte, Grammar.no_list, Values.MediaType, Values.Reads, Cut.good, Cut.bad, Cut.Cut, Cut.whole, declared.scan.fault.ParseError.TheVariants.MissingSlash, declared.scan.fault.ParseError.TheVariants.MissingSubtype, declared.scan.fault.ParseError.TheVariants.MissingEqual, declared.scan.fault.ParseError.TheVariants.MissingValue, declared.scan.fault.ParseError.TheVariants.MissingQuote, declared.scan.fault.ParseError.TheVariants.InvalidToken, declared.scan.fault.ParseError.TheVariants.NoMemory}
+use Rattle.mime.specs.{Bytes.is_token_byte, Grammar.no_list, Values.MediaType, Values.Reads, Cut.good, Cut.bad, Cut.Cut, Cut.whole}
+use Rattle.mime.specs.{declared.scan.fault.ParseError.TheVariants.MissingSlash, declared.scan.fault.ParseError.TheVariants.MissingSubtype}
+use Rattle.mime.specs.{declared.scan.fault.ParseError.TheVariants.MissingEqual, declared.scan.fault.ParseError.TheVariants.MissingValue}
+use Rattle.mime.specs.{declared.scan.fault.ParseError.TheVariants.MissingQuote, declared.scan.fault.ParseError.TheVariants.InvalidToken}
+use Rattle.mime.specs.{declared.scan.fault.ParseError.TheVariants.NoMemory}
 use Rattle.mime.proofs.HandedOut.{empty-cut, cut_unique}
 use Rattle.mime_http.specs.declared.value.FieldError.TheVariants.{NotUtf8, Invalid}
 use Rattle.mime_http.specs.declared.value.FieldError.TheVariants as field
-use Rattle.mime_c.specs.{Strings.strings, Strings.ComeBack, Strings.texts_of, Strings.item_texts, Strings.written, Answers.number_of, Answers.number_of_error, Answers.found_at, Answers.found_of, Answers.found_of_error, Answers.nothing, Answers.has_room, Answers.has_no_room, Answers.is_read, Answers.fails, Answers.TextExplains, Answers.are_written, Answers.ReadsTo, Answers.NeedsMemory, Answers.ListsTo, Answers.is_listed, Answers.Compares, Answers.are_compared, declared.MimeFound.MimeFound, declared.TheConstants.MIME_OK, declared.TheConstants.MIME_NO_MEMORY, declared.TheConstants.MIME_NOT_UTF8, declared.TheConstants.MIME_NO_ROOM}
+use Rattle.mime_c.specs.{Strings.strings, Strings.ComeBack, Strings.texts_of, Strings.item_texts, Strings.written, Answers.number_of}
+use Rattle.mime_c.specs.{Answers.number_of_error, Answers.found_at, Answers.found_of, Answers.found_of_error, Answers.nothing}
+use Rattle.mime_c.specs.{Answers.has_room, Answers.has_no_room, Answers.is_read, Answers.fails, Answers.TextExplains, Answers.are_written}
+use Rattle.mime_c.specs.{Answers.ReadsTo, Answers.NeedsMemory, Answers.ListsTo, Answers.is_listed, Answers.Compares, Answers.are_compared}
+use Rattle.mime_c.specs.{declared.MimeFound.MimeFound, declared.TheConstants.MIME_OK, declared.TheConstants.MIME_NO_MEMORY}
+use Rattle.mime_c.specs.{declared.TheConstants.MIME_NOT_UTF8, declared.TheConstants.MIME_NO_ROOM}
 use Rattle.mime_c.proofs.OneOutcome.{reads_to_one, lists_to_one, compares_as_one}
 
 -- ---- strings

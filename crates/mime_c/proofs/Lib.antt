@@ -9,6 +9,6 @@ pub mod OrderOutcome
 pub mod ValueOutcome
 pub mod LawLemmas
 mod AnswerFacts
-mod HeaderFacts
+mod HeaderAnswerFacts
 mod ParameterFacts
 mod OutcomeFacts

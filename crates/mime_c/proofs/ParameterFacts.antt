@@ -2,7 +2,9 @@
 use Rattle.std.proofs.Common.{◌≡◌, ℕ, List, [], ◌∷◌, ◌++◌, refl, sym, arith, codes, None, rules}
 use Rattle.std.proofs.lemmas.Bool.{true≢false}
 use Rattle.mime.specs.{Bytes.is_token_byte, Bytes.is_quoted_byte, Values.MediaType}
-use Rattle.mime_c.specs.{Answers.has_room, Answers.has_no_room, Answers.holds, ParameterAnswers.BoundaryIs, ParameterAnswers.UnescapesTo, ParameterAnswers.room_with, ParameterAnswers.IsParameter, ParameterAnswers.with_parameter, ParameterAnswers.SetsTo, declared.TheConstants.MIME_OK, declared.TheConstants.MIME_NO_ROOM}
+use Rattle.mime_c.specs.{Answers.has_room, Answers.has_no_room, Answers.holds, ParameterAnswers.BoundaryIs, ParameterAnswers.UnescapesTo}
+use Rattle.mime_c.specs.{ParameterAnswers.room_with, ParameterAnswers.IsParameter, ParameterAnswers.with_parameter, ParameterAnswers.SetsTo}
+use Rattle.mime_c.specs.{declared.TheConstants.MIME_OK, declared.TheConstants.MIME_NO_ROOM}
 
 -- `a\"b` means three bytes.
 escaped_quote : UnescapesTo (codes "a\\\"b") (codes "-----") MIME_OK (codes "a\"b" ++ 0 ∷ codes "-", 3)

@@ -1,11 +1,16 @@
 -- Values and texts for which each definition of equality and order is true, and others for which it is false, by computation.
 use Rattle.std.proofs.Common.{◌≡◌, ◌<◌, inl, inr, List, ℕ, true, false, [], ◌∷◌, map, None, refl, ap, ◌∙◌, subst, arith, codes}
 use Rattle.std.proofs.lemmas.Bool.{false≢true}
-use Rattle.std.specs.{declared.cmp.Ordering.TheVariants.Less, declared.cmp.Ordering.TheVariants.Equal, declared.cmp.Ordering.TheVariants.Greater, List.slice_index}
+use Rattle.std.specs.{declared.cmp.Ordering.TheVariants.Less, declared.cmp.Ordering.TheVariants.Equal}
+use Rattle.std.specs.{declared.cmp.Ordering.TheVariants.Greater, List.slice_index}
 use Rattle.std.specs.Prelude.{IsTrue}
-use Rattle.mime.specs.{Bytes.is_token_byte, Bytes.is_quoted_byte, Grammar.quoted, Grammar.final, Grammar.listed, Values.MediaType, Values.Reads, Difference.FirstDifference, Difference.reaches_value, Difference.DifferInValue, Comparison.Same, Comparison.IsListBefore, Comparison.IsTextBefore, Comparison.IsPairBefore, Comparison.Before, Comparison.IsOrderOf, Comparison.pair_cmp, Comparison.media_cmp, Comparison.HasNoSemicolon, Comparison.TextIs}
+use Rattle.mime.specs.{Bytes.is_token_byte, Bytes.is_quoted_byte, Grammar.quoted, Grammar.final, Grammar.listed, Values.MediaType}
+use Rattle.mime.specs.{Values.Reads, Difference.FirstDifference, Difference.reaches_value, Difference.DifferInValue, Comparison.Same}
+use Rattle.mime.specs.{Comparison.IsListBefore, Comparison.IsTextBefore, Comparison.IsPairBefore, Comparison.Before, Comparison.IsOrderOf}
+use Rattle.mime.specs.{Comparison.pair_cmp, Comparison.media_cmp, Comparison.HasNoSemicolon, Comparison.TextIs}
 use Rattle.mime.proofs.{GrammarLemmas.Content.IsContent-taken, GrammarLemmas.Readings.one_reading}
-use Rattle.mime_facts.proofs.{StandardFacts.media, StandardFacts.reads, ValueFacts.differ, ValueFacts.plain_value, ValueFacts.reads_capitals}
+use Rattle.mime_facts.proofs.{StandardFacts.media, StandardFacts.reads, ValueFacts.differ, ValueFacts.plain_value}
+use Rattle.mime_facts.proofs.{ValueFacts.reads_capitals}
 
 -- Values with one parameter, two of them equal and kept otherwise.
 abbrev with_pair : List ℕ → List ℕ → List ℕ → MediaType

@@ -1,8 +1,16 @@
 -- Texts for which each definition of the cut is true, and others for which it is false: the list `e, a/b`.
 use Rattle.std.proofs.Common.{◌≡◌, ℕ, true, false, List, [], ◌∷◌, length, map, refl, ap, subst, arith, codes}
 use Rattle.std.proofs.lemmas.Bool.{true≢false, false≢true}
-use Rattle.mime.specs.{Bytes.is_token_byte, Values.IsAccepted, Values.IsRejected, Faults.IsViable, Cut.is_following_byte, Cut.BeginsCharacter, Cut.IsCharacter, Cut.IsSplit, Cut.CutItem, Cut.good, Cut.bad, Cut.ItemsOf, Cut.is_read, Cut.is_rejected, Cut.is_empty, Cut.Cut, Cut.whole, Cut.unfinished, Cut.goes_on, Cut.Pieces, Cut.last, Cut.next, Cut.steps_of, Cut.TakesSteps, CutLaws.IsItem, CutLaws.text_of_pieces, CutLaws.items_of_rest, CutLaws.joined, CutLaws.IsRead, CutLaws.kept_item}
-use Rattle.mime.proofs.{GrammarLemmas.Begun.in_type, CutLemmas.Cuts.empty-rejected, CutLemmas.Cuts.split-not_viable, CutLemmas.Cuts.split-from_dead, CutLemmas.Cuts.split_unique, CutLemmas.Cuts.items_of_unique, CutLemmas.Cuts.cut_unique, CutLemmas.Cuts.takes_unique, ValueLemmas.KeptText.kept_is_read, GrammarLemmas.Readings.rejected-from_walk, GrammarLemmas.Viability.viable-from_walk, GrammarLemmas.Viability.accepted_is_viable}
+use Rattle.mime.specs.{Bytes.is_token_byte, Values.IsAccepted, Values.IsRejected, Faults.IsViable, Cut.is_following_byte}
+use Rattle.mime.specs.{Cut.BeginsCharacter, Cut.IsCharacter, Cut.IsSplit, Cut.CutItem, Cut.good, Cut.bad, Cut.ItemsOf, Cut.is_read}
+use Rattle.mime.specs.{Cut.is_rejected, Cut.is_empty, Cut.Cut, Cut.whole, Cut.unfinished, Cut.goes_on, Cut.Pieces, Cut.last, Cut.next}
+use Rattle.mime.specs.{Cut.steps_of, Cut.TakesSteps, CutLaws.IsItem, CutLaws.text_of_pieces, CutLaws.items_of_rest, CutLaws.joined}
+use Rattle.mime.specs.{CutLaws.IsRead, CutLaws.kept_item}
+use Rattle.mime.proofs.{GrammarLemmas.Begun.in_type, CutLemmas.Cuts.empty-rejected, CutLemmas.Cuts.split-not_viable}
+use Rattle.mime.proofs.{CutLemmas.Cuts.split-from_dead, CutLemmas.Cuts.split_unique, CutLemmas.Cuts.items_of_unique}
+use Rattle.mime.proofs.{CutLemmas.Cuts.cut_unique, CutLemmas.Cuts.takes_unique, ValueLemmas.KeptText.kept_is_read}
+use Rattle.mime.proofs.{GrammarLemmas.Readings.rejected-from_walk, GrammarLemmas.Viability.viable-from_walk}
+use Rattle.mime.proofs.{GrammarLemmas.Viability.accepted_is_viable}
 use Rattle.mime_facts.proofs.ValueFacts.{differ, plain_value, reads_capitals, keeps_no_capitals}
 
 -- ---- characters

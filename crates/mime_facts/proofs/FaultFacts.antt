@@ -1,9 +1,21 @@
 -- Texts for which each definition of a fault is true, and others for which it is false.
 use Rattle.std.proofs.Common.{◌≡◌, ℕ, List, [], ◌∷◌, ◌++◌, length, get_or, Some, None, refl, sym, ap, ◌∙◌, arith, length-append, codes}
 use Rattle.std.proofs.{Math.Seq.get_or-append_seam, lemmas.Option.same_Some}
-use Rattle.mime.specs.{Bytes.is_token_byte, Values.MediaType, Values.Reads, Faults.IsViable, Faults.IsLongestPrefix, Faults.completion_of, Faults.last_byte_of, Faults.EndsIn, Faults.Lacks, Faults.IsUnclosed, Faults.IsDeadAt, Faults.IsFault, Faults.Explains, declared.scan.fault.ParseError.ParseError, declared.scan.fault.ParseError.TheVariants.MissingSlash, declared.scan.fault.ParseError.TheVariants.MissingSubtype, declared.scan.fault.ParseError.TheVariants.MissingEqual, declared.scan.fault.ParseError.TheVariants.MissingValue, declared.scan.fault.ParseError.TheVariants.MissingQuote, declared.scan.fault.ParseError.TheVariants.InvalidToken, declared.scan.fault.ParseError.TheVariants.NoMemory}
-use Rattle.mime.proofs.{GrammarLemmas.Faults.one_fault, GrammarLemmas.Faults.completed_is_rejected, GrammarLemmas.Faults.fault-from_lacks, GrammarLemmas.Readings.one_reading, GrammarLemmas.Readings.stopped-from_walk, GrammarLemmas.Viability.accepted_is_viable, GrammarLemmas.Viability.not_viable-at_dead, GrammarLemmas.Viability.prefix_unique, GrammarLemmas.Viability.viable-from_lacks, GrammarLemmas.Viability.lacks-from_walk}
-use Rattle.mime_facts.proofs.{StandardFacts.no_slash, StandardFacts.no_subtype, StandardFacts.no_equals, StandardFacts.no_value, StandardFacts.no_quote, StandardFacts.space_in_type, ValueFacts.plain_value, ValueFacts.reads_capitals, ValueFacts.text_of_41, ValueFacts.text_of_40, ValueFacts.value_of_40, ValueFacts.reads_41, ValueFacts.reads_40, ValueFacts.reads_dropped}
+use Rattle.mime.specs.{Bytes.is_token_byte, Values.MediaType, Values.Reads, Faults.IsViable, Faults.IsLongestPrefix, Faults.completion_of}
+use Rattle.mime.specs.{Faults.last_byte_of, Faults.EndsIn, Faults.Lacks, Faults.IsUnclosed, Faults.IsDeadAt, Faults.IsFault}
+use Rattle.mime.specs.{Faults.Explains, declared.scan.fault.ParseError.ParseError, declared.scan.fault.ParseError.TheVariants.MissingSlash}
+use Rattle.mime.specs.{declared.scan.fault.ParseError.TheVariants.MissingSubtype, declared.scan.fault.ParseError.TheVariants.MissingEqual}
+use Rattle.mime.specs.{declared.scan.fault.ParseError.TheVariants.MissingValue, declared.scan.fault.ParseError.TheVariants.MissingQuote}
+use Rattle.mime.specs.{declared.scan.fault.ParseError.TheVariants.InvalidToken, declared.scan.fault.ParseError.TheVariants.NoMemory}
+use Rattle.mime.proofs.{GrammarLemmas.Faults.one_fault, GrammarLemmas.Faults.completed_is_rejected, GrammarLemmas.Faults.fault-from_lacks}
+use Rattle.mime.proofs.{GrammarLemmas.Readings.one_reading, GrammarLemmas.Readings.stopped-from_walk}
+use Rattle.mime.proofs.{GrammarLemmas.Viability.accepted_is_viable, GrammarLemmas.Viability.not_viable-at_dead}
+use Rattle.mime.proofs.{GrammarLemmas.Viability.prefix_unique, GrammarLemmas.Viability.viable-from_lacks}
+use Rattle.mime.proofs.{GrammarLemmas.Viability.lacks-from_walk}
+use Rattle.mime_facts.proofs.{StandardFacts.no_slash, StandardFacts.no_subtype, StandardFacts.no_equals, StandardFacts.no_value}
+use Rattle.mime_facts.proofs.{StandardFacts.no_quote, StandardFacts.space_in_type, ValueFacts.plain_value, ValueFacts.reads_capitals}
+use Rattle.mime_facts.proofs.{ValueFacts.text_of_41, ValueFacts.text_of_40, ValueFacts.value_of_40, ValueFacts.reads_41}
+use Rattle.mime_facts.proofs.{ValueFacts.reads_40, ValueFacts.reads_dropped}
 
 -- What lacks something is viable, and what has a byte at fault isn't.
 viable_texts : IsViable (codes "A/B") × IsViable (codes "a/b;p") × ¬ (IsViable (codes "a b"))

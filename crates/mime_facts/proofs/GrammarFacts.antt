@@ -2,7 +2,12 @@
 use Rattle.std.proofs.Common.{◌≡◌, true, false, [], ◌∷◌, map, refl, codes}
 use Rattle.std.proofs.lemmas.Bool.{true≢false, false≢true}
 use Rattle.std.specs.List.{list_all, list_any}
-use Rattle.mime.specs.{Bytes.is_token_byte, Bytes.is_quoted_byte, Bytes.is_quoted_text_byte, Bytes.slash_byte, Bytes.plus_byte, Bytes.semicolon_byte, Bytes.equals_byte, Bytes.quote_byte, Bytes.backslash_byte, Bytes.space_byte, Bytes.tab_byte, Bytes.comma_byte, Grammar.plain, Grammar.quoted, Grammar.Parameters, Grammar.blank, Grammar.final, Grammar.more, Grammar.no_list, Grammar.listed, Grammar.is_space, Grammar.AreSpaces, Grammar.text_of_parameter, Grammar.text_of_list, Grammar.text_of_tail, Grammar.text_of, Grammar.AreTokenBytes, Grammar.IsToken, Grammar.IsContent, Grammar.IsParameter, Grammar.AreParameters, Grammar.IsTail, Grammar.IsWellFormed}
+use Rattle.mime.specs.{Bytes.is_token_byte, Bytes.is_quoted_byte, Bytes.is_quoted_text_byte, Bytes.slash_byte, Bytes.plus_byte}
+use Rattle.mime.specs.{Bytes.semicolon_byte, Bytes.equals_byte, Bytes.quote_byte, Bytes.backslash_byte, Bytes.space_byte, Bytes.tab_byte}
+use Rattle.mime.specs.{Bytes.comma_byte, Grammar.plain, Grammar.quoted, Grammar.Parameters, Grammar.blank, Grammar.final, Grammar.more}
+use Rattle.mime.specs.{Grammar.no_list, Grammar.listed, Grammar.is_space, Grammar.AreSpaces, Grammar.text_of_parameter}
+use Rattle.mime.specs.{Grammar.text_of_list, Grammar.text_of_tail, Grammar.text_of, Grammar.AreTokenBytes, Grammar.IsToken}
+use Rattle.mime.specs.{Grammar.IsContent, Grammar.IsParameter, Grammar.AreParameters, Grammar.IsTail, Grammar.IsWellFormed}
 use Rattle.mime.proofs.GrammarLemmas.Content.{IsContent-taken, content-taken, content-closed}
 
 -- ---- bytes

@@ -2,9 +2,12 @@
 use Rattle.std.proofs.Common.{◌≡◌, ◌≢◌, ℕ, false, List, [], ◌∷◌, ◌++◌, None, refl, ap, codes}
 use Rattle.std.proofs.lemmas.Bool.{false≢true}
 use Rattle.std.specs.{Char.encode_utf8, Hash.HashWrites, List.concat}
-use Rattle.mime.specs.{Bytes.is_token_byte, Grammar.no_list, Values.MediaType, Values.OwnedMedia, Values.Reads, Inner.HashInput.media_input, HashLaws.IsReadInUtf8, HashLaws.RespectsEquality, HashLaws.IsPrefixFree}
+use Rattle.mime.specs.{Bytes.is_token_byte, Grammar.no_list, Values.MediaType, Values.OwnedMedia, Values.Reads, Inner.HashInput.media_input}
+use Rattle.mime.specs.{HashLaws.IsReadInUtf8, HashLaws.RespectsEquality, HashLaws.IsPrefixFree}
 use Rattle.mime.proofs.{ValueLemmas.Hash.fed-read, ValueLemmas.KeptText.kept_is_read}
-use Rattle.mime_facts.proofs.{ComparisonFacts.quoted_x, ComparisonFacts.plain_x, ComparisonFacts.plain_y, StandardFacts.media, StandardFacts.reads, ValueFacts.differ, ValueFacts.plain_value, ValueFacts.reads_capitals, ValueFacts.keeps_no_capitals}
+use Rattle.mime_facts.proofs.{ComparisonFacts.quoted_x, ComparisonFacts.plain_x, ComparisonFacts.plain_y, StandardFacts.media}
+use Rattle.mime_facts.proofs.{StandardFacts.reads, ValueFacts.differ, ValueFacts.plain_value, ValueFacts.reads_capitals}
+use Rattle.mime_facts.proofs.{ValueFacts.keeps_no_capitals}
 use Rattle.std.specs.Hash as fed
 
 -- The value of `a/bx`.

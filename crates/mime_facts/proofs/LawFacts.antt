@@ -1,12 +1,32 @@
 -- What each law says of a text, proved from only the law, so that a law that says less doesn't check.
-use Rattle.std.proofs.Common.{◌≡◌, ◌≢◌, ℕ, zero, suc, ◌<◌, ◌≤◌, Bool, true, false, ◌⊎◌, inl, inr, IsTrue, List, [], ◌∷◌, ◌++◌, length, Option, Some, None, Result, refl, sym, ap, ◌∙◌, subst, arith, codes}
+use Rattle.std.proofs.Common.{◌≡◌, ◌≢◌, ℕ, zero, suc, ◌<◌, ◌≤◌, Bool, true, false, ◌⊎◌, inl, inr, IsTrue, List, [], ◌∷◌, ◌++◌, length}
+use Rattle.std.proofs.Common.{Option, Some, None, Result, refl, sym, ap, ◌∙◌, subst, arith, codes}
 use Rattle.std.proofs.{lemmas.Bool.false≢true, lemmas.Option.none-some, lemmas.Option.same_Some}
 use Rattle.std.specs.Prelude.{slice_get}
 use Rattle.std.specs.declared.cmp.Ordering.TheVariants.{Less, Equal, Greater}
 use Rattle.std.specs.{Char.IsScalar, Char.encode_utf8, Iterator.Drains, Str.IsUtf8, Str.IsCharBoundary}
-use Rattle.mime.specs.{Bytes.is_token_byte, Bytes.plus_byte, Grammar.no_list, Grammar.SyntaxTree, Grammar.text_of, Grammar.IsWellFormed, Values.MediaType, Values.OwnedMedia, Values.Reads, Values.IsAccepted, Values.IsRejected, Comparison.Same, Comparison.Before, Comparison.TextIs, Faults.IsViable, Faults.IsLongest, Faults.IsLongestPrefix, Faults.Lacks, Faults.IsFault, Items.IsFirstAccepted, Laws.ExactlyOne, Laws.OneTree, Laws.OneReading, Laws.EmptyIsViable, Laws.PrefixOfViableIsViable, Laws.AcceptedIsViable, Laws.OneCompletion, Laws.CompletedIsRejected, Laws.NoCompletion, Laws.OneFault, Laws.OneLongestPrefix, Laws.PrefixEndsBetweenCharacters, Laws.IsViableInUtf8, Laws.PrefixIsInUtf8, Laws.HasNoPlusFrom, Laws.PlusIsLast, Laws.KeptIsRead, Laws.EssenceIsRead, Laws.OneOrder, Laws.BeforeIsTransitive, Laws.BareTextIs, Laws.KeptTextIs, Laws.IsDecided, Laws.OneAnswer, Laws.FirstDifferenceDecides, Cut.CutItem, Cut.good, Cut.bad, Cut.Cut, Cut.Pieces, Cut.TakesSteps, CutLaws.OneCut, CutLaws.CutHasItems, CutLaws.text_of_pieces, CutLaws.CutWritesText, CutLaws.OneCount, CutLaws.CommaContains, CutLaws.JoinedComesBack, CutLaws.PassesOneCharacter, CutLaws.AreGiven, CutLaws.RunGivesCut, CutLaws.CommaContainsOnRuns, CutLaws.PrintedListComesBack, Runs.Iteration, Runs.IsNext, declared.iter.Bad.Bad, declared.scan.fault.ParseError.ParseError, declared.scan.fault.ParseError.TheVariants.MissingSlash, declared.scan.fault.ParseError.TheVariants.MissingSubtype, declared.scan.fault.ParseError.TheVariants.InvalidToken}
+use Rattle.mime.specs.{Bytes.is_token_byte, Bytes.plus_byte, Grammar.no_list, Grammar.SyntaxTree, Grammar.text_of, Grammar.IsWellFormed}
+use Rattle.mime.specs.{Values.MediaType, Values.OwnedMedia, Values.Reads, Values.IsAccepted, Values.IsRejected, Comparison.Same}
+use Rattle.mime.specs.{Comparison.Before, Comparison.TextIs, Faults.IsViable, Faults.IsLongest, Faults.IsLongestPrefix, Faults.Lacks}
+use Rattle.mime.specs.{Faults.IsFault, Items.IsFirstAccepted, Laws.ExactlyOne, Laws.OneTree, Laws.OneReading, Laws.EmptyIsViable}
+use Rattle.mime.specs.{Laws.PrefixOfViableIsViable, Laws.AcceptedIsViable, Laws.OneCompletion, Laws.CompletedIsRejected, Laws.NoCompletion}
+use Rattle.mime.specs.{Laws.OneFault, Laws.OneLongestPrefix, Laws.PrefixEndsBetweenCharacters, Laws.IsViableInUtf8, Laws.PrefixIsInUtf8}
+use Rattle.mime.specs.{Laws.HasNoPlusFrom, Laws.PlusIsLast, Laws.KeptIsRead, Laws.EssenceIsRead, Laws.OneOrder, Laws.BeforeIsTransitive}
+use Rattle.mime.specs.{Laws.BareTextIs, Laws.KeptTextIs, Laws.IsDecided, Laws.OneAnswer, Laws.FirstDifferenceDecides, Cut.CutItem, Cut.good}
+use Rattle.mime.specs.{Cut.bad, Cut.Cut, Cut.Pieces, Cut.TakesSteps, CutLaws.OneCut, CutLaws.CutHasItems, CutLaws.text_of_pieces}
+use Rattle.mime.specs.{CutLaws.CutWritesText, CutLaws.OneCount, CutLaws.CommaContains, CutLaws.JoinedComesBack, CutLaws.PassesOneCharacter}
+use Rattle.mime.specs.{CutLaws.AreGiven, CutLaws.RunGivesCut, CutLaws.CommaContainsOnRuns, CutLaws.PrintedListComesBack, Runs.Iteration}
+use Rattle.mime.specs.{Runs.IsNext, declared.iter.Bad.Bad, declared.scan.fault.ParseError.ParseError}
+use Rattle.mime.specs.{declared.scan.fault.ParseError.TheVariants.MissingSlash, declared.scan.fault.ParseError.TheVariants.MissingSubtype}
+use Rattle.mime.specs.{declared.scan.fault.ParseError.TheVariants.InvalidToken}
 use Rattle.mime.proofs.{ValueLemmas.Hash.utf8_bytes, ValueLemmas.KeptText.kept_is_read}
-use Rattle.mime_facts.proofs.{ComparisonFacts.quoted_x, ComparisonFacts.plain_x, ComparisonFacts.plain_y, ComparisonFacts.other_value, ComparisonFacts.reads_quoted, ComparisonFacts.letters_reach_the_value, CutFacts.e_is_rejected, CutFacts.e_is_viable, CutFacts.list_items, CutFacts.cut_of_list, CutFacts.rest_of_text, CutFacts.split_at_comma, CutFacts.read_value, FaultFacts.e_lacks_slash, FaultFacts.e_is_closed, StandardFacts.media, StandardFacts.tree_from_parts, StandardFacts.plus_twice, StandardFacts.lowered_parts, StandardFacts.no_subtype, StandardFacts.space_in_type, ValueFacts.plain_value, ValueFacts.reads_capitals, ValueFacts.exact_item, ValueFacts.charset_item}
+use Rattle.mime_facts.proofs.{ComparisonFacts.quoted_x, ComparisonFacts.plain_x, ComparisonFacts.plain_y, ComparisonFacts.other_value}
+use Rattle.mime_facts.proofs.{ComparisonFacts.reads_quoted, ComparisonFacts.letters_reach_the_value, CutFacts.e_is_rejected}
+use Rattle.mime_facts.proofs.{CutFacts.e_is_viable, CutFacts.list_items, CutFacts.cut_of_list, CutFacts.rest_of_text}
+use Rattle.mime_facts.proofs.{CutFacts.split_at_comma, CutFacts.read_value, FaultFacts.e_lacks_slash, FaultFacts.e_is_closed}
+use Rattle.mime_facts.proofs.{StandardFacts.media, StandardFacts.tree_from_parts, StandardFacts.plus_twice, StandardFacts.lowered_parts}
+use Rattle.mime_facts.proofs.{StandardFacts.no_subtype, StandardFacts.space_in_type, ValueFacts.plain_value, ValueFacts.reads_capitals}
+use Rattle.mime_facts.proofs.{ValueFacts.exact_item, ValueFacts.charset_item}
 
 -- ---- trees and readings
 

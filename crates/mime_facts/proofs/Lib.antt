@@ -7,5 +7,9 @@ pub mod FaultFacts
 pub mod CutFacts
 pub mod RunFacts
 pub mod LawFacts
-pub mod HeaderFacts
+pub mod HeaderLawFacts
 pub mod HashFacts
+pub mod HttpFacts
+pub mod NegotiationFacts
+pub mod RangesFacts
+pub mod LacksFacts

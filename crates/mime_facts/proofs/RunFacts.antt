@@ -1,8 +1,16 @@
 -- Calls of `next` for which each definition of a run is true, and others for which it is false: over `e`, `e,A/B`, `*/*` and long ones.
-use Rattle.std.proofs.Common.{◌≡◌, ℕ, true, false, List, [], ◌∷◌, ◌++◌, length, Some, None, Result, Ok, Err, refl, sym, ap, subst, arith, codes, Bor}
+use Rattle.std.proofs.Common.{◌≡◌, ℕ, true, false, List, [], ◌∷◌, ◌++◌, length, Some, None, Result, Ok, Err, refl, sym, ap, subst, arith}
+use Rattle.std.proofs.Common.{codes, Bor}
 use Rattle.std.proofs.{lemmas.Bool.true≢false, lemmas.Option.none-some}
-use Rattle.mime.specs.{Bytes.is_token_byte, Grammar.no_list, Values.MediaType, Values.OwnedMedia, Values.Reads, Cut.CutItem, Cut.good, Cut.bad, Cut.Cut, Cut.whole, Cut.goes_on, Runs.Iteration, Runs.IsFirstItem, Runs.FirstNeedsMemory, Runs.HasNoItem, Runs.GivesItem, Runs.IsNext, CutLaws.AreGiven, CutLaws.none_left, CutLaws.a_value, CutLaws.a_piece, CutLaws.no_memory, declared.iter.Bad.Bad, declared.iter.Bad.TheVariants.Piece, declared.iter.Bad.TheVariants.NoMemory}
-use Rattle.mime_facts.proofs.{CutFacts.split_at_comma, CutFacts.e_is_viable, CutFacts.item_of_e, CutFacts.cut_of_list, CutFacts.rest_of_text, CutFacts.no_item_left_out, StandardFacts.media, StandardFacts.reads, ValueFacts.differ, ValueFacts.plain_value, ValueFacts.text_of_41, ValueFacts.text_of_40, ValueFacts.value_of_40, ValueFacts.reads_41, ValueFacts.reads_40, ValueFacts.reads_dropped}
+use Rattle.mime.specs.{Bytes.is_token_byte, Grammar.no_list, Values.MediaType, Values.OwnedMedia, Values.Reads, Cut.CutItem, Cut.good}
+use Rattle.mime.specs.{Cut.bad, Cut.Cut, Cut.whole, Cut.goes_on, Runs.Iteration, Runs.IsFirstItem, Runs.FirstNeedsMemory, Runs.HasNoItem}
+use Rattle.mime.specs.{Runs.GivesItem, Runs.IsNext, CutLaws.AreGiven, CutLaws.none_left, CutLaws.a_value, CutLaws.a_piece}
+use Rattle.mime.specs.{CutLaws.no_memory, declared.iter.Bad.Bad, declared.iter.Bad.TheVariants.Piece}
+use Rattle.mime.specs.{declared.iter.Bad.TheVariants.NoMemory}
+use Rattle.mime_facts.proofs.{CutFacts.split_at_comma, CutFacts.e_is_viable, CutFacts.item_of_e, CutFacts.cut_of_list}
+use Rattle.mime_facts.proofs.{CutFacts.rest_of_text, CutFacts.no_item_left_out, StandardFacts.media, StandardFacts.reads, ValueFacts.differ}
+use Rattle.mime_facts.proofs.{ValueFacts.plain_value, ValueFacts.text_of_41, ValueFacts.text_of_40, ValueFacts.value_of_40}
+use Rattle.mime_facts.proofs.{ValueFacts.reads_41, ValueFacts.reads_40, ValueFacts.reads_dropped}
 use Rattle.mime.proofs.CutLemmas.Cuts.{cut_unique, takes_unique, takes-viable, empty-cut}
 
 -- An iterator over a text, at its start and at its end.

@@ -1,7 +1,14 @@
 -- Texts with what they are read as or why they are rejected, by computation: a wrong rule does not check.
 use Rattle.std.proofs.Common.{◌≡◌, ℕ, List, [], ◌∷◌, ◌++◌, Option, Some, None, refl, codes, arith, lit<}
-use Rattle.mime.specs.{Bytes.is_token_byte, Bytes.is_quoted_byte, Grammar.no_byte, Grammar.plain, Grammar.quoted, Grammar.blank, Grammar.final, Grammar.more, Grammar.Tail, Grammar.no_list, Grammar.listed, Grammar.SyntaxTree, Grammar.text_of, Grammar.IsWellFormed, Values.MediaType, Values.value_of, Values.Reads, Difference.DifferInValue, Faults.IsFault, declared.atoms.Atom.TheVariants.TEXT_JAVASCRIPT, declared.atoms.TheConstants.TEXT_JAVSCRIPT, declared.scan.fault.ParseError.TheVariants.MissingSlash, declared.scan.fault.ParseError.TheVariants.MissingSubtype, declared.scan.fault.ParseError.TheVariants.MissingEqual, declared.scan.fault.ParseError.TheVariants.MissingValue, declared.scan.fault.ParseError.TheVariants.MissingQuote, declared.scan.fault.ParseError.TheVariants.InvalidToken}
-use Rattle.mime.proofs.{CompareLemmas.FirstDifference.different_values, GrammarLemmas.Content.IsContent-taken, GrammarLemmas.Viability.lacks-from_walk, GrammarLemmas.Viability.dead-from_walk}
+use Rattle.mime.specs.{Bytes.is_token_byte, Bytes.is_quoted_byte, Grammar.no_byte, Grammar.plain, Grammar.quoted, Grammar.blank}
+use Rattle.mime.specs.{Grammar.final, Grammar.more, Grammar.Tail, Grammar.no_list, Grammar.listed, Grammar.SyntaxTree, Grammar.text_of}
+use Rattle.mime.specs.{Grammar.IsWellFormed, Values.MediaType, Values.value_of, Values.Reads, Difference.DifferInValue, Faults.IsFault}
+use Rattle.mime.specs.{declared.atoms.Atom.TheVariants.TEXT_JAVASCRIPT, declared.atoms.TheConstants.TEXT_JAVSCRIPT}
+use Rattle.mime.specs.{declared.scan.fault.ParseError.TheVariants.MissingSlash, declared.scan.fault.ParseError.TheVariants.MissingSubtype}
+use Rattle.mime.specs.{declared.scan.fault.ParseError.TheVariants.MissingEqual, declared.scan.fault.ParseError.TheVariants.MissingValue}
+use Rattle.mime.specs.{declared.scan.fault.ParseError.TheVariants.MissingQuote, declared.scan.fault.ParseError.TheVariants.InvalidToken}
+use Rattle.mime.proofs.{CompareLemmas.FirstDifference.different_values, GrammarLemmas.Content.IsContent-taken}
+use Rattle.mime.proofs.{GrammarLemmas.Viability.lacks-from_walk, GrammarLemmas.Viability.dead-from_walk}
 
 -- ---- accepted texts
 

@@ -3,7 +3,34 @@
 use Rattle.std.proofs.Common.{◌≡◌, ◌≢◌, ℕ, Bool, true, false, List, [], ◌∷◌, ◌++◌, map, Some, None, refl, sym, ap, ◌∙◌, codes}
 use Rattle.std.proofs.{lemmas.Bool.true≢false, lemmas.Option.none-some, lemmas.Option.same_Some, lemmas.Slice.Eq.bytes_eq-Decides}
 use Rattle.std.specs.{Fmt.digits, Str.bytes_eq}
-use Rattle.mime.specs.{Bytes.is_token_byte, Grammar.plain, Grammar.quoted, Grammar.blank, Grammar.final, Grammar.more, Grammar.no_list, Grammar.listed, Grammar.SyntaxTree, Values.MediaType, Values.lowered, Values.is_charset, Values.lowered_value, Values.lowered_parameter, Values.lowered_list, Values.lowered_tail, Values.lowered_tree, Values.pair_of, Values.pairs_of_list, Values.pairs_of_tail, Values.last_plus, Values.essence_of, Values.kept_text, Values.Reads, Values.IsAccepted, Values.IsRejected, Values.type_of, Values.subtype_of, Values.suffix_of, Items.Item, Items.item_of, Items.items_of, Items.IsLowIf, Items.IsLowItem, Items.IsFirstAccepted, Items.item_seen, Items.name_seen, Items.name_text, Names.NameIs, Names.name_table, Atoms.atom_text, Printed.fault_text, Printed.fault_text, Printed.error_text, declared.atoms.Atom.TheVariants.STAR_STAR, declared.atoms.Atom.TheVariants.TEXT_STAR, declared.atoms.Atom.TheVariants.TEXT_PLAIN, declared.atoms.Atom.TheVariants.TEXT_PLAIN_UTF_8, declared.atoms.Atom.TheVariants.TEXT_HTML, declared.atoms.Atom.TheVariants.TEXT_HTML_UTF_8, declared.atoms.Atom.TheVariants.TEXT_CSS, declared.atoms.Atom.TheVariants.TEXT_CSS_UTF_8, declared.atoms.Atom.TheVariants.TEXT_JAVASCRIPT, declared.atoms.Atom.TheVariants.TEXT_XML, declared.atoms.Atom.TheVariants.TEXT_EVENT_STREAM, declared.atoms.Atom.TheVariants.TEXT_CSV, declared.atoms.Atom.TheVariants.TEXT_CSV_UTF_8, declared.atoms.Atom.TheVariants.TEXT_TAB_SEPARATED_VALUES, declared.atoms.Atom.TheVariants.TEXT_TAB_SEPARATED_VALUES_UTF_8, declared.atoms.Atom.TheVariants.TEXT_VCARD, declared.atoms.Atom.TheVariants.IMAGE_STAR, declared.atoms.Atom.TheVariants.IMAGE_JPEG, declared.atoms.Atom.TheVariants.IMAGE_GIF, declared.atoms.Atom.TheVariants.IMAGE_PNG, declared.atoms.Atom.TheVariants.IMAGE_BMP, declared.atoms.Atom.TheVariants.IMAGE_SVG, declared.atoms.Atom.TheVariants.FONT_WOFF, declared.atoms.Atom.TheVariants.FONT_WOFF2, declared.atoms.Atom.TheVariants.APPLICATION_JSON, declared.atoms.Atom.TheVariants.APPLICATION_JAVASCRIPT, declared.atoms.Atom.TheVariants.APPLICATION_JAVASCRIPT_UTF_8, declared.atoms.Atom.TheVariants.APPLICATION_WWW_FORM_URLENCODED, declared.atoms.Atom.TheVariants.APPLICATION_OCTET_STREAM, declared.atoms.Atom.TheVariants.APPLICATION_MSGPACK, declared.atoms.Atom.TheVariants.APPLICATION_PDF, declared.atoms.Atom.TheVariants.MULTIPART_FORM_DATA, declared.name.Name.Name, declared.scan.fault.ParseError.TheVariants.MissingSlash, declared.scan.fault.ParseError.TheVariants.MissingSubtype, declared.scan.fault.ParseError.TheVariants.MissingEqual, declared.scan.fault.ParseError.TheVariants.MissingValue, declared.scan.fault.ParseError.TheVariants.MissingQuote, declared.scan.fault.ParseError.TheVariants.InvalidToken, declared.scan.fault.ParseError.TheVariants.NoMemory}
+use Rattle.mime.specs.{Bytes.is_token_byte, Grammar.plain, Grammar.quoted, Grammar.blank, Grammar.final, Grammar.more, Grammar.no_list}
+use Rattle.mime.specs.{Grammar.listed, Grammar.SyntaxTree, Values.MediaType, Values.lowered, Values.is_charset, Values.lowered_value}
+use Rattle.mime.specs.{Values.lowered_parameter, Values.lowered_list, Values.lowered_tail, Values.lowered_tree, Values.pair_of}
+use Rattle.mime.specs.{Values.pairs_of_list, Values.pairs_of_tail, Values.last_plus, Values.essence_of, Values.kept_text, Values.Reads}
+use Rattle.mime.specs.{Values.IsAccepted, Values.IsRejected, Values.type_of, Values.subtype_of, Values.suffix_of, Items.Item, Items.item_of}
+use Rattle.mime.specs.{Items.items_of, Items.IsLowIf, Items.IsLowItem, Items.IsFirstAccepted, Items.item_seen, Items.name_seen}
+use Rattle.mime.specs.{Items.name_text, Names.NameIs, Names.name_table, Atoms.atom_text, Printed.fault_text, Printed.fault_text}
+use Rattle.mime.specs.{Printed.error_text, declared.atoms.Atom.TheVariants.STAR_STAR, declared.atoms.Atom.TheVariants.TEXT_STAR}
+use Rattle.mime.specs.{declared.atoms.Atom.TheVariants.TEXT_PLAIN, declared.atoms.Atom.TheVariants.TEXT_PLAIN_UTF_8}
+use Rattle.mime.specs.{declared.atoms.Atom.TheVariants.TEXT_HTML, declared.atoms.Atom.TheVariants.TEXT_HTML_UTF_8}
+use Rattle.mime.specs.{declared.atoms.Atom.TheVariants.TEXT_CSS, declared.atoms.Atom.TheVariants.TEXT_CSS_UTF_8}
+use Rattle.mime.specs.{declared.atoms.Atom.TheVariants.TEXT_JAVASCRIPT, declared.atoms.Atom.TheVariants.TEXT_XML}
+use Rattle.mime.specs.{declared.atoms.Atom.TheVariants.TEXT_EVENT_STREAM, declared.atoms.Atom.TheVariants.TEXT_CSV}
+use Rattle.mime.specs.{declared.atoms.Atom.TheVariants.TEXT_CSV_UTF_8, declared.atoms.Atom.TheVariants.TEXT_TAB_SEPARATED_VALUES}
+use Rattle.mime.specs.{declared.atoms.Atom.TheVariants.TEXT_TAB_SEPARATED_VALUES_UTF_8, declared.atoms.Atom.TheVariants.TEXT_VCARD}
+use Rattle.mime.specs.{declared.atoms.Atom.TheVariants.IMAGE_STAR, declared.atoms.Atom.TheVariants.IMAGE_JPEG}
+use Rattle.mime.specs.{declared.atoms.Atom.TheVariants.IMAGE_GIF, declared.atoms.Atom.TheVariants.IMAGE_PNG}
+use Rattle.mime.specs.{declared.atoms.Atom.TheVariants.IMAGE_BMP, declared.atoms.Atom.TheVariants.IMAGE_SVG}
+use Rattle.mime.specs.{declared.atoms.Atom.TheVariants.FONT_WOFF, declared.atoms.Atom.TheVariants.FONT_WOFF2}
+use Rattle.mime.specs.{declared.atoms.Atom.TheVariants.APPLICATION_JSON, declared.atoms.Atom.TheVariants.APPLICATION_JAVASCRIPT}
+use Rattle.mime.specs.{declared.atoms.Atom.TheVariants.APPLICATION_JAVASCRIPT_UTF_8}
+use Rattle.mime.specs.{declared.atoms.Atom.TheVariants.APPLICATION_WWW_FORM_URLENCODED}
+use Rattle.mime.specs.{declared.atoms.Atom.TheVariants.APPLICATION_OCTET_STREAM, declared.atoms.Atom.TheVariants.APPLICATION_MSGPACK}
+use Rattle.mime.specs.{declared.atoms.Atom.TheVariants.APPLICATION_PDF, declared.atoms.Atom.TheVariants.MULTIPART_FORM_DATA}
+use Rattle.mime.specs.{declared.name.Name.Name, declared.scan.fault.ParseError.TheVariants.MissingSlash}
+use Rattle.mime.specs.{declared.scan.fault.ParseError.TheVariants.MissingSubtype, declared.scan.fault.ParseError.TheVariants.MissingEqual}
+use Rattle.mime.specs.{declared.scan.fault.ParseError.TheVariants.MissingValue, declared.scan.fault.ParseError.TheVariants.MissingQuote}
+use Rattle.mime.specs.{declared.scan.fault.ParseError.TheVariants.InvalidToken, declared.scan.fault.ParseError.TheVariants.NoMemory}
 use Rattle.mime.proofs.GrammarLemmas.Readings.{one_reading, stopped-from_walk}
 use Rattle.mime_facts.proofs.StandardFacts.{media, tree_from_parts, reads}
 

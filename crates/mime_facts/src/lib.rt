@@ -1,6 +1,6 @@
-//! Facts about the library `mime`, in the folder proofs: an example and a counterexample for each definition of its trusted files, and an
-//! instance of most laws. An example fails if its definition becomes too strong, and a counterexample if it becomes too weak. The crate is
-//! separate, so that users of the library needn't prove it.
+//! Facts about the libraries `mime` and `mime_http`, in the folder proofs: an example and a counterexample for each definition of their
+//! trusted files, and an instance of most laws. An example fails if its definition becomes too strong, and a counterexample if it becomes
+//! too weak. The crate is separate, so that users of the libraries needn't prove it.
 #![tactic(auto)]
 
 ghost use Rattle.std.specs.Prelude.{List, ℕ, Bool, Option};

@@ -1,7 +1,18 @@
 -- The highest of ranks: which one a fold keeps, as the closest range's, and where it stands first, as the best offer's.
 use Rattle.std.proofs.Common.{rules}
-use Rattle.mime_http.proofs.Common.{All, All-contains, AllPass-from_list_all, list_any, list_any_at, cases_Bool, suc, Bool, ClosestIsClosest, Contains, Contains-append_right, Equal, IsTotalOrder, List, MediaType, None, Option, Ordering, Rank, Some, [], and_from, ap, arith, by_option, cases_lt, closeness, closest, enumerate_from, false, filter_map, find, fold, get_or, get_or-map, get_or_default, get_or_past, inl, inr, is_gt, is_le, is_lt, length, length-map, list_all, list_all-from_AllPass, map, nat_cmp_total, nat_lt, nat_tests, none-some, on_total, option_cmp, ord_max, position, position_or_len, position_or_len_is, rank_cmp, refl, same_Some, subst, sym, then_total, true, true≢false, zero, ℕ, ⊎_elim, ◌&&◌, ◌+◌, ◌<◌, ◌∙◌, ◌∷◌, ◌≡◌, ◌≤◌, ◌⊎◌}
-use Rattle.std.{proofs.lemmas.Cmp.upto, proofs.lemmas.List.Elements.All-cons, proofs.lemmas.List.Elements.All-nil, proofs.lemmas.List.Folds.list_all_at, proofs.lemmas.Bool.and_right, proofs.lemmas.Bool.and_left, proofs.lemmas.Bool.cases_cond, specs.Cmp.Lexicographic.options_total}
+use Rattle.mime_http.proofs.Common.{All, All-contains, AllPass-from_list_all, list_any, list_any_at, cases_Bool, suc, Bool}
+use Rattle.mime_http.proofs.Common.{ClosestIsClosest, Contains, Contains-append_right, Equal, IsTotalOrder, List, MediaType, None, Option}
+use Rattle.mime_http.proofs.Common.{Ordering, Rank, Some, [], and_from, ap, arith, by_option, cases_lt, closeness, closest, enumerate_from}
+use Rattle.mime_http.proofs.Common.{false, filter_map, find, fold, get_or, get_or-map, get_or_default, get_or_past, inl, inr, is_gt, is_le}
+use Rattle.mime_http.proofs.Common.{is_lt, length, length-map, list_all, list_all-from_AllPass, map, nat_cmp_total, nat_lt, nat_tests}
+use Rattle.mime_http.proofs.Common.{none-some, on_total, option_cmp, ord_max, position, position_or_len, position_or_len_is, rank_cmp, refl}
+use Rattle.mime_http.proofs.Common.{same_Some, subst, sym, then_total, true, true≢false, zero, ℕ, ⊎_elim, ◌&&◌, ◌+◌, ◌<◌, ◌∙◌, ◌∷◌, ◌≡◌}
+use Rattle.mime_http.proofs.Common.{◌≤◌, ◌⊎◌}
+use Rattle.std.{proofs.lemmas.Cmp.upto, proofs.lemmas.List.Elements.All-cons, proofs.lemmas.List.Elements.All-nil}
+use Rattle.std.{proofs.lemmas.List.Folds.list_all_at, proofs.lemmas.Bool.and_right, proofs.lemmas.Bool.and_left}
+use Rattle.std.{proofs.lemmas.Bool.cases_cond, specs.Cmp.Lexicographic.options_total}
+use Rattle.std.specs.Ordering.{ordering_reverse}
+use Rattle.std.specs.declared.cmp.Ordering.TheVariants.{Less, Greater}
 use borrow.Author.Count.{below_more}
 
 -- The value of an item's value is the one at its position.
@@ -90,6 +101,19 @@ find_one p (y ∷ xs) x some one =
     ⊎_elim (λ passes. rw passes (ap Some (one 0 y (omega arith) passes)))
     (λ fails. rw fails (find_one p xs x (rw fails at some) (λ k d within. one (suc k) d (omega (arith, within))))) (cases_Bool (p y))
 
+-- What isn't greater is less or equal.
+at_most : (order : Ordering) → is_gt order ≡ false → is_le order ≡ true
+at_most Less is = refl
+at_most Equal is = refl
+at_most Greater is = absurd (true≢false is)
+
+-- What isn't greater is equal, if its reverse isn't greater either.
+equal_both_ways : (order other : Ordering) → order ≡ ordering_reverse other → is_gt order ≡ false → is_le other ≡ true
+    → order ≡ Equal
+equal_both_ways Less other reverse low high = grind (arith, reverse, high)
+equal_both_ways Equal other reverse low high = refl
+equal_both_ways Greater other reverse low high = absurd (true≢false low)
+
 -- The highest is the one that none is above.
 found_top : (all : List Rank) → find (is_top all) all ≡ fold (ord_max cmp) None (map Some all)
 found_top [] = refl
@@ -104,12 +128,11 @@ found_top (rank ∷ ranks) = by (fold (ord_max cmp) None (map Some all)) (top_of
         let found : (x : Rank) × Contains all x × (Some x ≡ Some top) = ⊎_elim (λ none. absurd cc) (λ found. found) is.among in
         let (k, within, there) : Contains all top = rw (same_Some _ _ found.2) at found.1 in
         let top_passes = list_all-from_AllPass (is_low top) all (λ j d inside.
-        let low = is.above j d inside in grind (arith, nat_tests, low)) in
+        at_most (rank_cmp (get_or all j d) top) (is.above j d inside)) in
         find_one (is_top all) all top (list_any_at (is_top all) all k top within (ap (is_top all) there ∙ top_passes))
         (λ j d inside passes.
-        let low = is.above j d inside in
         let high = rw there at (AllPass-from_list_all (is_low (get_or all j d)) all passes k top within) in
-        one_rank _ top (grind (arith, nat_tests, low, high)))
+        one_rank _ top (equal_both_ways _ _ (ranks_total.antisymm (get_or all j d) top) (is.above j d inside) high))
 
 -- ---- the closest range
 

@@ -6,17 +6,13 @@ pub mod Cuts
 pub mod Demanded
 pub mod FieldErrors
 pub mod Highest
-pub mod HttpFacts
 pub mod HttpLaws
 pub mod LawLemmas
-pub mod LacksFacts
 pub mod Lists
 pub mod Missing
-pub mod NegotiationFacts
 pub mod Numbers
 pub mod Order
 pub mod PlainIsHttp
-pub mod RangesFacts
 pub mod ReadAt
 pub mod ReadBack
 pub mod ReadFaults

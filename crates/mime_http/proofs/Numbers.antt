@@ -1,7 +1,11 @@
 -- A weight that is read digit by digit is the number that its text begins with.
 use Rattle.std.proofs.Common.{rules}
 use Rattle.mime_http.specs.{Ranking.are_decimals, Ranking.is_qvalue, RangesLaws.zero, RangesLaws.one}
-use Rattle.mime_http.proofs.Common.{Bool, IsQvalue, QvaluesAre, suc, zero as none, and_parts, cases_Bool, false, list_all, not, subst, true, true≢false, ⊎_elim, ◌||◌, ◌&&◌, List, WeightIsNumber, [], arith, codes, drop, fold, if◌then◌else◌, is_ascii_digit, length, nat_tests, one_digit, one_dot, read_number, refl, replicate, slice_index, sym, take, take_while, take_while-cons, thousandths_of, three_digits, two_digits, worth, zero_dot, ℕ, ◌*◌, ◌++◌, ◌+◌, ◌-◌, ◌==◌, ◌∷◌, ◌≡◌, ◌≤◌, ◌/◌, mul-le-mul_left}
+use Rattle.mime_http.proofs.Common.{Bool, IsQvalue, QvaluesAre, suc, zero as none, and_parts, cases_Bool, false, list_all, not, subst, true}
+use Rattle.mime_http.proofs.Common.{true≢false, ⊎_elim, ◌||◌, ◌&&◌, List, WeightIsNumber, [], arith, codes, drop, fold, if◌then◌else◌}
+use Rattle.mime_http.proofs.Common.{is_ascii_digit, length, nat_tests, one_digit, one_dot, read_number, refl, replicate, slice_index, sym}
+use Rattle.mime_http.proofs.Common.{take, take_while, take_while-cons, thousandths_of, three_digits, two_digits, worth, zero_dot, ℕ, ◌*◌}
+use Rattle.mime_http.proofs.Common.{◌++◌, ◌∙◌, ◌+◌, ◌-◌, ◌==◌, ◌∷◌, ◌≡◌, ◌≤◌, ◌/◌, mul-le-mul_left}
 
 -- This is a number with one more digit.
 abbrev step : ℕ → ℕ → ℕ
@@ -57,13 +61,26 @@ read_is (b ∷ bytes) = grind (arith, nat_tests, number_goes_on, read_is bytes, 
 
 -- ---- what RFC 9110 allows
 
+-- A digit is worth its number of the unit.
+worth_digit : (unit a : ℕ) (bytes : List ℕ) → a ≤ 9 → worth unit ((48 + a) ∷ bytes) ≡ unit * a + worth (unit / 10) bytes
+worth_digit unit a bytes few = grind (arith, nat_tests, few)
+
 -- A weight is the number that it begins with.
 pub weight_is_number : WeightIsNumber
 weight_is_number text thousandths zero = refl
 weight_is_number text thousandths zero_dot = refl
-weight_is_number text thousandths (one_digit a first) = grind (arith, nat_tests, read_is)
-weight_is_number text thousandths (two_digits a b first second) = grind (arith, nat_tests, read_is)
-weight_is_number text thousandths (three_digits a b c first second third) = grind (arith, nat_tests, read_is)
+weight_is_number text thousandths (one_digit a first) =
+    sym (read_is (codes "0." ++ ((48 + a) ∷ []))) ∙ omega (arith, worth_digit 100 a [] first)
+weight_is_number text thousandths (two_digits a b first second) =
+    sym (read_is (codes "0." ++ ((48 + a) ∷ (48 + b) ∷ [])))
+    ∙ omega (arith, worth_digit 100 a ((48 + b) ∷ []) first, worth_digit 10 b [] second)
+weight_is_number text thousandths (three_digits a b c first second third) =
+    sym (read_is (codes "0." ++ ((48 + a) ∷ (48 + b) ∷ (48 + c) ∷ []))) ∙ omega (
+      arith,
+      worth_digit 100 a ((48 + b) ∷ (48 + c) ∷ []) first,
+      worth_digit 10 b ((48 + c) ∷ []) second,
+      worth_digit 1 c [] third,
+    )
 weight_is_number text thousandths one = refl
 weight_is_number text thousandths (one_dot zeros few) = sym (read_is (codes "1." ++ replicate zeros 48))
 

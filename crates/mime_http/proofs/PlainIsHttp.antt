@@ -1,9 +1,19 @@
 -- What the library walks over HTTP reads in the same way. So what the library reads is what HTTP writes there, and where the library stops
 -- HTTP stops as well, but at white space and at a semicolon.
-use Rattle.mime_http.proofs.Common.{Reads, pairs_of_tail-lowered, is_some, not, ◌||◌, nat_tests, pairs_of_tail, unwrap_or, blank, stopped-from_walk, IsAccepted, AreSpaces, Begun, ClosedParameters, EndsIn, Explains, NoMemory, InvalidToken, IsDeadAt, IsHttpFault, IsHttpMediaType, List, MatchOption, None, Option, ParseError, Parameters, Parts, PlainIsHttp, Some, State, SyntaxTree, [], after_semicolon, answer_at_end, answer_from, answer_of, append_assoc, append-nil, arith, before_semicolon, before_type, by_option, completion_of, false, grow, in_name, in_string, in_subtype, in_type, in_value, is_space, last_byte_of, length, list_at, media_of, more, next, none-some, not_viable-at_dead, one_fault, one_reading, option_map, pair_of, pairs_of_list, read, refl, rejected, same_Some, sym, tree_of, true, value_of, viable-from_walk, walk, walk-accepted, walk_from, with_pairs, with_parameter, ℕ, ⊤, ◌++◌, ◌+◌, ◌==◌, ◌∙◌, ◌∷◌, ◌≡◌, ◌≢◌, accepted-from_walk, dead-from_stop, stop-from_walk, with_closed}
+use Rattle.mime_http.proofs.Common.{Reads, pairs_of_tail-lowered, is_some, not, ◌||◌, nat_tests, pairs_of_tail, unwrap_or, blank}
+use Rattle.mime_http.proofs.Common.{stopped-from_walk, IsAccepted, AreSpaces, Begun, ClosedParameters, EndsIn, Explains, NoMemory}
+use Rattle.mime_http.proofs.Common.{InvalidToken, IsDeadAt, IsHttpFault, IsHttpMediaType, List, MatchOption, None, Option, ParseError}
+use Rattle.mime_http.proofs.Common.{Parameters, Parts, PlainIsHttp, Some, State, SyntaxTree, [], after_semicolon, answer_at_end}
+use Rattle.mime_http.proofs.Common.{answer_from, answer_of, append_assoc, append-nil, arith, before_semicolon, before_type, by_option}
+use Rattle.mime_http.proofs.Common.{completion_of, false, grow, in_name, in_string, in_subtype, in_type, in_value, is_space, last_byte_of}
+use Rattle.mime_http.proofs.Common.{length, list_at, media_of, more, next, none-some, not_viable-at_dead, one_fault, one_reading}
+use Rattle.mime_http.proofs.Common.{option_map, pair_of, pairs_of_list, read, refl, rejected, same_Some, sym, tree_of, true, value_of}
+use Rattle.mime_http.proofs.Common.{viable-from_walk, walk, walk-accepted, walk_from, with_pairs, with_parameter, ℕ, ⊤, ◌++◌, ◌+◌, ◌==◌}
+use Rattle.mime_http.proofs.Common.{◌∙◌, ◌∷◌, ◌≡◌, ◌≢◌, accepted-from_walk, dead-from_stop, stop-from_walk, with_closed}
 use Rattle.mime.proofs.HandedOut as walked
-use Rattle.mime.proofs.HandedOut.{ListState, grow_state}
-use Rattle.mime_http.proofs.{Around.white_more, ReadBack.answered_is_http, ReadFaults.answered_fault, Runs.no_way, Runs.keeps_before, Runs.over_white}
+use Rattle.mime.proofs.HandedOut.{ListState}
+use Rattle.mime_http.proofs.{Around.white_more, ReadBack.answered_is_http, ReadFaults.answered_fault, Runs.no_way, Runs.keeps_before}
+use Rattle.mime_http.proofs.{Runs.over_white}
 
 -- ---- side by side
 

@@ -1,5 +1,12 @@
 -- What is written of parameters is read as them, and is written item by item.
-use Rattle.mime_http.proofs.Common.{SyntaxTree, All-push, All-filter, if◌then◌else◌, AllByRecursion, AreParameters, Bool, IsContent, IsParameter, IsSafe, IsSafePair, IsToken, IsToken-lowered, List, MediaType, Parameter, Parameters, Parts, Reads, [], ap, append-nil, append_assoc, ap₂, arith, bytes_eq, cond_both, false, final, is_token_byte, is_token_value, length, length-append, length-lowered, list_all-lowered, listed, lowered, lowered-lowered, lowered_list, lowered_parameter, lowered_value, lowered_value-either, lowered_value-lowered, map, media_of, more, nat_tests, no_list, not, others, pair_of, pairs_of_list, pairs_of_tail, pairs_of_tail-lowered, plain, quoted, refl, subst, suc, sym, text_of_list, text_of_pair, text_of_pairs, text_of_parameter, text_of_parts, true, value_of, with_pair, with_pairs, ℕ, ◌++◌, ◌∙◌, ◌∷◌, ◌≡◌, Item, NameIs, bytes_eq-Decides, false_from_ne_true, flat_map-append, items_of, ◌+◌, ◌≤◌, Decides, filter, All-from_recursion, recursion_from_All, lowered_pair}
+use Rattle.mime_http.proofs.Common.{SyntaxTree, if◌then◌else◌, AllByRecursion, AreParameters, Bool, IsContent, IsSafe, IsSafePair, IsToken}
+use Rattle.mime_http.proofs.Common.{IsToken-lowered, List, MediaType, Parameter, Parameters, Parts, Reads, [], append-nil, append_assoc}
+use Rattle.mime_http.proofs.Common.{arith, bytes_eq, false, final, is_token_byte, is_token_value, length, length-append, length-lowered}
+use Rattle.mime_http.proofs.Common.{list_all-lowered, listed, lowered, lowered-lowered, lowered_list, lowered_value, lowered_value-either}
+use Rattle.mime_http.proofs.Common.{lowered_value-lowered, map, media_of, more, nat_tests, no_list, not, others, pairs_of_list}
+use Rattle.mime_http.proofs.Common.{pairs_of_tail-lowered, plain, quoted, refl, text_of_list, text_of_pair, text_of_pairs, text_of_parts}
+use Rattle.mime_http.proofs.Common.{true, with_pair, ℕ, ◌++◌, ◌∷◌, ◌≡◌, Item, NameIs, bytes_eq-Decides, false_from_ne_true, items_of, ◌+◌}
+use Rattle.mime_http.proofs.Common.{◌≤◌, Decides, filter, lowered_pair}
 
 -- The test for a token holds for tokens alone.
 pub token_from_test : (value : List ℕ) → is_token_value value ≡ true → IsToken value

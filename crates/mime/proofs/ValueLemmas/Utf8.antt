@@ -1,12 +1,14 @@
 -- A text of which parts are lowercased: what holds of it, and that it keeps UTF-8.
-use Rattle.std.proofs.Common.{◌≡◌, ℕ, ◌<◌, ◌≤◌, Bool, true, List, [], ◌∷◌, ◌++◌, length, take, drop, refl, sym, ap, ◌∙◌, subst, arith, ⊎_elim, rules}
+use Rattle.std.proofs.Common.{◌≡◌, ℕ, ◌<◌, ◌≤◌, Bool, true, List, [], ◌∷◌, ◌++◌, length, take, drop, refl, sym, ap, ◌∙◌, subst, arith}
+use Rattle.std.proofs.Common.{⊎_elim, rules}
 use Rattle.std.specs.Prelude.{IsUtf8, ◌&&◌, ◌||◌, nat_le, nat_lt}
 use Rattle.std.specs.{Char.to_ascii_lowercase, List.list_all}
-use Rattle.std.proofs.{lemmas.Bool.and_parts, lemmas.Bool.cases_lt, lemmas.Bool.Decides.nat_tests, lemmas.Grind.common_steps, lemmas.List.take-append-drop, lemmas.Str.IsUtf8-nil, lemmas.Str.IsUtf8-append, lemmas.Str.IsUtf8-encode, lemmas.Str.IsUtf8-from_ascii, lemmas.Str.encode_ascii, lemmas.Str.Ascii.IsAscii-cons, lemmas.Str.Ascii.IsAscii-nil}
+use Rattle.std.proofs.{lemmas.Bool.and_parts, lemmas.Bool.cases_lt, lemmas.Bool.Decides.nat_tests, lemmas.Grind.common_steps}
+use Rattle.std.proofs.{lemmas.List.take-append-drop, lemmas.Str.IsUtf8-nil, lemmas.Str.IsUtf8-append, lemmas.Str.IsUtf8-encode}
+use Rattle.std.proofs.{lemmas.Str.IsUtf8-from_ascii, lemmas.Str.encode_ascii, lemmas.Str.Ascii.IsAscii-cons, lemmas.Str.Ascii.IsAscii-nil}
 use Rattle.mime.specs.Values.{lowered}
 use Rattle.mime.proofs.{LowercaseLemmas.lowered-lowered, LowercaseLemmas.lowered-append, BytesLemmas.list_all-wider}
 use Rattle.mime_search.proofs.IgnoringCase.{length-lowered, lowered-take, lowered-drop}
-use lib.Dec.{ltb}
 use lib.Utf8.{scalars, scalar, encodes, encode}
 
 -- the second text is the first with some of its parts lowercased

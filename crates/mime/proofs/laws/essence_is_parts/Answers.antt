@@ -1,5 +1,5 @@
 -- An essence is its parts.
-use Rattle.mime.proofs.LawsLemmas.Written.{essence_is_parts}
+use Rattle.mime.proofs.LawLemmas.Written.{essence_is_parts}
 use Rattle.mime.proofs.laws.essence_is_parts.Goals as goal
 
 pub returns : goal.returns

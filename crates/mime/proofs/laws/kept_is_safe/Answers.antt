@@ -1,5 +1,5 @@
 -- A value that was read is safe in a header.
-use Rattle.mime.proofs.LawsLemmas.Written.{kept_is_safe}
+use Rattle.mime.proofs.LawLemmas.Written.{kept_is_safe}
 use Rattle.mime.proofs.laws.kept_is_safe.Goals as goal
 
 pub returns : goal.returns

@@ -1,5 +1,5 @@
 -- An essence is the same where the parts are.
-use Rattle.mime.proofs.LawsLemmas.Written.{same_essence}
+use Rattle.mime.proofs.LawLemmas.Written.{same_essence}
 use Rattle.mime.proofs.laws.same_essence.Goals as goal
 
 pub returns : goal.returns

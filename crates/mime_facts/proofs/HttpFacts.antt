@@ -1,8 +1,16 @@
 -- Worked facts of the pages `HttpMediaType`, `HttpFaults` and `HttpList`, and of `Unescaped`, `Written` and `Boundary`: values that are
 -- media types, values that aren't, their faults, and what is printed of a value.
-use Rattle.mime_http.proofs.Common.{Parameter, SyntaxTree, IsUtf8-nil, HttpExplains, HttpReads, InvalidToken, IsBoundary, IsBoundaryOf, IsContent-taken, IsHttpFault, IsHttpMediaType, IsPrinted, List, MediaType, media_of, MissingQuote, MissingSubtype, MissingValue, NeedsMemory, None, Parts, [], anew, ap, arith, as_it_stands, bytes_eq, bytes_eq-Decides, codes, escaped, false, final, is_quoted_byte, is_token_byte, is_token_value, length, listed, others, quoted, refl, same_Some, stopped-from_walk, sym, text_of_pair, text_of_pairs, trimmed, true, true≢false, unescaped, with_pair, with_pairs, ℕ, ◌++◌, ◌∙◌, ◌∷◌, ◌≡◌, ◌≢◌}
-use Rattle.mime_http.specs.{declared.value.FieldError.TheVariants.Invalid, declared.value.FieldError.TheVariants.NotUtf8, declared.value.FieldError.TheVariants.NoMemory as OutOfMemory, HttpFaults.fault_position}
-use Rattle.mime_http.proofs.{Around.white_more, Around.put_ascii, HttpLaws.one_printed_text, HttpLaws.short_needs_none, HttpLaws.anew_needs, HttpLaws.anew_is, HttpLaws.written_reads, ReadBack.answered_is_http, ReadFaults.answered_fault, ReadFaults.fault_answered, ReadFaults.rejected_is_none as none}
+use Rattle.mime_http.proofs.Common.{Parameter, SyntaxTree, IsUtf8-nil, HttpExplains, HttpReads, InvalidToken, IsBoundary, IsBoundaryOf}
+use Rattle.mime_http.proofs.Common.{IsContent-taken, IsHttpFault, IsHttpMediaType, IsPrinted, List, MediaType, media_of, MissingQuote}
+use Rattle.mime_http.proofs.Common.{MissingSubtype, MissingValue, NeedsMemory, None, Parts, [], anew, ap, arith, as_it_stands, bytes_eq}
+use Rattle.mime_http.proofs.Common.{bytes_eq-Decides, codes, escaped, false, final, is_quoted_byte, is_token_byte, is_token_value, length}
+use Rattle.mime_http.proofs.Common.{listed, others, quoted, refl, same_Some, stopped-from_walk, sym, text_of_pair, text_of_pairs, trimmed}
+use Rattle.mime_http.proofs.Common.{true, true≢false, unescaped, with_pair, with_pairs, ℕ, ◌++◌, ◌∙◌, ◌∷◌, ◌≡◌, ◌≢◌}
+use Rattle.mime_http.specs.{declared.value.FieldError.TheVariants.Invalid, declared.value.FieldError.TheVariants.NotUtf8}
+use Rattle.mime_http.specs.{declared.value.FieldError.TheVariants.NoMemory as OutOfMemory, HttpFaults.fault_position}
+use Rattle.mime_http.proofs.{Around.white_more, Around.put_ascii, HttpLaws.one_printed_text, HttpLaws.short_needs_none, HttpLaws.anew_needs}
+use Rattle.mime_http.proofs.{HttpLaws.anew_is, HttpLaws.written_reads, ReadBack.answered_is_http, ReadFaults.answered_fault}
+use Rattle.mime_http.proofs.{ReadFaults.fault_answered, ReadFaults.rejected_is_none as none}
 
 -- This is ` text/HTML ;; charset="UTF-8" `.
 abbrev value : List ℕ

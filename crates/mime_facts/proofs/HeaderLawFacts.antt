@@ -2,9 +2,18 @@
 -- it is false, and what each law says of a text.
 use Rattle.std.proofs.Common.{◌≡◌, ℕ, Bool, true, false, ◌⊎◌, inl, inr, List, [], ◌∷◌, ◌++◌, map, Option, Some, None, refl, sym, codes}
 use Rattle.std.proofs.lemmas.Bool.{false≢true}
-use Rattle.mime.specs.{Bytes.is_token_byte, Bytes.is_quoted_byte, Grammar.IsContent, Values.MediaType, Values.Reads, Values.IsAccepted, Values.IsRejected, Values.type_of, Values.subtype_of, Items.IsFirstAccepted, Laws.AcceptedOrRejected, Laws.suffix_text, Laws.EssenceIsParts, Laws.HaveSameParts, Laws.SameEssence, Laws.IsDecided, Laws.HasAnswer, HeaderLaws.AreHeaderBytes, HeaderLaws.IsSafePair, HeaderLaws.IsSafe, HeaderLaws.KeptIsSafe, HeaderLaws.text_with_parameter, HeaderLaws.with_parameter, HeaderLaws.ParameterIsRead, Cut.good, Cut.Cut, Cut.whole, CutLaws.is_separator, CutLaws.IsHttpList, CutLaws.no_element, CutLaws.separated, CutLaws.one_element, CutLaws.more_elements, CutLaws.HttpListIsCut}
-use Rattle.mime.proofs.{CutLemmas.Containment.http_list_is_cut, CutLemmas.Cuts.cut_unique, GrammarLemmas.Content.IsContent-taken, GrammarLemmas.Content.content-taken}
-use Rattle.mime_facts.proofs.{ComparisonFacts.quoted_x, ComparisonFacts.reads_quoted, CutFacts.no_item_left_out, StandardFacts.media, StandardFacts.plus_twice, ValueFacts.differ, ValueFacts.plain_value, ValueFacts.reads_capitals, ValueFacts.exact_item}
+use Rattle.mime.specs.{Bytes.is_token_byte, Bytes.is_quoted_byte, Grammar.IsContent, Values.MediaType, Values.Reads, Values.IsAccepted}
+use Rattle.mime.specs.{Values.IsRejected, Values.type_of, Values.subtype_of, Items.IsFirstAccepted, Laws.AcceptedOrRejected}
+use Rattle.mime.specs.{Laws.suffix_text, Laws.EssenceIsParts, Laws.HaveSameParts, Laws.SameEssence, Laws.IsDecided, Laws.HasAnswer}
+use Rattle.mime.specs.{HeaderLaws.AreHeaderBytes, HeaderLaws.IsSafePair, HeaderLaws.IsSafe, HeaderLaws.KeptIsSafe}
+use Rattle.mime.specs.{HeaderLaws.text_with_parameter, HeaderLaws.with_parameter, HeaderLaws.ParameterIsRead, Cut.good, Cut.Cut, Cut.whole}
+use Rattle.mime.specs.{CutLaws.is_separator, CutLaws.IsHttpList, CutLaws.no_element, CutLaws.separated, CutLaws.one_element}
+use Rattle.mime.specs.{CutLaws.more_elements, CutLaws.HttpListIsCut}
+use Rattle.mime.proofs.{CutLemmas.Containment.http_list_is_cut, CutLemmas.Cuts.cut_unique, GrammarLemmas.Content.IsContent-taken}
+use Rattle.mime.proofs.{GrammarLemmas.Content.content-taken}
+use Rattle.mime_facts.proofs.{ComparisonFacts.quoted_x, ComparisonFacts.reads_quoted, CutFacts.no_item_left_out, StandardFacts.media}
+use Rattle.mime_facts.proofs.{StandardFacts.plus_twice, ValueFacts.differ, ValueFacts.plain_value, ValueFacts.reads_capitals}
+use Rattle.mime_facts.proofs.{ValueFacts.exact_item}
 
 -- ---- accepted and rejected
 

@@ -1,10 +1,17 @@
 -- Worked facts of the pages `Ranges`, `Ranking` and `Unescaped`: what covers an offer, which is the best, and why; with the examples of
 -- RFC 9110 (12.5.1) and of RFC 7231 (5.3.2). Ranges and offers are given by their texts.
 use Rattle.std.proofs.Common.{rules}
-use Rattle.mime_http.proofs.Common.{All-contains, AllPairs, AreInOrder, Bool, Contains, List, MeanTheSame, MediaType, None, Option, Some, [], ap, arith, best_offer, closeness, codes, drop, false, get_or, given_weight, is_some, map, not, prefix_len, refl, same_Some, slice_get, suc, sym, true, zero, ℕ, ◌<◌, ◌==◌, ◌∷◌, ◌≡◌, inl, length, length-map, list_all, list_any}
+use Rattle.mime_http.proofs.Common.{All-contains, AllPairs, AreInOrder, Bool, Contains, List, MeanTheSame, MediaType, None, Option, Some}
+use Rattle.mime_http.proofs.Common.{[], ap, arith, best_offer, closeness, codes, drop, false, get_or, given_weight, is_some, map, not}
+use Rattle.mime_http.proofs.Common.{prefix_len, refl, same_Some, slice_get, suc, sym, true, zero, ℕ, ◌<◌, ◌==◌, ◌∷◌, ◌≡◌, inl, length}
+use Rattle.mime_http.proofs.Common.{length-map, list_all, list_any}
 use Rattle.std.specs.List.{slice_split}
 use Prim.Native.String.{String}
-use Rattle.mime_http.{specs.Ranking.IsRanking, specs.Ranking.is_lacking, specs.Ranking.is_qvalue, specs.Ranking.ranked_as, specs.Ranges.ComesBefore, specs.Ranges.merit_at, specs.declared.ranking.RankedOffer.RankedOffer, proofs.Order.best_is_acceptable, proofs.Order.best_is_first, proofs.Order.best_is_ranked_first, proofs.Order.one_ranking, proofs.Order.weighs_within, proofs.Demanded.covers_itself, proofs.Demanded.meaning_counts, proofs.Strangers.stranger_changes_nothing}
+use Rattle.mime_http.{specs.Ranking.IsRanking, specs.Ranking.is_lacking, specs.Ranking.is_qvalue, specs.Ranking.ranked_as}
+use Rattle.mime_http.{specs.Ranges.ComesBefore, specs.Ranges.merit_at, specs.declared.ranking.RankedOffer.RankedOffer}
+use Rattle.mime_http.{proofs.Order.best_is_acceptable, proofs.Order.best_is_first, proofs.Order.best_is_ranked_first}
+use Rattle.mime_http.{proofs.Order.one_ranking, proofs.Order.weighs_within, proofs.Demanded.covers_itself, proofs.Demanded.meaning_counts}
+use Rattle.mime_http.{proofs.Strangers.stranger_changes_nothing}
 
 -- These are the parts of a text between marks.
 abbrev parts_at : ℕ → List ℕ → List (List ℕ)

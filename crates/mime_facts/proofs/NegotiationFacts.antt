@@ -1,6 +1,12 @@
 -- Worked facts of the pages `HttpList` and `Weight`: what is true of a text, and what is false.
-use Rattle.mime_http.proofs.Common.{IsUtf8-nil, append-nil, text_of_parts, AreHttpLists, AreSorted, Header, IsFirstBad, IsHeader, IsHttpMediaType, IsPiece, IsQvalue, List, MediaType, Parts, [], a_range, after_range, answer_of, ap, arith, as_it_stands, bad_here, codes, cut, get_or, is_token_byte, length, map, media_of, no_text, read, refl, sym, thousandths_of, trimmed, true≢false, two_digits, ℕ, ◌∷◌, ◌≡◌}
-use Rattle.mime_http.{specs.HttpList.blank, proofs.Around.AreAscii, proofs.Around.put_ascii, proofs.Numbers.weight_is_number, proofs.Cuts.cut_of_piece, proofs.Cuts.are_cut, proofs.Lists.one_first_bad, proofs.Lists.one_header, proofs.Lists.http_lists_are_read, proofs.Lists.read_are_http_lists, proofs.Lists.bad_is_alone, proofs.HttpLaws.written_reads, proofs.ReadBack.answered_is_http, proofs.ReadFaults.rejected_is_none}
+use Rattle.mime_http.proofs.Common.{IsUtf8-nil, append-nil, text_of_parts, AreHttpLists, AreSorted, Header, IsFirstBad, IsHeader}
+use Rattle.mime_http.proofs.Common.{IsHttpMediaType, IsPiece, IsQvalue, List, MediaType, Parts, [], a_range, after_range, answer_of, ap}
+use Rattle.mime_http.proofs.Common.{arith, as_it_stands, bad_here, codes, cut, get_or, is_token_byte, length, map, media_of, no_text, read}
+use Rattle.mime_http.proofs.Common.{refl, sym, thousandths_of, trimmed, true≢false, two_digits, ℕ, ◌∷◌, ◌≡◌}
+use Rattle.mime_http.{specs.HttpList.blank, proofs.Around.AreAscii, proofs.Around.put_ascii, proofs.Numbers.weight_is_number}
+use Rattle.mime_http.{proofs.Cuts.cut_of_piece, proofs.Cuts.are_cut, proofs.Lists.one_first_bad, proofs.Lists.one_header}
+use Rattle.mime_http.{proofs.Lists.http_lists_are_read, proofs.Lists.read_are_http_lists, proofs.Lists.bad_is_alone}
+use Rattle.mime_http.{proofs.HttpLaws.written_reads, proofs.ReadBack.answered_is_http, proofs.ReadFaults.rejected_is_none}
 
 -- ---- weights (RFC 9110, 12.4.2)
 
