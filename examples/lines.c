@@ -1,6 +1,6 @@
 /* SPDX-License-Identifier: MIT */
 /* Prints what the program mime_lines prints, only by the calls of include/mime.h:
- *     cc -Iinclude examples/lines.c out/libmime.a -o lines */
+ *     cc lines.c $(pkg-config --cflags --libs mime) -o lines */
 #define _POSIX_C_SOURCE 200809L
 #include "mime.h"
 #include <stdio.h>

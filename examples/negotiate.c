@@ -1,6 +1,6 @@
 /* SPDX-License-Identifier: MIT */
 /* What a server does with two headers of a request: it checks what is uploaded, and chooses what it sends back.
- *     cc -Iinclude examples/negotiate.c out/libmime.a -o negotiate
+ *     cc negotiate.c $(pkg-config --cflags --libs mime) -o negotiate
  *     ./negotiate 'text/csv; charset=utf-8' 'text/html;q=.8, application/json' */
 #include "mime.h"
 #include <stdio.h>

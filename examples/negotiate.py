@@ -1,7 +1,7 @@
 #!/usr/bin/env python3
 # SPDX-License-Identifier: MIT
 """Chooses what a program in Python sends, by the Accept header of a request, as negotiate.c and negotiate.rs do:
-examples/negotiate.py LIBRARY [ACCEPT]"""
+negotiate.py LIBRARY [ACCEPT]"""
 import ctypes
 import os
 import sys

@@ -1,6 +1,6 @@
 // SPDX-License-Identifier: MIT
 //! Chooses what an ordinary Rust program sends, by the Accept header of a request, as negotiate.c and negotiate.py do:
-//!     rustc -O --edition 2024 examples/negotiate.rs -L native=out -l static=mime -o negotiate && ./negotiate [ACCEPT]
+//!     rustc -O --edition 2024 negotiate.rs -L native=/usr/local/lib -l static=mime && ./negotiate [ACCEPT]
 //! With rustc before 1.82 write `extern "C"` for `unsafe extern "C"`, and `--edition 2021`.
 
 use std::ffi::c_char;

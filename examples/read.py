@@ -1,6 +1,6 @@
 #!/usr/bin/env python3
 # SPDX-License-Identifier: MIT
-"""Reads media types by ctypes, and chooses one for an Accept header: examples/read.py LIBRARY TEXT.."""
+"""Reads media types by ctypes, and chooses one for an Accept header: read.py LIBRARY TEXT.."""
 import ctypes
 import os
 import sys

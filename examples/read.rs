@@ -1,6 +1,6 @@
 // SPDX-License-Identifier: MIT
 //! Reads headers of HTTP from an ordinary Rust program:
-//!     rustc -O --edition 2024 examples/read.rs -L native=out -l static=mime -o read && ./read VALUE..
+//!     rustc -O --edition 2024 read.rs -L native=/usr/local/lib -l static=mime && ./read VALUE..
 //! With rustc before 1.82 write `extern "C"` for `unsafe extern "C"`, and `--edition 2021`.
 
 use std::ffi::{CStr, c_char};
