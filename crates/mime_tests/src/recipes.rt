@@ -1,13 +1,11 @@
 //! The rows about the recipes. A bar is written after each answer.
 
-use crate::constants::ATOMS;
 use crate::fields::string_at;
 use crate::http::{lines_of, offers_of, show, show_option, show_positions, show_result, shown};
 use crate::values::read_or_not;
 use mime::Mime;
 use mime_examples::bare::bare_of;
 use mime_examples::caret::caret_line;
-use mime_examples::compress::is_compressible;
 use mime_examples::counts::{count, no_counts, sorted};
 use mime_examples::disposition::Disposition;
 use mime_examples::document::received;
@@ -71,8 +69,8 @@ pub(crate) fn show_counts(rt: &HostRuntime, out: &mut String, strings: &[String]
     let (Ok(mut counts), Ok(offers)) = (no_counts(rt), offers_of(rt.alloc(), strings)) else {
         return;
     };
-    for mime in offers {
-        let _ = count(&mut counts, mime);
+    for mime in &offers {
+        let _ = count(rt.alloc(), &mut counts, mime);
     }
     if let Some(mime) = read_or_not(rt.alloc(), out, string_at(strings, 0)) {
         show(out, counts.get(&mime).unwrap_or(&0));
@@ -121,15 +119,6 @@ pub(crate) fn show_type_of_file(alloc: Global, out: &mut String, name: &str) {
 pub(crate) fn show_type_for(alloc: Global, out: &mut String, name: &str, lines: &str) {
     if let Ok(lines) = lines_of(alloc, lines) {
         show_result(out, type_for(alloc, name, &lines));
-    }
-}
-
-/// Shows the constants for which `is_compressible` returns `false`.
-pub(crate) fn show_is_compressible(out: &mut String) {
-    for (name, atom) in ATOMS {
-        if !is_compressible(*atom) {
-            show(out, name);
-        }
     }
 }
 

@@ -35,6 +35,7 @@ use mime_examples::accepted::explained;
 use mime_examples::answer::{refusal, refusal_of_body, status_of};
 use mime_examples::build::vendor_json;
 use mime_examples::callers::{has_param, has_suffix, printed, reads_alike};
+use mime_examples::compress::is_compressible;
 use mime_examples::disposition::read_disposition;
 use mime_examples::html::accepts_html;
 use mime_examples::json::is_json;
@@ -169,7 +170,7 @@ fn show_of_recipes(rt: &HostRuntime, out: &mut String, word: &str, strings: &[St
         "has_param" => show_result(out, printed(alloc, one).map(|mime| has_param(&mime, two))),
         "has_suffix" => show_result(out, has_suffix(alloc, one)),
         "in_order" => recipes::show_in_order(alloc, out, strings),
-        "is_compressible" => recipes::show_is_compressible(out),
+        "is_compressible" => show_read(out, read(alloc, one).map(|mime| is_compressible(&mime))),
         "is_json" => show_read(out, read(alloc, one).map(|mime| is_json(&mime))),
         "is_plain" => show_read(out, read(alloc, one).map(|mime| is_plain(&mime))),
         "may_delimit" => show(out, &may_delimit(one.as_bytes(), two.as_bytes())),
