@@ -4,7 +4,7 @@
 //! [`content_type`] reads the value of a header such as `Content-Type`. [`Accept`] reads the lines of an `Accept` header, weighs a server's
 //! offers, and returns the best offer, or all acceptable offers in order. [`covers`] and [`weight_of`] examine a single range.
 //! [`rank_offers`] and [`lacking`] explain a choice. [`with_parameter`], [`with_charset`] and [`with_boundary`] write parameters.
-//! [`boundary`] and [`unescape`] read them. [`laws`] states facts about all values.
+//! [`first_value`], [`boundary`] and [`unescape`] read them. [`laws`] states facts about all values.
 //!
 //! # Example
 //! A server checks two headers of a request. It accepts a body whose `Content-Type` is ` application/json ;; charset=utf-8`.
@@ -63,6 +63,6 @@ pub use crate::list::trimmed;
 pub use crate::multipart::{boundary, is_boundary};
 pub use crate::parameter::{with_boundary, with_charset, with_parameter};
 pub use crate::quoted::unescape;
-pub use crate::range::{covers, weight_of};
+pub use crate::range::{covers, first_value, weight_of};
 pub use crate::ranking::{RankedOffer, first_entry, has_weight, lacking, rank_offers};
 pub use crate::value::{FieldError, content_type};

@@ -35,6 +35,7 @@ use mime_examples::accepted::explained;
 use mime_examples::answer::{refusal, refusal_of_body, status_of};
 use mime_examples::build::vendor_json;
 use mime_examples::callers::{has_param, has_suffix, printed, reads_alike};
+use mime_examples::charset::is_utf8;
 use mime_examples::compress::is_compressible;
 use mime_examples::disposition::read_disposition;
 use mime_examples::html::accepts_html;
@@ -115,6 +116,7 @@ fn show_of_headers(alloc: Global, out: &mut String, word: &str, strings: &[Strin
             out,
             lines_of(alloc, one).and_then(|lines| Accept::from_lines_without_bad(alloc, &lines)),
         ),
+        "first_value" => http::show_first_value(alloc, out, one, two),
         "has_quoted_weight" => show(out, &has_quoted_weight(one.as_bytes())),
         "is_boundary" => show(out, &is_boundary(one.as_bytes())),
         "lacked" => http::show_lacked(alloc, out, one, two, three),
@@ -176,6 +178,7 @@ fn show_of_recipes(rt: &HostRuntime, out: &mut String, word: &str, strings: &[St
         "may_delimit" => show(out, &may_delimit(one.as_bytes(), two.as_bytes())),
         "multipart::parts" => recipes::show_body_parts(alloc, out, one, two),
         "page_in" => show_made(out, page_in(alloc, one)),
+        "is_utf8" => show_read(out, read(alloc, one).map(|mime| is_utf8(&mime))),
         "quality_of" => show_read(out, read(alloc, one).as_ref().map(|mime| quality_of(mime))),
         "read_disposition" => show_names_of(out, read_disposition(alloc, one.as_bytes())),
         "reader_of" => show(out, &reader_of(one)),
