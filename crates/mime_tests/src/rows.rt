@@ -41,7 +41,7 @@ use mime_examples::disposition::read_disposition;
 use mime_examples::html::accepts_html;
 use mime_examples::json::is_json;
 use mime_examples::key::quality_of;
-use mime_examples::multipart::{disposition_of, may_delimit};
+use mime_examples::multipart::{content_of, disposition_of, may_delimit, value_of};
 use mime_examples::plain::is_plain;
 use mime_examples::reader::reader_of;
 use mime_examples::reply::{form_with, page_in};
@@ -162,11 +162,15 @@ fn show_of_recipes(rt: &HostRuntime, out: &mut String, word: &str, strings: &[St
         "count" => recipes::show_counts(rt, out, strings),
         "described" => recipes::show_described(alloc, out, one),
         "disposition_of" => show_names_of(out, disposition_of(alloc, one.as_bytes())),
+        "content_of" => show_option(out, content_of(one.as_bytes()).map(shown)),
         "explained" => show_result(
             out,
             lines_of(alloc, one).and_then(|lines| explained(alloc, &lines)),
         ),
         "file_name" => recipes::show_file_name(alloc, out, one, two),
+        "fields" => recipes::show_fields(alloc, out, one, two.as_bytes()),
+        "form" => recipes::show_form(alloc, out, one, two.as_bytes()),
+        "form in Latin-1" => recipes::show_form(alloc, out, one, &latin_1(alloc, two)),
         "form_with" => show_made(out, form_with(alloc, one)),
         "handler_of" => recipes::show_handler_of(alloc, out, one),
         "has_param" => show_result(out, printed(alloc, one).map(|mime| has_param(&mime, two))),
@@ -174,11 +178,11 @@ fn show_of_recipes(rt: &HostRuntime, out: &mut String, word: &str, strings: &[St
         "in_order" => recipes::show_in_order(alloc, out, strings),
         "is_compressible" => show_read(out, read(alloc, one).map(|mime| is_compressible(&mime))),
         "is_json" => show_read(out, read(alloc, one).map(|mime| is_json(&mime))),
+        "is_utf8" => show_read(out, read(alloc, one).map(|mime| is_utf8(&mime))),
         "is_plain" => show_read(out, read(alloc, one).map(|mime| is_plain(&mime))),
         "may_delimit" => show(out, &may_delimit(one.as_bytes(), two.as_bytes())),
         "multipart::parts" => recipes::show_body_parts(alloc, out, one, two),
         "page_in" => show_made(out, page_in(alloc, one)),
-        "is_utf8" => show_read(out, read(alloc, one).map(|mime| is_utf8(&mime))),
         "quality_of" => show_read(out, read(alloc, one).as_ref().map(|mime| quality_of(mime))),
         "read_disposition" => show_names_of(out, read_disposition(alloc, one.as_bytes())),
         "reader_of" => show(out, &reader_of(one)),
@@ -195,6 +199,7 @@ fn show_of_recipes(rt: &HostRuntime, out: &mut String, word: &str, strings: &[St
         ),
         "type_for" => recipes::show_type_for(alloc, out, one, two),
         "type_of_file" => recipes::show_type_of_file(alloc, out, one),
+        "value_of" => show_option(out, value_of(one.as_bytes(), two).map(shown)),
         "vendor_json" => show_made(out, vendor_json(alloc, one)),
         _ => return false,
     }
