@@ -40,7 +40,7 @@ use mime_examples::compress::is_compressible;
 use mime_examples::disposition::read_disposition;
 use mime_examples::html::accepts_html;
 use mime_examples::json::is_json;
-use mime_examples::key::quality_of;
+use mime_examples::key::weight_text_of;
 use mime_examples::multipart::{content_of, disposition_of, may_delimit, value_of};
 use mime_examples::plain::is_plain;
 use mime_examples::reader::reader_of;
@@ -183,7 +183,6 @@ fn show_of_recipes(rt: &HostRuntime, out: &mut String, word: &str, strings: &[St
         "may_delimit" => show(out, &may_delimit(one.as_bytes(), two.as_bytes())),
         "multipart::parts" => recipes::show_body_parts(alloc, out, one, two),
         "page_in" => show_made(out, page_in(alloc, one)),
-        "quality_of" => show_read(out, read(alloc, one).as_ref().map(|mime| quality_of(mime))),
         "read_disposition" => show_names_of(out, read_disposition(alloc, one.as_bytes())),
         "reader_of" => show(out, &reader_of(one)),
         "reads_alike" => show_result(out, reads_alike(alloc, one)),
@@ -199,6 +198,10 @@ fn show_of_recipes(rt: &HostRuntime, out: &mut String, word: &str, strings: &[St
         ),
         "type_for" => recipes::show_type_for(alloc, out, one, two),
         "type_of_file" => recipes::show_type_of_file(alloc, out, one),
+        "weight_text_of" => show_read(
+            out,
+            read(alloc, one).as_ref().map(|mime| weight_text_of(mime)),
+        ),
         "value_of" => show_option(out, value_of(one.as_bytes(), two).map(shown)),
         "vendor_json" => show_made(out, vendor_json(alloc, one)),
         _ => return false,
