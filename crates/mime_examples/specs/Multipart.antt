@@ -1,9 +1,10 @@
 -- The parts of a multipart body (RFC 2046, 5.1.1). A line ends with a line feed, with or without a carriage return before it. A delimiter
--- is two hyphens and the boundary at the start of a line, and what follows it in its line counts for nothing.
+-- is two hyphens and the boundary at the start of a line, and closes the body with two more hyphens after it. Any other line that goes on
+-- with more than white space isn't a delimiter, since the boundary of a part that is multipart itself may begin with this one.
 use Rattle.std.specs.Prelude.{◌≡◌, ◌≢◌, ◌⊎◌, ◌≤◌, ℕ, ◌-◌, Bool, true, false, List, [], ◌∷◌, ◌++◌, ◌==◌, Option, Some, None, IsTrue, not, codes, length, slice_get}
 use Rattle.std.specs.List.{list_all}
 use Rattle.std.specs.Str.{IsTrimAscii}
-use Rattle.mime.specs.Values.{lowered}
+use Rattle.mime.specs.{Grammar.is_space, Values.lowered}
 
 -- bytes without a line feed
 abbrev pub IsLine : List ℕ → Type 0
@@ -17,15 +18,31 @@ IsEmptyLine line = (line ≡ []) ⊎ (line ≡ codes "\r")
 abbrev pub EndsLine : List ℕ → Type 0
 EndsLine bytes = bytes ≢ [] → slice_get bytes (length bytes - 1) ≡ Some 10
 
--- no line begins with the delimiter
-abbrev pub HasNoDelimiter : List ℕ → List ℕ → Type 0
-HasNoDelimiter delimiter text = (before after : List ℕ) → EndsLine before → text ≢ before ++ (delimiter ++ after)
+-- with these bytes after it, a delimiter closes the body
+abbrev pub Closes : List ℕ → Type 0
+Closes after = (more : List ℕ) × (after ≡ codes "--" ++ more)
 
--- what stands before, and after, the first delimiter that begins a line
+-- with these bytes after it, a delimiter begins a part: white space up to the end of its line, and this text after that
+pub data Opens : List ℕ → List ℕ → Type 0 where
+  feed : (text : List ℕ) → Opens (10 ∷ text) text
+  return_feed : (text : List ℕ) → Opens (13 ∷ 10 ∷ text) text
+  space : (b : ℕ) (after text : List ℕ) → IsTrue (is_space b) → Opens after text → Opens (b ∷ after) text
+
+-- with these bytes after it, a delimiter is one
+abbrev pub EndsDelimiter : List ℕ → Type 0
+EndsDelimiter after = Closes after ⊎ ((text : List ℕ) × Opens after text)
+
+-- no line is a delimiter
+abbrev pub HasNoDelimiter : List ℕ → List ℕ → Type 0
+HasNoDelimiter delimiter text = (before after : List ℕ) → EndsLine before → EndsDelimiter after → text ≢ before ++ (delimiter ++ after)
+
+-- what stands before, and after, the first delimiter
 pub record IsCut (delimiter text before after : List ℕ) : Type 0 where
   pub whole : text ≡ before ++ (delimiter ++ after)
   pub line : EndsLine before
-  pub first : (earlier later : List ℕ) → EndsLine earlier → text ≡ earlier ++ (delimiter ++ later) → length before ≤ length earlier
+  pub ends : EndsDelimiter after
+  pub first : (earlier later : List ℕ) → EndsLine earlier → EndsDelimiter later → text ≡ earlier ++ (delimiter ++ later)
+      → length before ≤ length earlier
 
 -- the part in the bytes before a delimiter: the end of their last line belongs to the delimiter
 pub data IsPart : List ℕ → List ℕ → Type 0 where
@@ -33,25 +50,19 @@ pub data IsPart : List ℕ → List ℕ → Type 0 where
   with_return : (part : List ℕ) → IsPart (part ++ codes "\r\n") part
   without_return : (part : List ℕ) → ((line : List ℕ) → part ≢ line ++ codes "\r") → IsPart (part ++ codes "\n") part
 
--- with these bytes after it, a delimiter closes the body
-abbrev pub Closes : List ℕ → Type 0
-Closes after = (more : List ℕ) × (after ≡ codes "--" ++ more)
-
 -- the part between a delimiter, with these bytes after it, and the next delimiter, and what stands after that
 pub record IsNextPart (delimiter left part after : List ℕ) : Type 0 where
-  pub line : List ℕ
   pub text : List ℕ
   pub before : List ℕ
-  pub is_open : ¬ (Closes left)
-  pub is_line : IsLine line
-  pub whole : left ≡ line ++ (10 ∷ text)
+  pub opens : Opens left text
   pub cut : IsCut delimiter text before after
   pub is_part : IsPart before part
 
--- a delimiter, with these bytes after it, doesn't close the body, and no other one follows
+-- a delimiter, with these bytes after it, begins a part, and no other one follows
 pub record IsCutOff (delimiter left : List ℕ) : Type 0 where
-  pub is_open : ¬ (Closes left)
-  pub alone : IsLine left ⊎ ((line text : List ℕ) × IsLine line × (left ≡ line ++ (10 ∷ text)) × HasNoDelimiter delimiter text)
+  pub text : List ℕ
+  pub opens : Opens left text
+  pub alone : HasNoDelimiter delimiter text
 
 -- the parts after a delimiter, in their order, and whether a delimiter closes the body
 pub data AreParts (delimiter : List ℕ) : List ℕ → List (List ℕ) → Bool → Type 0 where
@@ -81,3 +92,11 @@ pub data IsFirstField (name : List ℕ) : List ℕ → Option (List ℕ) → Typ
       → ¬ (IsEmptyLine line) → IsFirstField name more found → IsFirstField name (line ++ (10 ∷ more)) found
   empty_line : (line more : List ℕ) → IsLine line → IsEmptyLine line → IsFirstField name (line ++ (10 ∷ more)) None
   no_line_end : (line : List ℕ) → IsLine line → IsFirstField name line None
+
+-- the content of a part: what follows its first empty line, if there is one; the end of a last line belongs to the delimiter
+pub data IsContent : List ℕ → Option (List ℕ) → Type 0 where
+  after_empty : (line content : List ℕ) → IsEmptyLine line → IsContent (line ++ (10 ∷ content)) (Some content)
+  after_full : (line more : List ℕ) (found : Option (List ℕ)) → IsLine line → ¬ (IsEmptyLine line) → IsContent more found
+      → IsContent (line ++ (10 ∷ more)) found
+  empty_last : IsContent [] (Some [])
+  full_last : (line : List ℕ) → IsLine line → line ≢ [] → IsContent line None

@@ -22,7 +22,8 @@ pub fn status_of(error: &FieldError) -> u16
 }
 
 /// Returns the status that rejects a request because of its `Content-Type`, or `None` if the media type is `application/json`, whatever its
-/// parameters are. The status is 415 for any other media type (RFC 9110, 15.5.16). [`status_of`] returns the status for an error.
+/// parameters are. The status is 415 for any other media type (RFC 9110, 15.5.16). With 415, send `Accept: application/json`, or
+/// `Accept-Post: application/json` (W3C's Linked Data Platform 1.0, 7.1). [`status_of`] returns the status for an error.
 pub fn refusal(alloc: Global, value: &[u8]) -> Option<u16>
     // Only JSON is accepted.
     ensures taken { result ≡ None

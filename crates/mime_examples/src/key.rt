@@ -18,15 +18,15 @@ impl ParamKey for EitherKey<'_> {
     }
 }
 
-/// Returns the weight written in a media type: the value of the first parameter `q` or `qs`, or `1` if there is none (RFC 9110,
+/// Returns the weight that is written in a media type: the value of the first parameter `q` or `qs`, or `1` if there is none (RFC 9110,
 /// 12.4.2).
-pub fn quality_of(mime: &Mime) -> &str
+pub fn weight_text_of(mime: &Mime) -> &str
     ensures { (found : Option (List ℕ × Bool))
         × IsFirstAccepted (λ name flag. NameIs name flag (codes "q") ⊎ NameIs name flag (codes "qs")) (items_of mime.now.media.pairs) found
         × (result.now ≡ unwrap_or (option_map (λ value. value.0) found) (codes "1")) }
 {
     match mime.get_param(EitherKey("q", "qs")) {
-        Some(quality) => quality.as_str(),
+        Some(weight) => weight.as_str(),
         None => "1",
     }
 }

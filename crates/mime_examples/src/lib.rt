@@ -16,6 +16,7 @@ pub mod document;
 pub mod field_caret;
 pub mod file_name;
 pub mod files;
+pub mod form;
 pub mod handler;
 pub mod header;
 pub mod html;

@@ -4,7 +4,7 @@
 //! [`content_type`] reads the value of a header such as `Content-Type`. [`Accept`] reads the lines of an `Accept` header, weighs a server's
 //! offers, and returns the best offer, or all acceptable offers in order. [`covers`] and [`weight_of`] examine a single range.
 //! [`rank_offers`] and [`lacking`] explain a choice. [`with_parameter`], [`with_charset`] and [`with_boundary`] write parameters.
-//! [`boundary`] and [`unescape`] read them. [`laws`] states facts about all values.
+//! [`first_value`], [`boundary`] and [`unescape`] read them. [`laws`] states facts about all values.
 //!
 //! # Example
 //! A server checks two headers of a request. It accepts a body whose `Content-Type` is ` application/json ;; charset=utf-8`.
@@ -14,7 +14,8 @@
 //! use mime_http::{Accept, FieldError, content_type};
 //! use std::alloc::Global;
 //!
-//! /// Returns the status that rejects a body with this `Content-Type`, or `None` if the body is JSON.
+//! /// Returns the status that rejects a body with this `Content-Type`, or `None` if the body is JSON. Send `Accept: application/json`
+//! /// with 415, so that the client learns what to send (RFC 9110, 15.5.16).
 //! pub fn refusal(alloc: Global, value: &[u8]) -> Option<u16> {
 //!     match content_type(alloc, value) {
 //!         Ok(mime) => (mime.essence_str() != "application/json").then_some(415),
@@ -24,7 +25,8 @@
 //! }
 //!
 //! /// Returns the offer to send for the lines of an `Accept` header, or 406 if no offer is acceptable, or 503 if memory runs out. Send
-//! /// `Vary: Accept` with an offer and with 406: caches need it.
+//! /// `Vary: Accept` with an offer and with 406: caches need it. A client that asks for `application/json; charset=utf-8` gets 406 unless
+//! /// this is an offer, too.
 //! pub fn chosen<'o>(alloc: Global, lines: &[&[u8]], offers: &'o [Mime]) -> Result<&'o Mime, u16> {
 //!     let accept = Accept::from_lines(alloc, lines).map_err(|_| 503_u16)?;
 //!     let best = accept.best(offers).ok_or(406_u16)?;
@@ -63,6 +65,6 @@ pub use crate::list::trimmed;
 pub use crate::multipart::{boundary, is_boundary};
 pub use crate::parameter::{with_boundary, with_charset, with_parameter};
 pub use crate::quoted::unescape;
-pub use crate::range::{covers, weight_of};
+pub use crate::range::{covers, first_value, weight_of};
 pub use crate::ranking::{RankedOffer, first_entry, has_weight, lacking, rank_offers};
 pub use crate::value::{FieldError, content_type};

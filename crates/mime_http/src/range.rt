@@ -9,10 +9,12 @@ use crate::meaning::mean_the_same;
 use crate::weights::{tenths, thousandths};
 use mime::{Mime, Name};
 
-/// Returns the value of the first parameter of this name, or `None` if there is none. `name` must be in lowercase.
+/// Returns the value of the first parameter of this name, as it is written, or `None` if there is none: `utf-8` for `charset` in
+/// `text/html; Charset=UTF-8; charset=x`. Names of parameters are in lowercase, so `name` must be, too. In a contract,
+/// `first_value (codes "charset") mime.now.media.pairs` is this value.
 #[inline(always)]
 #[tactic(auto, using(crate::proofs::Demanded::first_is))]
-pub(crate) fn first_value<'a>(mime: &'a Mime, name: &str) -> Option<Name<'a>>
+pub fn first_value<'a>(mime: &'a Mime, name: &str) -> Option<Name<'a>>
     ensures { option_map name_text result ≡ first_value name.now mime.now.media.pairs }
 {
     mime.get_param(Name {

@@ -3,7 +3,7 @@
 use crate::fields::string_at;
 use crate::values::{read, read_or_not};
 use mime::Mime;
-use mime_http::{Accept, boundary, lacked, lacking, rank_offers, unescape};
+use mime_http::{Accept, boundary, first_value, lacked, lacking, rank_offers, unescape};
 use std::alloc::{AllocError, Global};
 use std::fmt::{Display, Write};
 
@@ -36,6 +36,13 @@ pub(crate) fn show_read<T: Display + Drop>(out: &mut String, answer: Option<T>) 
     match answer {
         Some(answer) => show(out, &answer),
         None => show(out, &"not read"),
+    }
+}
+
+/// Shows the value of the first parameter of a name, or `none`.
+pub(crate) fn show_first_value(alloc: Global, out: &mut String, field: &str, name: &str) {
+    if let Some(mime) = read_or_not(alloc, out, field) {
+        show_option(out, first_value(&mime, name).map(|value| value.text));
     }
 }
 

@@ -1,22 +1,21 @@
 //! The rows about the recipes. A bar is written after each answer.
 
-use crate::constants::ATOMS;
 use crate::fields::string_at;
 use crate::http::{lines_of, offers_of, show, show_option, show_positions, show_result, shown};
 use crate::values::read_or_not;
 use mime::Mime;
 use mime_examples::bare::bare_of;
 use mime_examples::caret::caret_line;
-use mime_examples::compress::is_compressible;
 use mime_examples::counts::{count, no_counts, sorted};
 use mime_examples::disposition::Disposition;
 use mime_examples::document::received;
 use mime_examples::field_caret::caret_below;
 use mime_examples::file_name::{file_name, with_file_name, written_and_read};
 use mime_examples::files::type_of_file;
+use mime_examples::form::fields;
 use mime_examples::handler::handler_of;
 use mime_examples::header::header_text;
-use mime_examples::multipart::parts;
+use mime_examples::multipart::{content_of, disposition_of, parts, value_of};
 use mime_examples::negotiate::chosen;
 use mime_examples::order::in_order;
 use mime_examples::parts::described;
@@ -71,8 +70,8 @@ pub(crate) fn show_counts(rt: &HostRuntime, out: &mut String, strings: &[String]
     let (Ok(mut counts), Ok(offers)) = (no_counts(rt), offers_of(rt.alloc(), strings)) else {
         return;
     };
-    for mime in offers {
-        let _ = count(&mut counts, mime);
+    for mime in &offers {
+        let _ = count(rt.alloc(), &mut counts, mime);
     }
     if let Some(mime) = read_or_not(rt.alloc(), out, string_at(strings, 0)) {
         show(out, counts.get(&mime).unwrap_or(&0));
@@ -124,15 +123,6 @@ pub(crate) fn show_type_for(alloc: Global, out: &mut String, name: &str, lines: 
     }
 }
 
-/// Shows the constants for which `is_compressible` returns `false`.
-pub(crate) fn show_is_compressible(out: &mut String) {
-    for (name, atom) in ATOMS {
-        if !is_compressible(*atom) {
-            show(out, name);
-        }
-    }
-}
-
 /// Shows a media type with a file's name, and the names that `file_name` and `written_and_read` return.
 pub(crate) fn show_file_name(alloc: Global, out: &mut String, field: &str, name: &str) {
     let Some(mime) = read_or_not(alloc, out, field) else {
@@ -150,15 +140,48 @@ pub(crate) fn show_file_name(alloc: Global, out: &mut String, field: &str, name:
     }
 }
 
+/// Shows the names of a field and of its file.
+fn show_names(out: &mut String, names: &Disposition) {
+    show(out, &shown(&names.name));
+    show_option(out, names.file_name.as_ref().map(|name| shown(name)));
+}
+
 /// Shows the names of a field and of its file, `none`, or the error.
 pub(crate) fn show_names_of(out: &mut String, answer: Result<Option<Disposition>, AllocError>) {
     match answer {
-        Ok(Some(found)) => {
-            show(out, &shown(&found.name));
-            show_option(out, found.file_name.as_ref().map(|name| shown(name)));
-        }
+        Ok(Some(found)) => show_names(out, &found),
         Ok(None) => show(out, &"none"),
         Err(error) => show(out, &error),
+    }
+}
+
+/// Shows the names, the media type and the content of each part of a body, and whether the body is whole.
+pub(crate) fn show_form(alloc: Global, out: &mut String, field: &str, body: &[u8]) {
+    let Some(mime) = read_or_not(alloc, out, field) else {
+        return;
+    };
+    let Ok(Some(found)) = parts(alloc, &mime, body) else {
+        return show(out, &"none");
+    };
+    for part in &found.parts {
+        show_names_of(out, disposition_of(alloc, part));
+        show_option(out, value_of(part, "content-type").map(shown));
+        show_option(out, content_of(part).map(shown));
+    }
+    show(out, if found.is_whole { &"whole" } else { &"cut off" });
+}
+
+/// Shows the fields of a form, or the status of the reply.
+pub(crate) fn show_fields(alloc: Global, out: &mut String, value: &str, body: &[u8]) {
+    match fields(alloc, value.as_bytes(), body) {
+        Ok(fields) => {
+            for field in &fields {
+                show_names(out, &field.names);
+                show_option(out, field.content_type.map(shown));
+                show(out, &shown(field.content));
+            }
+        }
+        Err(status) => show(out, &status),
     }
 }
 

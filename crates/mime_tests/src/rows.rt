@@ -35,11 +35,13 @@ use mime_examples::accepted::explained;
 use mime_examples::answer::{refusal, refusal_of_body, status_of};
 use mime_examples::build::vendor_json;
 use mime_examples::callers::{has_param, has_suffix, printed, reads_alike};
+use mime_examples::charset::is_utf8;
+use mime_examples::compress::is_compressible;
 use mime_examples::disposition::read_disposition;
 use mime_examples::html::accepts_html;
 use mime_examples::json::is_json;
-use mime_examples::key::quality_of;
-use mime_examples::multipart::{disposition_of, may_delimit};
+use mime_examples::key::weight_text_of;
+use mime_examples::multipart::{content_of, disposition_of, may_delimit, value_of};
 use mime_examples::plain::is_plain;
 use mime_examples::reader::reader_of;
 use mime_examples::reply::{form_with, page_in};
@@ -114,6 +116,7 @@ fn show_of_headers(alloc: Global, out: &mut String, word: &str, strings: &[Strin
             out,
             lines_of(alloc, one).and_then(|lines| Accept::from_lines_without_bad(alloc, &lines)),
         ),
+        "first_value" => http::show_first_value(alloc, out, one, two),
         "has_quoted_weight" => show(out, &has_quoted_weight(one.as_bytes())),
         "is_boundary" => show(out, &is_boundary(one.as_bytes())),
         "lacked" => http::show_lacked(alloc, out, one, two, three),
@@ -159,23 +162,27 @@ fn show_of_recipes(rt: &HostRuntime, out: &mut String, word: &str, strings: &[St
         "count" => recipes::show_counts(rt, out, strings),
         "described" => recipes::show_described(alloc, out, one),
         "disposition_of" => show_names_of(out, disposition_of(alloc, one.as_bytes())),
+        "content_of" => show_option(out, content_of(one.as_bytes()).map(shown)),
         "explained" => show_result(
             out,
             lines_of(alloc, one).and_then(|lines| explained(alloc, &lines)),
         ),
         "file_name" => recipes::show_file_name(alloc, out, one, two),
+        "fields" => recipes::show_fields(alloc, out, one, two.as_bytes()),
+        "form" => recipes::show_form(alloc, out, one, two.as_bytes()),
+        "form in Latin-1" => recipes::show_form(alloc, out, one, &latin_1(alloc, two)),
         "form_with" => show_made(out, form_with(alloc, one)),
         "handler_of" => recipes::show_handler_of(alloc, out, one),
         "has_param" => show_result(out, printed(alloc, one).map(|mime| has_param(&mime, two))),
         "has_suffix" => show_result(out, has_suffix(alloc, one)),
         "in_order" => recipes::show_in_order(alloc, out, strings),
-        "is_compressible" => recipes::show_is_compressible(out),
+        "is_compressible" => show_read(out, read(alloc, one).map(|mime| is_compressible(&mime))),
         "is_json" => show_read(out, read(alloc, one).map(|mime| is_json(&mime))),
+        "is_utf8" => show_read(out, read(alloc, one).map(|mime| is_utf8(&mime))),
         "is_plain" => show_read(out, read(alloc, one).map(|mime| is_plain(&mime))),
         "may_delimit" => show(out, &may_delimit(one.as_bytes(), two.as_bytes())),
         "multipart::parts" => recipes::show_body_parts(alloc, out, one, two),
         "page_in" => show_made(out, page_in(alloc, one)),
-        "quality_of" => show_read(out, read(alloc, one).as_ref().map(|mime| quality_of(mime))),
         "read_disposition" => show_names_of(out, read_disposition(alloc, one.as_bytes())),
         "reader_of" => show(out, &reader_of(one)),
         "reads_alike" => show_result(out, reads_alike(alloc, one)),
@@ -191,6 +198,11 @@ fn show_of_recipes(rt: &HostRuntime, out: &mut String, word: &str, strings: &[St
         ),
         "type_for" => recipes::show_type_for(alloc, out, one, two),
         "type_of_file" => recipes::show_type_of_file(alloc, out, one),
+        "weight_text_of" => show_read(
+            out,
+            read(alloc, one).as_ref().map(|mime| weight_text_of(mime)),
+        ),
+        "value_of" => show_option(out, value_of(one.as_bytes(), two).map(shown)),
         "vendor_json" => show_made(out, vendor_json(alloc, one)),
         _ => return false,
     }

@@ -11,18 +11,19 @@ returns-in-Some-clause-cut c =
     let at = c.loop-at.at in
     let delimiter = c.args.delimiter.now in
     record {
-      whole = divided body at (delimiter ++ c.in-Some.after.now) c.in-Some.ensures.1;
+      whole = divided body at (delimiter ++ c.in-Some.after.now) c.in-Some.ensures.2;
       line = c.in-Some.ensures.0;
-      first = λ earlier later ends is.
+      ends = c.in-Some.ensures.1;
+      first = λ earlier later line ends is.
           let long : length (take at body) ≤ at = omega (arith, length-take-le at body (omega arith)) in
           ⊎_elim (λ less. absurd (c.loop-at.invariant (length earlier) later less
-          (subst EndsLine (sym (taken earlier (delimiter ++ later) is)) ends) (dropped earlier (delimiter ++ later) is)))
+          (subst EndsLine (sym (taken earlier (delimiter ++ later) is)) line) ends (dropped earlier (delimiter ++ later) is)))
           (λ more. omega (arith, more, long)) (cases_lt (length earlier) at);
     }
 
 pub returns-clause-none : goal.returns-clause-none
-returns-clause-none c = λ _ some before after ends is.
+returns-clause-none c = λ _ some before after line ends is.
     let delimiter = c.args.delimiter.now in
     let inside = begins_inside c.args.body.now before delimiter after some is in
     c.loop-at.invariant (length before) after (omega (arith, inside))
-    (subst EndsLine (sym (taken before (delimiter ++ after) is)) ends) (dropped before (delimiter ++ after) is)
+    (subst EndsLine (sym (taken before (delimiter ++ after) is)) line) ends (dropped before (delimiter ++ after) is)
