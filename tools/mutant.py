@@ -9,7 +9,7 @@ from glob import glob
 from commands import TOP, below, run_ok, text_of, write
 
 # The crate of the program of rows, and what tells that a row no longer prints a line.
-ROWS, MISSING = "mime_tests", "not printed: "
+ROWS, MISSING, FACTS = "mime_tests", "not printed: ", "mime_facts"
 # The words that begin a mutant's lines.
 WORDS = ("file", "old", "new", "mutant", "why", "killed by", "survives", "prints", "proves", "apart")
 KILLER = re.compile(r"(clause) (\S+) of (\w+)(::\S+)|(fact|test) (\S+) of (\w+)|(row|tool) (.+)")
@@ -89,6 +89,7 @@ class Mutant:
 
     def rests_on(self):
         crates = [f"crates/{crate}" for crate in below(self.crate)] if self.kind != "tool" else ["."]
+        crates += [f"crates/{FACTS}"] if self.kind == "fact" else []
         more = str([self.texts, self.killer, self.prints, self.survives])
         return ["crates.txt", "HANDLES", "tools/mutation_test", "tools/mutant.py", "tools/commands.py", *crates], more
 
