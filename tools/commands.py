@@ -150,8 +150,8 @@ def kit():
 @functools.lru_cache(None)
 def checksum(*paths):
     """A checksum of the kit, of what the tools share, and of these files and folders, as far as git doesn't ignore them."""
-    found = hashlib.sha256(kit().encode())
-    for path in sorted(run_ok("git", "ls-files", "-coz", "--exclude-standard", "--", "tools/*.py", *paths).split("\0")[:-1]):
+    found, paths = hashlib.sha256(kit().encode()), ["tools/*.py", *paths]
+    for path in sorted(run_ok("git", "ls-files", "-coz", "--exclude-standard", "--", *paths).split("\0")[:-1]):
         content = hashlib.sha256(Path(TOP, path).read_bytes()).hexdigest()
         found.update(f"{content} {os.access(f'{TOP}/{path}', os.X_OK)} {path}\n".encode())
     return found.hexdigest()
