@@ -1,9 +1,16 @@
--- What a range demands of an offer, and its weight: item by item, and by a kept text that ends in a weight of one decimal. What covers an
+-- What a range demands of an offer, and its weight: item by item, and by a kept text that ends in a weight alone. What covers an
 -- offer is told by what both mean.
 use Rattle.std.proofs.Common.{rules}
-use Rattle.mime_http.proofs.Common.{IsFirstAccepted, Item, List, MediaType, None, Option, Some, [], arith, bytes_eq, bytes_eq-Decides, list_any, name_seen, name_text, refl, sym, true, unescaped, ◌&&◌, ◌++◌, ◌∙◌, codes, demanded, first_value, has, if◌then◌else◌, items_of, length, list_all, option_map, option_or, thousandths_of, unwrap_or, ℕ, ◌+◌, ◌∷◌, ◌≡◌, AreSpaces, HasBytesAt, Reads, SyntaxTree, ap, ap₂, drop, drop-append_seam, essence_of, final, is_ascii_digit, is_token_byte, length-append, listed, one_reading, plain, read_number, text_from_reads, text_of_tail, value_of, ◌*◌, ◌-◌, Bool, CoversItself, MeaningCounts, and_from, map, meaning_of, not, list_all-from_AllPass, get_or, All-filter, list_any_at, list_all-map, length-map}
+use Rattle.mime_http.proofs.Common.{IsFirstAccepted, Item, List, MediaType, None, Option, Some, [], arith, bytes_eq, bytes_eq-Decides}
+use Rattle.mime_http.proofs.Common.{list_any, name_seen, name_text, refl, sym, true, unescaped, ◌&&◌, ◌++◌, ◌∙◌, codes, demanded}
+use Rattle.mime_http.proofs.Common.{first_value, has, if◌then◌else◌, items_of, length, list_all, option_map, option_or, thousandths_of}
+use Rattle.mime_http.proofs.Common.{unwrap_or, ℕ, ◌+◌, ◌∷◌, ◌≡◌, AreSpaces, Reads, SyntaxTree, ap, ap₂, drop, drop-append_seam, essence_of}
+use Rattle.mime_http.proofs.Common.{final, is_token_byte, listed, list_all-wider, nat_tests, one_reading, plain, is_ascii_digit, subst}
+use Rattle.mime_http.proofs.Common.{worth, text_of_tail, value_of, Bool, IsToken, ◌≢◌, CoversItself, MeaningCounts, and_from, map}
+use Rattle.mime_http.proofs.Common.{meaning_of, not, list_all-from_AllPass, get_or, All-filter, list_any_at, list_all-map, length-map}
 use Rattle.mime.{specs.declared.name.Name.Name, proofs.HandedOut.text_of-essence}
-use Rattle.mime_http.proofs.{Numbers.read_is, Written.lengths}
+use Rattle.mime_http.{specs.Digits.IsLoneWeight, specs.Digits.is_digit_or_dot, proofs.Written.lengths}
+use Rattle.mime_http.proofs.Numbers.{read_is}
 
 -- This is the count of parameters and the weight that were found.
 abbrev pub found_of : ℕ → Option (List ℕ) → Option (ℕ × ℕ)
@@ -49,40 +56,49 @@ pub first_is : (name : List ℕ) (found : Option Name) (pairs : List (List ℕ �
 first_is name found [] is = grind (arith, is)
 first_is name found (pair ∷ pairs) is = grind (arith, bytes_eq-Decides pair.0 name, is.0, is.1, first_is name found pairs)
 
--- ---- a weight of one decimal, right after the essence
+-- ---- a weight alone, right after the essence
+
+-- A number is a token.
+pub number_is_token : (text : List ℕ) → text ≢ [] → list_all is_digit_or_dot text ≡ true → IsToken text
+unfolding is_token_byte
+number_is_token [] some all = absurd (some refl)
+number_is_token (b ∷ bytes) some all =
+    list_all-wider is_digit_or_dot is_token_byte (λ b is. grind (arith, nat_tests, is)) (b ∷ bytes) all
+
+-- A weight of decimals after `0.` is a token, and means what they are worth.
+pub decimals_are : (text decimals : List ℕ) (weight : ℕ) → text ≡ 48 ∷ 46 ∷ decimals → list_all is_ascii_digit decimals ≡ true
+    → weight ≡ worth 100 decimals → IsToken text × (weight ≡ thousandths_of text)
+decimals_are text decimals weight is digits worth_is =
+    let all = list_all-wider is_ascii_digit is_digit_or_dot (λ b digit. rw digit refl) decimals digits in
+    subst (λ text. IsToken text × (weight ≡ thousandths_of text)) (sym is)
+    (number_is_token (48 ∷ 46 ∷ decimals) (λ none. absurd cc) all, worth_is ∙ read_is (48 ∷ 46 ∷ decimals))
 
 -- The tree with the weight in place of the parameters is well formed, too. So the weight is the only parameter, since a text is read in
 -- one way.
-pub weight_alone : (media : MediaType) (rest n : List ℕ) (d : ℕ) → Reads media.kept media
-    → rest ≡ drop (length media.essence) media.kept
-    → rest ≡ 59 ∷ (n ++ (113 ∷ 61 ∷ 48 ∷ 46 ∷ d ∷ [])) → AreSpaces n → is_ascii_digit d ≡ true
-    → media.pairs ≡ (113 ∷ [], 48 ∷ 46 ∷ d ∷ []) ∷ []
+weight_alone : (media : MediaType) (n weight : List ℕ) → Reads media.kept media → AreSpaces n → IsToken weight
+    → drop (length media.essence) media.kept ≡ codes ";" ++ (n ++ (codes "q=" ++ weight))
+    → media.pairs ≡ (codes "q", weight) ∷ []
 unfolding is_token_byte
-weight_alone media rest n d reads after is spaces digit =
+weight_alone media n weight reads spaces token is =
     let tree = reads.tree in
-    let other : SyntaxTree = record tree { tail = listed (final n (plain (113 ∷ []) (48 ∷ 46 ∷ d ∷ []))) } in
+    let other : SyntaxTree = record tree { tail = listed (final n (plain (codes "q") weight)) } in
     let kept : media.kept ≡ essence_of tree ++ text_of_tail tree.tail = sym reads.spelled ∙ text_of-essence tree in
     let long : length media.essence ≡ length (essence_of tree) =
     ap (λ value. length value.essence) (sym reads.valued) ∙ simp lengths in
-    let tail = sym (ap₂ drop long kept ∙ drop-append_seam (essence_of tree) (text_of_tail tree.tail)) ∙ (sym after ∙ is) in
+    let tail = sym (ap₂ drop long kept ∙ drop-append_seam (essence_of tree) (text_of_tail tree.tail)) ∙ is in
     let again : Reads media.kept (value_of other) = record {
       tree = other;
-      well_formed = (reads.well_formed.0, reads.well_formed.1, (spaces, (refl, rw digit refl)));
+      well_formed = (reads.well_formed.0, reads.well_formed.1, (spaces, (refl, token)));
       spelled = text_of-essence other ∙ (ap (λ t. essence_of tree ++ t) (sym tail) ∙ sym kept);
       valued = refl;
     } in
     ap (λ value. value.pairs) (one_reading media.kept media (value_of other) reads again)
 
--- A range demands nothing else, and weighs these tenths, if the weight is written after this white space.
-pub weight_of_one_decimal : (n : List ℕ) (d weight : ℕ) (offer media : MediaType) (rest : List ℕ) → AreSpaces n
-    → Reads media.kept media → rest ≡ drop (length media.essence) media.kept → length rest ≡ 6 + length n
-    → HasBytesAt rest 0 (59 ∷ (n ++ (113 ∷ 61 ∷ 48 ∷ 46 ∷ d ∷ []))) → is_ascii_digit d ≡ true
-    → weight ≡ 100 * (d - 48) → Some (0, weight) ≡ found_in offer media.pairs
-weight_of_one_decimal n d weight offer media rest spaces reads after long bytes digit tenths =
-    let whole = text_from_reads rest _ (omega (arith, long, length-append n (113 ∷ 61 ∷ 48 ∷ 46 ∷ d ∷ []))) bytes in
-    let read : weight ≡ read_number (48 ∷ 46 ∷ d ∷ []) = rw digit (omega (arith, tenths)) in
-    rw (weight_alone media rest n d reads after whole spaces digit)
-    (ap (λ weight. Some (0, weight)) (read ∙ read_is (48 ∷ 46 ∷ d ∷ [])))
+-- So a range demands nothing else.
+pub demands_no_more : (offer media : MediaType) (parameters : List ℕ) (weight : ℕ) → Reads media.kept media
+    → parameters ≡ drop (length media.essence) media.kept → IsLoneWeight parameters weight → Some (0, weight) ≡ found_in offer media.pairs
+demands_no_more offer media parameters weight reads after (text, (n, spaces, spelled), token, meant) =
+    rw (weight_alone media n text reads spaces token (sym after ∙ spelled)) (ap (λ weight. Some (0, weight)) meant)
 
 -- ---- a media type covers itself
 

@@ -6,7 +6,7 @@ ghost use Rattle.mime.specs.{Items.name_text, Values.Reads};
 ghost use Rattle.mime_http.specs.{Ranges.first_value, Ranges.weight_of, Ranges.named_parts, Ranges.demanded, Ranges.has, Ranges.closeness};
 
 use crate::meaning::mean_the_same;
-use crate::weights::{tenths, thousandths};
+use crate::weights::{lone_weight, thousandths};
 use mime::{Mime, Name};
 
 /// Returns the value of the first parameter of this name, as it is written, or `None` if there is none: `utf-8` for `charset` in
@@ -29,7 +29,7 @@ pub fn first_value<'a>(mime: &'a Mime, name: &str) -> Option<Name<'a>>
 pub fn weight_of(range: &Mime) -> u16
     ensures { result ≡ weight_of range.now.media }
 {
-    first_value(range, "q").map_or(1000, |weight| thousandths(weight.text))
+    first_value(range, "q").map_or(1000, |weight| thousandths(weight.text.as_bytes()))
 }
 
 /// Returns `true` if a range is `*/*`, whatever its parameters. This function isn't inlined, so that the text of a range of another length
@@ -112,7 +112,7 @@ fn demanded_among(range: &Mime, offer: &Mime) -> Option<(usize, u16)>
     let mut weight = None;
     for (name, value) in range.params() {
         if name.text == "q" {
-            weight = weight.or(Some(value.text));
+            weight = weight.or(Some(value.text.as_bytes()));
         } else if has(offer, name.text, value.text) {
             count += 1;
         } else {
@@ -141,11 +141,9 @@ pub(crate) fn demanded(range: &Mime, offer: &Mime) -> Option<(usize, u16)>
     if param_count(range) == 0 {
         return Some((0, 1000));
     }
-    // Most weights are written in one of these ways, as the only parameter.
-    match after_essence(range) {
-        [b';', b'q', b'=', b'0', b'.', digit @ b'0'..=b'9'] => Some((0, tenths(*digit))),
-        [b';', b' ', b'q', b'=', b'0', b'.', digit @ b'0'..=b'9'] => Some((0, tenths(*digit))),
-        _ => demanded_among(range, offer),
+    match lone_weight(after_essence(range)) {
+        Some(weight) => Some((0, weight)),
+        None => demanded_among(range, offer),
     }
 }
 

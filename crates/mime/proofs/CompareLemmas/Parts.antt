@@ -121,9 +121,12 @@ text_is-lone_charset kept text value reads some is lone =
 
 -- ---- a lone charset
 
--- The only pair of a list that begins with ` charset=` is a charset.
+-- The only pair of a list that begins with ` charset=` or `charset=` is a charset.
 pub lone_charset : (list : List ℕ) → take 9 list ≡ codes " charset=" → IsLoneCharset (pairs_within 1 list)
 lone_charset list is = search (take-append-drop, cut_of-name, rules)
+
+pub lone_charset-bare : (list : List ℕ) → take 8 list ≡ codes "charset=" → IsLoneCharset (pairs_within 1 list)
+lone_charset-bare list is = search (take-append-drop, cut_of-name, rules)
 
 -- ---- a text against a value without pairs
 

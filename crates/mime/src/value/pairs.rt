@@ -325,12 +325,13 @@ impl<'a> Pairs<'a> {
         }
     }
 
-    /// Returns `true` if only one pair is left, and the list begins with ` charset=`.
+    /// Returns `true` if only one pair is left, and the list begins with ` charset=` or `charset=`.
     #[inline(always)]
     pub(crate) fn is_lone_charset(&self) -> bool
         ensures { IsTrue result → IsLoneCharset self.now }
     {
-        self.left == 1 && self.list.text().as_bytes().starts_with(b" charset=")
+        let list = self.list.text().as_bytes();
+        self.left == 1 && (list.starts_with(b" charset=") || list.starts_with(b"charset="))
     }
 
     /// Returns the value of the first pair whose name a key accepts, or `None` if the key accepts no name. If the key

@@ -3,4 +3,4 @@ use Rattle.std.proofs.lemmas.Str.{IsUtf8-from_ascii}
 use Rattle.mime_search.proofs.text.text_of.Goals as goal
 
 pub from_utf8_unchecked-requires : goal.from_utf8_unchecked-requires
-from_utf8_unchecked-requires c = IsUtf8-from_ascii c.args.bytes.now c.if-is_ascii.ensures.cases
+from_utf8_unchecked-requires c = IsUtf8-from_ascii c.args.bytes.now (c.is_ascii.ensures c.if-is_ascii.true)
