@@ -7,7 +7,7 @@ use Rattle.mime_http.proofs.Common.{prefix_len, refl, same_Some, slice_get, suc,
 use Rattle.mime_http.proofs.Common.{length-map, list_all, list_any}
 use Rattle.std.specs.List.{slice_split}
 use Prim.Native.String.{String}
-use Rattle.mime_http.{specs.Ranking.IsRanking, specs.Ranking.is_lacking, specs.Ranking.is_qvalue, specs.Ranking.ranked_as}
+use Rattle.mime_http.{specs.Ranking.IsRanking, specs.Ranking.is_qvalue, specs.Ranking.ranked_as}
 use Rattle.mime_http.{specs.Ranges.ComesBefore, specs.Ranges.merit_at, specs.declared.ranking.RankedOffer.RankedOffer}
 use Rattle.mime_http.{proofs.Order.best_is_acceptable, proofs.Order.best_is_first, proofs.Order.best_is_ranked_first}
 use Rattle.mime_http.{proofs.Order.one_ranking, proofs.Order.weighs_within, proofs.Demanded.covers_itself, proofs.Demanded.meaning_counts}
@@ -136,12 +136,6 @@ qvalues : (list_all is_qvalue (codes "0" ∷ codes "0." ∷ codes "0.125" ∷ co
     × (list_any is_qvalue (codes "0.1250" ∷ codes "1.5" ∷ codes "2" ∷ codes ".5" ∷ codes "-1" ∷ codes "high" ∷ []
     ∷ codes "0x5" ∷ codes "0.x" ∷ []) ≡ false)
 qvalues = (refl, refl)
-
--- An offer lacks a parameter of a range of its essence alone, and only one that it doesn't have.
-lacks : (is_lacking (media "application/json") (media "application/json;charset=utf-8") ≡ true)
-    × (is_lacking (media "a/b;p=x") (media "a/b;p=y") ≡ true) × (is_lacking (media "a/b;p=x") (media "a/b;p=x") ≡ false)
-    × (is_lacking (media "a/c") (media "a/b;p=x") ≡ false)
-lacks = (refl, refl, refl, refl)
 
 -- A rank says that the range that decides is the second of two, or that there is none.
 said : (ranked_as 2 (500, 2, 0, 1) 3 ≡ record { offer = 3; weight = 500; range = Some 1 })

@@ -1,4 +1,2 @@
 mod Common
-mod HeaderFacts
-mod ReportFacts
 mod Words

@@ -1,35 +1,64 @@
--- The heads of an input, and the values of a field there (RFC 9110, 5.5, 5.6.2 and 5.6.3; RFC 9112, 2 to 5).
-use Rattle.std.specs.Prelude.{ℕ, ◌-◌, Bool, true, false, List, [], ◌∷◌, ◌++◌, ◌==◌, ◌||◌, ◌&&◌, not, nat_lt, map, filter, take, drop, length, if◌then◌else◌, codes, slice_get, unwrap_or}
-use Rattle.std.specs.{Char.is_ascii_digit, List.list_all, List.list_any, List.slice_index, List.before_first, List.after_first, Str.bytes_eq, Str.str_eq_ignore_ascii_case, Str.Lines.strip_carriage_return}
+-- The heads of an input, and the two fields there (RFC 9110, 5.5, 5.6.2 and 5.6.3; RFC 9112, 2 to 5). docs/RULES.md says the same in words.
+use Rattle.std.specs.Prelude.{ℕ, ◌+◌, ◌-◌, Bool, true, false, List, [], ◌∷◌, ◌++◌, ◌==◌, ◌||◌, ◌&&◌, not, nat_lt, map, filter, take, drop, length}
+use Rattle.std.specs.Prelude.{Option, Some, None, option_and_then, option_map, is_none, is_some, unwrap_or, if◌then◌else◌, codes}
+use Rattle.std.specs.{Char.is_ascii_alphanumeric, Char.is_ascii_digit, List.list_all, List.list_any, List.cons_option, List.filter_map, List.prefix_len, List.suffix_len, List.slice_get, List.slice_index}
+use Rattle.std.specs.{List.before_first, List.after_first, Option.option_or, Str.bytes_eq}
 use Rattle.mime.specs.{Bytes.is_token_byte, Grammar.is_space}
-use Rattle.mime_http.specs.HttpList.{trim_start, trimmed}
+use Rattle.mime_http.specs.{HttpList.trim_start, HttpList.trimmed, Lacks.begins}
 use Rattle.mime_io.specs.Lines.{lines_of}
-
--- whether a line begins with a label, ignoring ASCII case
-abbrev pub begins : List ℕ → List ℕ → Bool
-begins label line = str_eq_ignore_ascii_case (take (length label) line) label
+use Rattle.mime_headers.specs.declared.{field.Name.Name, start.Kind.Kind}
+use Rattle.mime_headers.specs.declared.field.Name.TheVariants.{ContentType, Accept}
 
 -- ---- lines
 
--- what begins with the first `<` or `>` of a line, or all of it if it has neither
-abbrev pub from_angle : List ℕ → List ℕ
-from_angle line = let at = length (before_first (λ b. b == 60 || b == 62) line) in if at == length line then line else drop at line
+-- the number of bytes of the escape that bytes begin with, by which a terminal prints colours: `ESC [`, digits and semicolons, and `m` or `K`;
+-- 0 if there is none
+abbrev pub escape_len : List ℕ → ℕ
+escape_len bytes = let len = 2 + prefix_len (λ b. is_ascii_digit b || b == 59) (drop 2 bytes) in
+    if bytes_eq (take 2 bytes) (27 ∷ 91 ∷ []) && (slice_index bytes len == 109 || slice_index bytes len == 75) then len + 1 else 0
 
--- A line without one carriage return at its end. If it then begins with one, it stands behind a progress meter of curl, which is left out.
+-- the bytes after the first `passed`, without escapes
+abbrev pub plain_after : ℕ → List ℕ → List ℕ
+plain_after passed [] = []
+plain_after passed (b ∷ bytes) = if not (passed == 0) then plain_after (passed - 1) bytes else
+    let len = escape_len (b ∷ bytes) in if len == 0 then b ∷ plain_after 0 bytes else plain_after (len - 1) bytes
+
+abbrev pub without_escapes : List ℕ → List ℕ
+without_escapes bytes = plain_after 0 bytes
+
+-- a line without the carriage returns at its end
 abbrev pub bare : List ℕ → List ℕ
-bare line = let line = strip_carriage_return line in if begins (13 ∷ []) line then from_angle line else line
+bare line = take (length line - suffix_len (λ b. b == 13) line) line
 
 -- the lines of an input without a byte order mark, each bare; of an input that is cut off, without the last line
 abbrev pub bare_lines : Bool → List ℕ → List (List ℕ)
 bare_lines cut bytes = let lines = map bare (lines_of (if bytes_eq (take 3 bytes) (239 ∷ 187 ∷ 191 ∷ []) then drop 3 bytes else bytes)) in
     if cut then take (length lines - 1) lines else lines
 
--- what follows a line's mark, which is the white space at its start, and `> ` or `< ` after it, if that follows
-abbrev pub text_of : List ℕ → List ℕ
-text_of line = let rest = trim_start line in if begins (codes "> ") rest || begins (codes "< ") rest then drop 2 rest else rest
+-- the sign of a line, which is its first `<` or `>` before a space or at its end, and its signed text, which follows the sign and that space
+abbrev pub signed : List ℕ → Option (List ℕ × List ℕ)
+signed [] = None
+signed (b ∷ line) = if (b == 60 || b == 62) && (length line == 0 || slice_index line 0 == 32) then Some (b ∷ [], drop 1 line) else signed line
 
-abbrev pub mark_of : List ℕ → List ℕ
-mark_of line = take (length line - length (text_of line)) line
+-- the white space at a line's start
+abbrev pub indent_of : List ℕ → List ℕ
+indent_of line = take (length line - length (trim_start line)) line
+
+-- A mark is a sign or an indentation. The text of a line with a mark follows it; other lines have none.
+abbrev pub is_sign : List ℕ → Bool
+is_sign mark = let b = slice_index mark 0 in b == 60 || b == 62
+
+abbrev pub text_with : List ℕ → List ℕ → Option (List ℕ)
+text_with mark line =
+    if is_sign mark then option_and_then (λ it. if bytes_eq it.0 mark then Some it.1 else None) (signed line) else
+    if begins mark line then Some (drop (length mark) line) else None
+
+-- the mark after which a line has a wanted text: its indentation or, if a wanted text doesn't follow that, its sign; `needs_sign` says that an
+-- indentation isn't enough
+abbrev pub mark_before : (List ℕ → Bool) → Bool → List ℕ → Option (List ℕ)
+mark_before is_wanted needs_sign line =
+    if is_wanted (trim_start line) then (if needs_sign then None else Some (indent_of line)) else
+    option_and_then (λ it. if is_wanted it.1 then Some it.0 else None) (signed line)
 
 -- ---- start lines
 
@@ -40,10 +69,6 @@ word text = before_first (λ b. b == 32) text
 abbrev pub other_words : List ℕ → List ℕ
 other_words text = after_first (λ b. b == 32) text
 
--- token = 1*tchar (RFC 9110, 5.6.2)
-abbrev pub is_token : List ℕ → Bool
-is_token bytes = not (length bytes == 0) && list_all is_token_byte bytes
-
 -- HTTP-version, in which case counts (RFC 9112, 2.3), or with one digit, as curl prints it: `HTTP/1.1`, `HTTP/2`
 unfoldable pub is_version : List ℕ → Bool
 is_version bytes = bytes_eq (take 5 bytes) (codes "HTTP/") && (is_ascii_digit (slice_index bytes 5)
@@ -53,70 +78,182 @@ is_version bytes = bytes_eq (take 5 bytes) (codes "HTTP/") && (is_ascii_digit (s
 abbrev pub is_status_line : List ℕ → Bool
 is_status_line text = let code = word (other_words text) in is_version (word text) && (length code == 3 && list_all is_ascii_digit code)
 
--- whether a status line is that of an interim response, whose code begins with 1, and after which another response follows (RFC 9110, 15.2)
-abbrev pub is_interim : List ℕ → Bool
-is_interim text = slice_index (other_words text) 0 == 49
+-- whether bytes have a colon before `//`, or one that only digits follow
+abbrev pub has_authority : List ℕ → Bool
+has_authority [] = false
+has_authority (b ∷ bytes) =
+    (b == 58 && (begins (codes "//") bytes || (not (length bytes == 0) && list_all is_ascii_digit bytes))) || has_authority bytes
 
--- a status line, or request-line = method SP request-target SP HTTP-version (RFC 9112, 3)
-unfoldable pub is_start : List ℕ → Bool
-is_start text = let rest = other_words text in
-    is_status_line text || (is_version (other_words rest) && (is_token (word text) && not (length (word rest) == 0)))
+-- request-target, by its form: origin, asterisk, or absolute and authority, in which something is before the colon (RFC 9112, 3.2)
+abbrev pub is_target : List ℕ → Bool
+is_target target = begins (codes "/") target || (bytes_eq target (codes "*") || has_authority (drop 1 target))
 
--- whether a text begins with a field's name and a colon (RFC 9112, 5)
-abbrev pub is_field : List ℕ → Bool
-is_field text = let name = before_first (λ b. b == 58) text in is_token name && nat_lt (length name) (length text)
+-- request-line = method SP request-target SP HTTP-version (RFC 9112, 3), with method = 1*tchar (RFC 9110, 5.6.2 and 9.1)
+unfoldable pub is_request_line : List ℕ → Bool
+is_request_line text = let rest = other_words text in
+    not (length (word text) == 0) && (list_all is_token_byte (word text) && (is_target (word rest) && is_version (other_words rest)))
 
--- ---- heads
+-- The kind of a start line's head. After an interim response, whose code begins with 1, another response follows (RFC 9110, 15.2).
+abbrev pub kind_of : List ℕ → Option Kind
+kind_of text =
+    if is_status_line text then Some (if slice_index (other_words text) 0 == 49 then Kind.Interim else Kind.Final) else
+    if is_request_line text then Some Kind.Request else None
 
--- whether a line other than a start line ends the head with a mark: the mark, also without its last byte (the space after `>` or `<`); and if
--- the mark is white space, any line that doesn't begin with it
-abbrev pub is_end : List ℕ → List ℕ → Bool
-is_end mark line =
-    bytes_eq line mark || (bytes_eq line (take (length mark - 1) mark) || (length (trimmed mark) == 0 && not (begins mark line)))
-
--- The head with a mark that has these texts, and those of the lines before its end that begin with the mark. There is one head or, if only
--- the end of an input that is cut off ends it, none.
-abbrev pub head_from : Bool → List ℕ → List (List ℕ) → List (List ℕ) → List (List (List ℕ))
-head_from cut mark texts [] = if cut then [] else texts ∷ []
-head_from cut mark texts (line ∷ lines) =
-    if is_start (text_of line) || is_end mark line then texts ∷ [] else
-    head_from cut mark (if begins mark line then texts ++ (drop (length mark) line ∷ []) else texts) lines
-
--- the heads that begin at start lines and, if `first`, at the first line of a field that is before these
-abbrev pub heads_from : Bool → Bool → List (List ℕ) → List (List (List ℕ))
-heads_from cut first [] = []
-heads_from cut first (line ∷ lines) =
-    if is_start (text_of line) || (first && is_field (text_of line))
-    then head_from cut (mark_of line) (text_of line ∷ []) lines ++ heads_from cut false lines else heads_from cut first lines
-
--- a head's first line
-abbrev pub title_of : List (List ℕ) → List ℕ
-title_of head = unwrap_or (slice_get head 0) []
-
--- whether a head counts: it has a start line, a `Content-Type` or an `Accept`
-abbrev pub counts : List (List ℕ) → Bool
-counts head = is_start (title_of head) || list_any (λ line. begins (codes "content-type:") line || begins (codes "accept:") line) head
-
-abbrev pub heads_of : Bool → List (List ℕ) → List (List (List ℕ))
-heads_of cut lines = filter counts (heads_from cut true lines)
+abbrev pub is_start : List ℕ → Bool
+is_start text = is_some (kind_of text)
 
 -- ---- fields
+
+-- one of the two fields as a line has it: its value without the white space around it, and whether white space is before the colon, which
+-- HTTP doesn't allow (RFC 9112, 5.1)
+pub record Field : Type 0 where
+  pub name : Name
+  pub value : List ℕ
+  pub is_spaced : Bool
+
+abbrev pub label_of : Name → List ℕ
+label_of ContentType = codes "content-type"
+label_of Accept = codes "accept"
+
+abbrev pub name_text : Name → List ℕ
+name_text ContentType = codes "Content-Type"
+name_text Accept = codes "Accept"
 
 -- whether a line begins with white space, and so continues a field (RFC 9112, 5.2)
 abbrev pub goes_on : List ℕ → Bool
 goes_on line = is_space (slice_index line 0)
+
+-- a line as the field with a name, if it begins with that name and a colon
+abbrev pub field_named : Name → List ℕ → Option Field
+field_named name line = let rest = drop (length (label_of name)) line in
+    if begins (label_of name) line && begins (codes ":") (trim_start rest)
+    then Some (record { name = name; value = trimmed (drop 1 (trim_start rest)); is_spaced = goes_on rest }) else None
+
+abbrev pub field_of : List ℕ → Option Field
+field_of line = option_or (field_named ContentType line) (field_named Accept line)
+
+abbrev pub is_field : List ℕ → Bool
+is_field line = is_some (field_of line)
 
 -- what lines add to a value: those at the start that continue it, each trimmed, after one space
 abbrev pub continued : List (List ℕ) → List ℕ
 continued [] = []
 continued (line ∷ lines) = if goes_on line then 32 ∷ trimmed line ++ continued lines else []
 
--- the values of a field: for each line that begins with its name and a colon, the rest of the line, trimmed, and what the next lines add
-abbrev pub values_of : List ℕ → List (List ℕ) → List (List ℕ)
-values_of label [] = []
-values_of label (line ∷ lines) = let later = values_of label lines in
-    if begins label line then (trimmed (drop (length label) line) ++ continued lines) ∷ later else later
+-- the value of a field without one: the next line, if no token and colon begin it, as browsers copy a field in two lines
+abbrev pub next_value : List (List ℕ) → List ℕ
+next_value [] = []
+next_value (line ∷ lines) = let name = before_first (λ b. b == 58) line in
+    if list_all is_token_byte name && nat_lt (length name) (length line) then [] else trimmed line ++ continued lines
 
--- whether a line begins with a field's name, white space and a colon, which HTTP doesn't allow (RFC 9112, 5.1)
-abbrev pub is_spaced : List ℕ → List ℕ → Bool
-is_spaced name line = let rest = drop (length name) line in begins name line && (goes_on rest && begins (codes ":") (trimmed rest))
+-- a value that begins so, with the lines after it; `alone` says that the lines have no start line
+abbrev pub value_of : Bool → List (List ℕ) → List ℕ → List ℕ
+value_of alone lines start = let value = start ++ continued lines in if alone && length value == 0 then next_value lines else value
+
+-- the values of the fields with a name, without those that have white space before the colon
+abbrev pub values_of : Name → Bool → List (List ℕ) → List (List ℕ)
+values_of name alone [] = []
+values_of name alone (line ∷ lines) = cons_option (option_and_then (λ field. if field.is_spaced then None else
+    Some (value_of alone lines field.value)) (field_named name line)) (values_of name alone lines)
+
+-- the name of the first of the two fields in plain sight: at the start (`may`), or behind a byte other than a letter, a digit, `-`, `_`, `[`
+abbrev pub seen_from : Bool → List ℕ → Option Name
+seen_from may [] = None
+seen_from may (b ∷ bytes) = let hides = is_ascii_alphanumeric b || (b == 45 || (b == 95 || b == 91)) in
+    option_or (option_map (λ field. field.name) (if may then field_of (b ∷ bytes) else None)) (seen_from (not hides) bytes)
+
+abbrev pub seen : List ℕ → Option Name
+seen line = seen_from true line
+
+-- the first line that has one of the two fields in plain sight: its number, counted from `number`, and the field's name
+abbrev pub first_seen : ℕ → List (List ℕ) → Option (ℕ × Name)
+first_seen number [] = None
+first_seen number (line ∷ lines) = option_or (option_map (λ name. (number, name)) (seen line)) (first_seen (number + 1) lines)
+
+-- ---- heads
+
+-- a head: its kind, and its lines without their mark
+pub record Head : Type 0 where
+  pub kind : Kind
+  pub texts : List (List ℕ)
+
+abbrev pub title_of : Head → List ℕ
+title_of it = unwrap_or (slice_get it.texts 0) []
+
+-- whether a head has no start line
+abbrev pub is_alone : Kind → Bool
+is_alone Kind.Fields = true
+is_alone Kind.Request = false
+is_alone Kind.Interim = false
+is_alone Kind.Final = false
+
+-- the lines of a head without a start line
+abbrev pub lines_under : Head → List (List ℕ)
+lines_under it = if is_alone it.kind then it.texts else drop 1 it.texts
+
+-- what a report is on: a head, or a line in no head with one of the two fields in plain sight
+pub data Item : Type 0 where
+  head : Head → Item
+  stray : List ℕ → Item
+
+-- whether a line ends the head with a mark: it has nothing after the mark, or it isn't indented as the head is
+abbrev pub is_end : List ℕ → List ℕ → Bool
+is_end mark line = unwrap_or (option_map (λ text. length text == 0) (text_with mark line)) (not (is_sign mark))
+
+-- whether a line has nothing after its indentation but at most a sign
+abbrev pub is_blank : List ℕ → Bool
+is_blank line = let text = trim_start line in
+    length text == 0 || (is_sign text && (length text == 1 || (length text == 2 && slice_index text 1 == 32)))
+
+-- the mark of lines without a start line, if they have one of the two fields: the empty indentation, if that is enough, or that before the
+-- first of the fields
+abbrev pub mark_of_fields : List (List ℕ) → Option (List ℕ)
+mark_of_fields lines = if list_any is_field lines then Some [] else slice_get (filter_map (mark_before is_field false) lines) 0
+
+-- lines of an input: a head's first line and those up to its end, and its kind and mark, or others, without a mark
+pub record Part : Type 0 where
+  pub kind : Kind
+  pub mark : Option (List ℕ)
+  pub lines : List (List ℕ)
+
+-- The next part of an input. A start line begins one that ends before a line that ends its head, or another start line. `alone` says that no
+-- start line is before this part: then lines up to a blank line or a start line are one. `needs_sign` says that a start line with a sign is.
+abbrev pub part_from : Bool → Bool → List ℕ → List (List ℕ) → Option (List ℕ) → Part
+part_from alone needs_sign line lines None =
+    let block = line ∷ before_first (λ it. is_blank it || is_some (mark_before is_start false it)) lines in
+    if alone && not (is_blank line) then record { kind = Kind.Fields; mark = mark_of_fields block; lines = block } else
+    record { kind = Kind.Fields; mark = None; lines = line ∷ [] }
+part_from alone needs_sign line lines (Some mark) = record {
+  kind = unwrap_or (option_and_then kind_of (text_with mark line)) Kind.Fields;
+  mark = Some mark;
+  lines = line ∷ before_first (λ it. is_end mark it || is_some (mark_before is_start (needs_sign || is_sign mark) it)) lines;
+}
+
+-- the lines without a mark that have one of the two fields in plain sight
+abbrev pub strays_of : Option (List ℕ) → List (List ℕ) → List Item
+strays_of mark lines = map (λ line. stray line) (filter (λ line. is_none (option_and_then (λ mark. text_with mark line) mark) && is_some (seen line)) lines)
+
+-- the items of a part: its head, unless nothing ends it in an input that is cut off, and its strays
+abbrev pub items_of : Bool → Kind → Option (List ℕ) → List (List ℕ) → List Item
+items_of is_open kind None lines = strays_of None lines
+items_of is_open kind (Some mark) lines =
+    if is_open then [] else head (record { kind = kind; texts = filter_map (text_with mark) lines }) ∷ strays_of (Some mark) lines
+
+-- the items of the lines after the first `passed`
+abbrev pub items_after : Bool → ℕ → Bool → Bool → List (List ℕ) → List Item
+items_after cut passed alone needs_sign [] = []
+items_after cut passed alone needs_sign (line ∷ lines) =
+    if not (passed == 0) then items_after cut (passed - 1) alone needs_sign lines else
+    let start = mark_before is_start needs_sign line in
+    let part = part_from alone needs_sign line lines start in
+    items_of (cut && length part.lines == length (line ∷ lines)) part.kind part.mark part.lines
+    ++ items_after cut (length part.lines - 1) (alone && is_none start)
+    (needs_sign || unwrap_or (option_map is_sign start) false) lines
+
+abbrev pub items_in : Bool → List (List ℕ) → List Item
+items_in cut lines = items_after cut 0 true false lines
+
+abbrev pub heads_of : List Item → List Head
+heads_of [] = []
+heads_of (head it ∷ items) = it ∷ heads_of items
+heads_of (stray line ∷ items) = heads_of items

@@ -2,8 +2,8 @@
 use Rattle.std.specs.Prelude.{ℕ, Bool, List, Option, Vec, option_map, map, vec_items}
 use Rattle.std.specs.{Borrow.Bor, Global.Global}
 use Rattle.mime.specs.{Values.MediaType, declared.value.Mime.Mime}
-use Rattle.mime_headers.specs.Report.{State}
-use Rattle.mime_headers.specs.declared.report.Report.{Report}
+use Rattle.mime_headers.specs.{Head.Field, Head.Head, Head.Item, Head.Part, Head.head, Head.stray, Report.State}
+use Rattle.mime_headers.specs.declared as declared
 
 -- the lines that a vector borrows
 abbrev pub lines_now : Vec (Bor (List ℕ)) Global → List (List ℕ)
@@ -12,10 +12,32 @@ lines_now lines = map (λ line. line.now) (vec_items lines)
 abbrev pub medias : List Mime → List MediaType
 medias mimes = map (λ mime. mime.media) mimes
 
--- a choice, with its ranges as media types
-abbrev pub choice_now : Option (Vec Mime Global × Bool) → Option (List MediaType × Bool)
-choice_now choice = option_map (λ choice. (medias (vec_items choice.0), choice.1)) choice
+abbrev pub ranges_now : Option (Vec Mime Global) → Option (List MediaType)
+ranges_now ranges = option_map (λ ranges. medias (vec_items ranges)) ranges
+
+abbrev pub field_now : declared.field.Field.Field → Field
+field_now it = record { name = it.name; value = it.value.now; is_spaced = it.is_spaced }
+
+abbrev pub head_now : declared.head.Head.Head → Head
+head_now it = record { kind = it.kind; texts = lines_now it.texts }
+
+abbrev pub item_now : declared.head.Item.Item → Item
+item_now (declared.head.Item.Item.Head it) = head (head_now it)
+item_now (declared.head.Item.Item.Stray line) = stray line.now
+
+abbrev pub items_now : Vec declared.head.Item.Item Global → List Item
+items_now items = map item_now (vec_items items)
+
+abbrev pub part_now : declared.head.Part.Part → Part
+part_now it = record { kind = it.kind; mark = option_map (λ mark. mark.now) it.mark; lines = map (λ line. line.now) it.lines.now }
 
 -- what a report knows
-abbrev pub state_now : Report → State
-state_now it = record { text = vec_items it.text; are_good = it.are_good; choice = choice_now it.choice; asks = it.asks }
+abbrev pub state_now : declared.report.Report.Report → State
+state_now it = record {
+  text = vec_items it.text;
+  are_good = it.are_good;
+  choice = it.choice;
+  waiting = it.waiting;
+  asked = ranges_now it.asked;
+  sent = option_map (λ mime. mime.media) it.sent;
+}

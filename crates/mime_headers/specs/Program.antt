@@ -1,9 +1,11 @@
--- Which offers the arguments name.
-use Rattle.std.specs.Prelude.{◌≢◌, ℕ, List, [], ◌∷◌, ◌++◌, Result, Ok, Err, String, string_bytes}
-use Rattle.std.specs.Global.{Global}
+-- Which offers the arguments name, and what an error of a run prints.
+use Rattle.std.specs.Prelude.{◌≢◌, ℕ, List, [], ◌∷◌, ◌++◌, Option, Some, None, Result, Ok, Err, String, string_bytes, codes}
+use Rattle.std.specs.{Fmt.decimal, Global.Global}
 use Rattle.mime.specs.Values.{MediaType}
 use Rattle.mime_http.specs.{HttpFaults.HttpExplains, declared.value.FieldError.FieldError, declared.value.FieldError.TheVariants.NoMemory}
-use Rattle.mime_headers.specs.Report.{IsRead}
+use Rattle.mime_io.specs.Stops.{stop_text}
+use Rattle.mime_headers.specs.{Head.name_text, Report.IsRead}
+use Rattle.mime_headers.specs.declared.error.HeadError.{HeadError}
 
 -- The result of reading words after some offers. If each word is read as an offer, the result has all offers. Otherwise, it has the first
 -- word that isn't read, and an error, which explains why that word is rejected or is `NoMemory`.
@@ -13,3 +15,9 @@ pub data AreOffers : List (List ℕ) → List MediaType → Result (List MediaTy
       → IsRead word (Ok offer) → AreOffers words (offers ++ (offer ∷ [])) all → AreOffers (word ∷ words) offers all
   bad_word : {words : List (List ℕ)} {offers : List MediaType} (word : String Global) (error : FieldError)
       → (error ≢ NoMemory → HttpExplains (string_bytes word) error) → AreOffers (string_bytes word ∷ words) offers (Err (word, error))
+
+-- what an error prints
+abbrev pub error_text : HeadError → List ℕ
+error_text (HeadError.Run error) = stop_text error
+error_text (HeadError.NoHead None) = codes "no head"
+error_text (HeadError.NoHead (Some (number, name))) = codes "no head, but line " ++ (decimal number ++ (codes " has " ++ name_text name))

@@ -1,24 +1,37 @@
--- The report on heads and offers: the rows of each `Content-Type`, of `Accept`, and of each offer (RFC 9110, 8.3, 12.5.1 and 15.5.7).
-use Rattle.std.specs.Prelude.{◌≡◌, ◌≢◌, ◌<◌, ℕ, ◌+◌, ◌/◌, ◌%◌, Bool, true, false, List, [], ◌∷◌, ◌++◌, ◌==◌, ◌||◌, ◌&&◌, not, Option, Some, None, Result, Ok, Err, MatchOption, MatchResult, option_and_then, option_map, unwrap_or, map, flat_map, length, slice_get, replicate, nat_lt, if◌then◌else◌, codes}
-use Rattle.std.specs.{Char.is_ascii_graphic, Fmt.decimal, Fmt.digits, List.FoldsTo, List.enumerate_from, Str.IsUtf8}
+-- The report on heads and offers: the rows of each `Content-Type`, of `Accept`, and of each offer (RFC 9110, 8.3, 12.5.1 and 15.5.7), and
+-- whether a request and its response accept each other's content (15.5.16). docs/RULES.md says the same in words.
+use Rattle.std.specs.Prelude.{◌≡◌, ◌≢◌, ◌<◌, ℕ, ◌+◌, ◌-◌, ◌/◌, ◌%◌, Bool, true, false, List, [], ◌∷◌, ◌++◌, ◌==◌, ◌||◌, ◌&&◌, not}
+use Rattle.std.specs.Prelude.{Option, Some, None, Result, Ok, Err, MatchOption, MatchResult, option_and_then, option_map, is_some, unwrap_or}
+use Rattle.std.specs.Prelude.{map, flat_map, drop, length, slice_get, replicate, nat_lt, if◌then◌else◌, codes}
+use Rattle.std.specs.{Char.is_ascii_graphic, Fmt.decimal, Fmt.digits, List.FoldsTo, List.enumerate_from, List.list_any, Option.option_zip, Str.IsUtf8, Str.bytes_eq}
 use Rattle.mime.specs.{Values.MediaType, Values.suffix_of}
-use Rattle.mime_http.specs.{Boundary.IsBoundaryOf, HttpFaults.HttpExplains, HttpFaults.fault_position, HttpList.trimmed, HttpList.AreBetweenCommas, HttpList.IsPrinted, HttpList.IsPiece, HttpList.BeginsPiece, HttpMediaType.HttpReads, HttpPrinted.field_error_text, Lacks.is_quoted, Lacks.lacked, Ranges.weight_of, Ranges.first_value, Ranking.is_qvalue, Ranking.IsRanking, Unescaped.unescaped, declared.ranking.RankedOffer.RankedOffer, declared.value.FieldError.FieldError, declared.value.FieldError.TheVariants.NoMemory}
+use Rattle.mime_http.specs.{Boundary.IsBoundaryOf, HttpFaults.HttpExplains, HttpFaults.fault_position, HttpMediaType.HttpReads}
+use Rattle.mime_http.specs.HttpList.{trimmed, AreBetweenCommas, IsPrinted, IsPiece, BeginsPiece}
+use Rattle.mime_http.specs.{HttpPrinted.field_error_text, Lacks.begins, Lacks.is_quoted, Lacks.lacked, Ranges.weight_of, Ranges.first_value}
+use Rattle.mime_http.specs.{Ranking.is_qvalue, Ranking.IsRanking, Unescaped.unescaped, declared.ranking.RankedOffer.RankedOffer}
+use Rattle.mime_http.specs.{declared.value.FieldError.FieldError, declared.value.FieldError.TheVariants.NoMemory}
 use Rattle.mime_io.specs.{Lines.row, Stops.limit}
-use Rattle.mime_headers.specs.{Head.bare_lines, Head.heads_of, Head.is_interim, Head.is_spaced, Head.is_status_line, Head.title_of, Head.values_of, Shown.without_controls}
-use Rattle.mime_headers.specs.declared.report.Verdict.{Verdict}
+use Rattle.mime_headers.specs.Head.{Field, Head, Item, head, stray, bare_lines, field_of, heads_of, is_alone, items_in, lines_under}
+use Rattle.mime_headers.specs.Head.{other_words, seen, title_of, values_of, without_escapes, word}
+use Rattle.mime_headers.specs.Shown.{without_controls}
+use Rattle.mime_headers.specs.declared.{start.Kind.Kind, report.Verdict.Verdict}
+use Rattle.mime_headers.specs.declared.field.Name.TheVariants.{ContentType, Accept}
 
 -- A value of a field is read as this media type, which is printed for the value, or is rejected with this error, which isn't `NoMemory`.
 abbrev pub IsRead : List ℕ → Result MediaType FieldError → Type 0
 IsRead value (Ok media) = IsUtf8 value × HttpReads value media × IsPrinted value media
 IsRead value (Err error) = (error ≢ NoMemory) × HttpExplains value error
 
--- What is known after some heads: the report, whether each `Content-Type` is accepted, the last choice, if a head has an `Accept`, and whether
--- it is that of the last request. A choice has ranges, and is `true` if an offer is acceptable or there are no offers.
+-- What is known after some items: the report, whether all is good so far (each `Content-Type` is accepted, and each weight in an exchange is
+-- above 0), the last choice, if a request has an `Accept`, and how many requests wait for a response. If one alone waits, its ranges and its
+-- media type. A choice is `true` if an offer is acceptable or there are no offers.
 pub record State : Type 0 where
   pub text : List ℕ
   pub are_good : Bool
-  pub choice : Option (List MediaType × Bool)
-  pub asks : Bool
+  pub choice : Option Bool
+  pub waiting : ℕ
+  pub asked : Option (List MediaType)
+  pub sent : Option MediaType
 
 -- ---- a rejected value
 
@@ -119,88 +132,142 @@ best_row offers [] = ([], true)
 best_row offers (one ∷ ranking) = if one.weight == 0 then (codes "406 Not Acceptable\n", false) else
     (row_if (codes "best ") (option_map (λ best. best.kept) (slice_get offers one.offer)), true)
 
--- ---- Content-Type in an answer
+-- ---- exchanges
 
--- the row of a response's media type, which is weighed like an offer by the ranges of the request, if that has an `Accept`
-abbrev pub IsAnswer : Option (List MediaType) → MediaType → List ℕ → Type 0
-IsAnswer asked media answer = MatchOption asked (answer ≡ []) (λ ranges. (ranking : List RankedOffer)
-    × IsRanking ranges (media ∷ []) ranking × (answer ≡ offer_rows (codes "answer ") ranges (media ∷ []) ranking))
-
--- A value of `Content-Type` is read without the white space around it (RFC 9110, 5.5), and what is read adds its rows to a report, for the
--- ranges `asked` of a request. `are_good`, whether all values so far are accepted, becomes `false` if this value is rejected.
-abbrev pub AddsType : Option (List MediaType) → List ℕ × Bool → List ℕ → List ℕ × Bool → Type 0
-AddsType asked (text, are_good) value new = (reading : Result MediaType FieldError) × IsRead (trimmed value) reading × MatchResult reading
-    (λ media. (boundary : Option (List ℕ)) × (answer : List ℕ) × HasBoundary media boundary × IsAnswer asked media answer
-    × (new ≡ (text ++ (media_rows media boundary ++ answer), are_good)))
-    (λ error. new ≡ (text ++ fault_rows (codes "bad Content-Type ") (trimmed value) error, false))
-
--- the row which says that there is no `Content-Type`, or more than one; nothing if there is one
-abbrev pub count_row : List (List ℕ) → List ℕ
-count_row values = row_when (length values == 0) (codes "no Content-Type") []
-    ++ row_when (nat_lt 1 (length values)) (codes "several Content-Type lines (HTTP allows one)") []
+-- A media type, weighed like an offer by ranges: its row, and whether it weighs more than 0. Without ranges or a media type, nothing.
+abbrev pub IsWeighed : List ℕ → Option (List MediaType) → Option MediaType → List ℕ × Bool → Type 0
+IsWeighed label ranges media weighed = MatchOption (option_zip ranges media) (weighed ≡ ([], true)) (λ it. (ranking : List RankedOffer)
+    × IsRanking it.0 (it.1 ∷ []) ranking
+    × (weighed ≡ (offer_rows label it.0 (it.1 ∷ []) ranking, (best_row (it.1 ∷ []) ranking).1)))
 
 -- ---- heads
+
+-- whether a head is a response that isn't interim
+abbrev pub is_final : Kind → Bool
+is_final Kind.Fields = false
+is_final Kind.Request = false
+is_final Kind.Interim = false
+is_final Kind.Final = true
+
+-- whether a value is as a tool prints it: in quotes, or with what shows a carriage return or a line feed at its end
+abbrev pub is_altered : List ℕ → Bool
+is_altered value = begins (codes "'") value || list_any (λ end. bytes_eq (drop (length value - length end) value) end)
+    (codes "." ∷ codes "$" ∷ codes "^M" ∷ codes "\\r" ∷ codes "\\n" ∷ [])
+
+-- the row of a line of a head that isn't one of the two fields as it was sent, or may not be, but has one in plain sight
+abbrev pub remark_of : List ℕ → Option Field → List ℕ
+remark_of line None = row_when (is_some (seen line)) (codes "not in a head: ") line
+remark_of line (Some field) = row_when field.is_spaced (codes "white space before the colon: ") line
+    ++ row_when (not field.is_spaced && is_altered field.value) (codes "perhaps not as sent: ") line
+
+-- the row of a head's title, if there are several heads, and those of its lines
+abbrev pub title_rows : Bool → Head → List ℕ
+title_rows many it = row_when many (codes "head ") (title_of it) ++ flat_map (λ line. remark_of line (field_of line)) it.texts
+
+-- A value of `Content-Type` is read without the white space around it (RFC 9110, 5.5). What is read adds its rows to a report, and is the
+-- last media type. Whether all values so far are accepted becomes `false` if this value is rejected.
+abbrev pub AddsType : List ℕ × Bool × Option MediaType → List ℕ → List ℕ × Bool × Option MediaType → Type 0
+AddsType (text, are_good, last) value new = (reading : Result MediaType FieldError) × IsRead (trimmed value) reading × MatchResult reading
+    (λ media. (boundary : Option (List ℕ)) × HasBoundary media boundary × (new ≡ (text ++ media_rows media boundary, are_good, Some media)))
+    (λ error. new ≡ (text ++ fault_rows (codes "bad Content-Type ") (trimmed value) error, false, last))
+
+-- whether a `Content-Type` is expected: of a final response, unless it has no content by its status (RFC 9110, 15.3.5 and 15.4.5)
+abbrev pub expects_type : Kind → List ℕ → Bool
+expects_type kind title = let code = word (other_words title) in
+    is_final kind && (not (bytes_eq code (codes "204")) && not (bytes_eq code (codes "304")))
+
+-- the row which says that an expected `Content-Type` isn't there, or that there is more than one
+abbrev pub count_row : Bool → List (List ℕ) → List ℕ
+count_row is_expected values = row_when (is_expected && length values == 0) (codes "no Content-Type") []
+    ++ row_when (nat_lt 1 (length values)) (codes "several Content-Type lines (HTTP allows one)") []
+
+-- A head adds its title, its values of `Content-Type`, `count_row`, and the weight of the only media type of a final response by the request
+-- that it answers. `only` is that media type, of any head.
+abbrev pub AddsTypes : Bool → State → Head → Option MediaType → State → Type 0
+AddsTypes many old it only new =
+    let types = values_of ContentType (is_alone it.kind) (lines_under it) in
+    (typed : List ℕ × Bool × Option MediaType) × (answer : List ℕ × Bool)
+    × FoldsTo AddsType (old.text ++ title_rows many it, old.are_good, None) types typed
+    × (only ≡ (if length types == 1 then typed.2 else None))
+    × IsWeighed (codes "answer ") (if is_final it.kind then old.asked else None) only answer
+    × (new ≡ record old {
+      text = typed.0 ++ (count_row (expects_type it.kind (title_of it)) types ++ answer.0);
+      are_good = typed.1 && answer.1;
+    })
 
 -- the row which says that lines of `Accept` have no entry, if the report is the same before them and after
 abbrev pub empty_row : List ℕ → List ℕ → List ℕ
 empty_row old new = if length old == length new then codes "empty Accept\n" else []
 
--- The lines of `Accept`, which are one list (RFC 9110, 5.3), and the offers add their rows to a report, and make a choice by their ranges.
--- Without lines, nothing is added, and no choice is made.
-abbrev pub AddsChoice : List MediaType → List (List ℕ) → State → State → Type 0
-AddsChoice offers lines old new = (length lines ≡ 0 → new ≡ old) × (0 < length lines → (read : List ℕ × List MediaType)
-    × (ranking : List RankedOffer) × AddsLines lines (old.text, []) read × IsRanking read.1 offers ranking × (new ≡ record old {
-      text = read.0 ++ (empty_row old.text read.0 ++ (offer_rows (codes "offer ") read.1 offers ranking ++ (best_row offers ranking).0));
-      choice = Some (read.1, (best_row offers ranking).1);
+-- The lines of `Accept`, which are one list (RFC 9110, 5.3), add their rows to a report, and have ranges. Without lines, nothing is added.
+abbrev pub AddsAccept : List (List ℕ) → List ℕ → List ℕ × Option (List MediaType) → Type 0
+AddsAccept lines old new = (length lines ≡ 0 → new ≡ (old, None)) × (0 < length lines → (read : List ℕ × List MediaType)
+    × AddsLines lines (old, []) read × (new ≡ (read.0 ++ empty_row old read.0, Some read.1)))
+
+-- The offers are weighed by ranges, and one is chosen. Without ranges, nothing is added.
+abbrev pub AddsChoice : List MediaType → Option (List MediaType) → State → State → Type 0
+AddsChoice offers ranges old new = MatchOption ranges (new ≡ old) (λ ranges. (ranking : List RankedOffer)
+    × IsRanking ranges offers ranking × (new ≡ record old {
+      text = old.text ++ (offer_rows (codes "offer ") ranges offers ranking ++ (best_row offers ranking).0);
+      choice = Some (best_row offers ranking).1;
     }))
 
--- the row of a line with white space between the name `Content-Type` or `Accept` and a colon
-abbrev pub spaced_row : List ℕ → List ℕ
-spaced_row it = row_when (is_spaced (codes "content-type") it || is_spaced (codes "accept") it) (codes "white space before the colon: ") it
+-- A request, or a head without a start line, chooses an offer, and waits. If another request waits, no response is known to answer it.
+abbrev pub AddsRequest : List MediaType → Option (List MediaType) → Option MediaType → State → State → Type 0
+AddsRequest offers ranges only old new = (chosen : State) × AddsChoice offers ranges old chosen × (new ≡ record chosen {
+  waiting = old.waiting + 1;
+  asked = if old.waiting == 0 then ranges else None;
+  sent = if old.waiting == 0 then only else None;
+})
 
--- the row of a head's title, if there are several heads, and those of its lines with white space before a colon
-abbrev pub title_rows : Bool → List (List ℕ) → List ℕ
-title_rows many head = row_when many (codes "head ") (title_of head) ++ flat_map spaced_row head
+-- A final response weighs the media type of the request that it answers (RFC 9110, 12.5.1 and 15.5.16), and ends its wait.
+abbrev pub AddsResponse : Option (List MediaType) → State → State → Type 0
+AddsResponse ranges old new = (weighed : List ℕ × Bool) × IsWeighed (codes "request ") ranges old.sent weighed × (new ≡ record old {
+  text = old.text ++ weighed.0;
+  are_good = old.are_good && weighed.1;
+  waiting = old.waiting - 1;
+  asked = None;
+  sent = None;
+})
 
--- the ranges by which a head is weighed: those of the last choice, if it is that of a request (`asks`) and the head answers it. A head with
--- this title and these values of `Content-Type` does so if it is a response that isn't interim, with one value.
-abbrev pub asked_by : Bool → Option (List MediaType × Bool) → List ℕ → List (List ℕ) → Option (List MediaType)
-asked_by asks choice title values =
-    if asks && (is_status_line title && (not (is_interim title) && length values == 1)) then option_map (λ choice. choice.0) choice else None
+abbrev pub AddsWeights : Kind → List MediaType → Option (List MediaType) → Option MediaType → State → State → Type 0
+AddsWeights Kind.Fields offers ranges only old new = AddsRequest offers ranges only old new
+AddsWeights Kind.Request offers ranges only old new = AddsRequest offers ranges only old new
+AddsWeights Kind.Interim offers ranges only old new = new ≡ old
+AddsWeights Kind.Final offers ranges only old new = AddsResponse ranges old new
 
--- whether the last choice is that of the last request after a head with this title: any head but a response is a request, and an interim
--- response doesn't answer it
-abbrev pub asks_after : Bool → List ℕ → List (List ℕ) → Bool
-asks_after asks title accepts = if is_status_line title then asks && (is_interim title && length accepts == 0) else nat_lt 0 (length accepts)
+-- A head adds, in order: its title, its `Content-Type`, its `Accept`, and the weights by this.
+abbrev pub AddsHead : List MediaType → Bool → State → Head → State → Type 0
+AddsHead offers many old it new = (typed : State) × (only : Option MediaType) × (read : List ℕ × Option (List MediaType))
+    × AddsTypes many old it only typed × AddsAccept (values_of Accept (is_alone it.kind) (lines_under it)) typed.text read
+    × AddsWeights it.kind offers read.1 only (record typed { text = read.0 }) new
 
--- A head adds, in order: `title_rows`, its values of `Content-Type`, `count_row`, and its choice.
-abbrev pub AddsHead : List MediaType → Bool → State → List (List ℕ) → State → Type 0
-AddsHead offers many old head new =
-    let types = values_of (codes "content-type:") head in
-    let accepts = values_of (codes "accept:") head in
-    let asks = asks_after old.asks (title_of head) accepts in
-    (typed : List ℕ × Bool) × FoldsTo (AddsType (asked_by old.asks old.choice (title_of head) types))
-    (old.text ++ title_rows many head, old.are_good) types typed
-    × AddsChoice offers accepts (record old { text = typed.0 ++ count_row types; are_good = typed.1; asks = asks }) new
+-- An item is a head, or has a row.
+abbrev pub AddsItem : List MediaType → Bool → State → Item → State → Type 0
+AddsItem offers many old (head it) new = AddsHead offers many old it new
+AddsItem offers many old (stray line) new = new ≡ record old { text = old.text ++ row (codes "not in a head: ") (shown line) }
 
--- if there are offers and no head has an `Accept`, the row which says so, and the line that is read in its place
-abbrev pub missing : {Choice : Type 0} → List MediaType → Option Choice → List ℕ × List (List ℕ)
-missing (offer ∷ offers) None = (codes "no Accept\n", codes "*/*" ∷ [])
-missing offers choice = ([], [])
-
+-- If there are offers and no request has an `Accept`, a row says so, and the offers are weighed by `*/*`.
 abbrev pub AddsMissing : List MediaType → State → State → Type 0
-AddsMissing all old new = AddsChoice all (missing all old.choice).1 (record old { text = old.text ++ (missing all old.choice).0 }) new
+AddsMissing offers old new = let is_known = length offers == 0 || is_some old.choice in
+    (is_known ≡ true → new ≡ old) × (is_known ≡ false → (read : List ℕ × List MediaType)
+    × AddsEntry (old.text ++ codes "no Accept\n", []) (codes "*/*") read
+    × AddsChoice offers (Some read.1) (record old { text = read.0 }) new)
 
--- the verdict: acceptable if each `Content-Type` is accepted, and the last choice, if there is one, is `true`
+-- the verdict: acceptable if all is good, and the last choice, if there is one, is `true`
 abbrev pub verdict_of : State → Verdict
-verdict_of end = if end.are_good && unwrap_or (option_map (λ it. it.1) end.choice) true then Verdict.Acceptable else Verdict.NotAcceptable
+verdict_of end = if end.are_good && unwrap_or end.choice true then Verdict.Acceptable else Verdict.NotAcceptable
 
--- There are heads. The text is the report on them and on offers, without controls, and says if they are cut off. The verdict is the report's.
-pub record IsReport (offers : List MediaType) (cut : Bool) (heads : List (List (List ℕ))) (text : List ℕ) (verdict : Verdict) : Type 0 where
-  pub some : 0 < length heads
+-- what is known before the first item
+abbrev pub start : State
+start = record { text = []; are_good = true; choice = None; waiting = 0; asked = None; sent = None }
+
+-- There are heads. The text is the report on items and on offers, without controls, and says if they are cut off. The verdict is the report's.
+pub record IsReport (offers : List MediaType) (cut : Bool) (items : List Item) (text : List ℕ) (verdict : Verdict) : Type 0 where
+  pub some : 0 < length (heads_of items)
   pub last : State
-  pub adds : (state : State) × FoldsTo (AddsHead offers (nat_lt 1 (length heads)))
-      (record { text = []; are_good = true; choice = None; asks = false }) heads state × AddsMissing offers state last
+  pub adds : (state : State) × FoldsTo (AddsItem offers (nat_lt 1 (length (heads_of items)))) start items state
+      × AddsMissing offers state last
   pub is_text : text ≡ without_controls (last.text ++ row_when cut (codes "not read after ") (codes "1048576 bytes"))
   pub is_verdict : verdict ≡ verdict_of last
 
@@ -208,6 +275,13 @@ pub record IsReport (offers : List MediaType) (cut : Bool) (heads : List (List (
 abbrev pub is_cut : List ℕ → Bool
 is_cut bytes = nat_lt limit (length bytes)
 
+-- the lines and the items of the bytes that were read
+abbrev pub lines_read : List ℕ → List (List ℕ)
+lines_read bytes = bare_lines (is_cut bytes) (without_escapes bytes)
+
+abbrev pub items_read : List ℕ → List Item
+items_read bytes = items_in (is_cut bytes) (lines_read bytes)
+
 -- The text and the verdict are those of the report on the bytes that were read, and on offers.
 abbrev pub IsReportOf : List MediaType → List ℕ → List ℕ → Verdict → Type 0
-IsReportOf offers bytes text verdict = IsReport offers (is_cut bytes) (heads_of (is_cut bytes) (bare_lines (is_cut bytes) bytes)) text verdict
+IsReportOf offers bytes text verdict = IsReport offers (is_cut bytes) (items_read bytes) text verdict

@@ -5,14 +5,20 @@
 ghost use Rattle.std.specs.Prelude.{◌≡◌, OnErr};
 ghost use Rattle.std.specs.Process.{exit_status};
 
+mod error;
+mod field;
 mod head;
+mod line;
 mod offers;
 mod program;
 mod report;
 mod shown;
+mod start;
 #[cfg(test)]
 mod tests;
 
+pub use crate::error::HeadError;
+pub use crate::field::Name;
 use crate::offers::read_offers;
 pub use crate::program::run;
 pub use crate::report::Verdict;
@@ -70,13 +76,13 @@ fn main(rt: HostRuntime) -> ExitCode {
     });
     match run(rt.alloc(), &mut input, &mut output, &offers) {
         // Shells report this status for a write to a closed pipe.
-        Err(RunError::Write) if output.inner.is_closed => ExitCode::from(141),
+        Err(HeadError::Run(RunError::Write)) if output.inner.is_closed => ExitCode::from(141),
         outcome => status(&rt, outcome),
     }
 }
 
 /// Returns the exit status of a run. If the run failed, prints its error on standard error.
-fn status(rt: &impl Eprint, outcome: Result<Verdict, RunError>) -> ExitCode
+fn status(rt: &impl Eprint, outcome: Result<Verdict, HeadError>) -> ExitCode
     ensures acceptable { outcome ≡ Ok Verdict.Acceptable → exit_status result ≡ 0 }
     ensures not_acceptable { outcome ≡ Ok Verdict.NotAcceptable → exit_status result ≡ 1 }
     ensures stopped { OnErr outcome (exit_status result ≡ 2) }

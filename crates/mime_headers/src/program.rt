@@ -1,10 +1,12 @@
 //! One run of the program, from a source to a sink.
 
-ghost use Rattle.std.specs.Prelude.{◌≡◌, ◌≢◌, ℕ, List, ◌≤◌, ◌+◌, [], length, map, false, true, OnOk, IfOk, IfErr};
+ghost use Rattle.std.specs.Prelude.{◌≡◌, ◌≢◌, ℕ, List, ◌≤◌, ◌+◌, [], length, map, true, Option, OnOk, IfOk, IfErr};
 ghost use Rattle.std.specs.Io.KnownBytes.{Consumes, Appends, IsAtEnd};
 ghost use Rattle.mime_io.specs.Stops.{limit};
-ghost use Rattle.mime_headers.specs.{Head.bare_lines, Head.heads_of, Report.IsReportOf};
+ghost use Rattle.mime_headers.specs.{Head.first_seen, Head.heads_of, Report.IsReportOf, Report.items_read, Report.lines_read};
+ghost use Rattle.mime_headers.specs.declared.field.Name.{Name};
 
+use crate::error::HeadError;
 use crate::report::{Verdict, report_of};
 use mime::Mime;
 use mime_io::{LIMIT, RunError, Sink, Source, read_past_limit, write_report};
@@ -14,15 +16,15 @@ use std::alloc::{AllocError, Global};
 /// returns the verdict.
 ///
 /// # Errors
-/// Returns `Read` if the source fails, and `Write` if the sink fails. A call that failed isn't repeated. Returns `NoHead` if the source has no
-/// head, `TooLong` if it has more than 1,048,576 bytes and no head ends within the first 1,048,576, and `NoMemory` if memory runs out. A part
-/// of the report may have been written only if the error is `Write`.
+/// Returns `NoHead` if the source has no head. Otherwise returns `Run` of `Read` if the source fails, of `Write` if the sink fails, of `TooLong`
+/// if the source has more than 1,048,576 bytes and no head ends within the first 1,048,576, and of `NoMemory` if memory runs out. A call that
+/// failed isn't repeated. A part of the report may have been written only if the error is `Write`.
 pub fn run<S: Source, T: Sink>(
     alloc: Global,
     source: &mut S,
     sink: &mut T,
     offers: &[Mime],
-) -> Result<Verdict, RunError>
+) -> Result<Verdict, HeadError>
     // A run that succeeds has read bytes to the end of the source, or to one byte past the limit. It has written and flushed the report on
     // these bytes and on the offers, and has written nothing else. The verdict is the report's. This also holds for a source or a sink that
     // doesn't say which bytes it has.
@@ -31,26 +33,33 @@ pub fn run<S: Source, T: Sink>(
         × IsReportOf (map (λ offer. offer.media) offers.now) bytes text verdict × Appends (T.held sink.old) (T.held sink.new) text) }
     ensures flushed { OnOk result (T.IsFlushed sink.new) }
     // If the result is `Read`, the source has failed. If it is `Write`, the sink has failed. Otherwise, neither has failed in this run.
-    ensures read { result ≡ Err RunError.Read → S.has_failed source.new ≡ true }
-    ensures write { result ≡ Err RunError.Write → T.has_failed sink.new ≡ true }
-    ensures source_unfailed { result ≢ Err RunError.Read → S.has_failed source.new ≡ S.has_failed source.old }
-    ensures sink_unfailed { result ≢ Err RunError.Write → T.has_failed sink.new ≡ T.has_failed sink.old }
-    // If the result is `NoHead`, the run has read all bytes, and they have no head.
-    ensures no_head { result ≡ Err RunError.NoHead → (bytes : List ℕ) × Consumes (S.left source.old) (S.left source.new) bytes
-        × (length bytes ≤ limit) × IsAtEnd (S.left source.new) × (heads_of false (bare_lines false bytes) ≡ []) }
+    ensures read { result ≡ Err (HeadError.Run RunError.Read) → S.has_failed source.new ≡ true }
+    ensures write { result ≡ Err (HeadError.Run RunError.Write) → T.has_failed sink.new ≡ true }
+    ensures source_unfailed { result ≢ Err (HeadError.Run RunError.Read) → S.has_failed source.new ≡ S.has_failed source.old }
+    ensures sink_unfailed { result ≢ Err (HeadError.Run RunError.Write) → T.has_failed sink.new ≡ T.has_failed sink.old }
+    // If the result is `NoHead`, the run has read all bytes, and they have no head. The error names the first line with a field in plain sight.
+    ensures no_head { (line : Option (ℕ × Name)) → result ≡ Err (HeadError.NoHead line)
+        → (bytes : List ℕ) × Consumes (S.left source.old) (S.left source.new) bytes × (length bytes ≤ limit) × IsAtEnd (S.left source.new)
+        × (heads_of (items_read bytes) ≡ []) × (line ≡ first_seen 1 (lines_read bytes)) }
     // If the result is `TooLong`, the run has read one byte more than the limit, and no head ends within the limit.
-    ensures too_long { result ≡ Err RunError.TooLong → (bytes : List ℕ) × Consumes (S.left source.old) (S.left source.new) bytes
-        × (length bytes ≡ limit + 1) × (heads_of true (bare_lines true bytes) ≡ []) }
+    ensures too_long { result ≡ Err (HeadError.Run RunError.TooLong) → (bytes : List ℕ) × Consumes (S.left source.old) (S.left source.new) bytes
+        × (length bytes ≡ limit + 1) × (heads_of (items_read bytes) ≡ []) }
     // An error other than `Write` leaves the sink unchanged.
-    ensures untouched { IfErr result (λ error. error ≢ RunError.Write → sink.new ≡ sink.old) }
+    ensures untouched { IfErr result (λ error. error ≢ HeadError.Run RunError.Write → sink.new ≡ sink.old) }
 {
-    let input = read_past_limit(alloc, source)?;
-    let (report, verdict) = match report_of(alloc, input.as_slice(), offers) {
-        Ok(Some(answer)) => answer,
-        Ok(None) if input.len() > LIMIT => return Err(RunError::TooLong),
-        Ok(None) => return Err(RunError::NoHead),
-        Err(AllocError) => return Err(RunError::NoMemory),
+    let input = match read_past_limit(alloc, source) {
+        Ok(input) => input,
+        Err(error) => return Err(HeadError::Run(error)),
     };
-    write_report(sink, report.as_slice())?;
-    Ok(verdict)
+    let is_long = input.len() > LIMIT;
+    let (report, verdict) = match report_of(alloc, input, offers) {
+        Ok(Ok(answer)) => answer,
+        Ok(Err(_)) if is_long => return Err(HeadError::Run(RunError::TooLong)),
+        Ok(Err(line)) => return Err(HeadError::NoHead(line)),
+        Err(AllocError) => return Err(HeadError::Run(RunError::NoMemory)),
+    };
+    match write_report(sink, report.as_slice()) {
+        Ok(()) => Ok(verdict),
+        Err(error) => Err(HeadError::Run(error)),
+    }
 }

@@ -1,164 +1,281 @@
 //! The report on heads.
 
-ghost use Rattle.std.specs.Prelude.{◌≡◌, ◌++◌, ℕ, List, [], Err, Ok, Option, map, flat_map, OnOk, IfOk, MatchOption, option_map, slice_get, unwrap_or};
-ghost use Rattle.std.specs.{List.FoldsTo, List.enumerate_from, Vec.vec_items};
+ghost use Rattle.std.specs.Prelude.{◌≡◌, ◌++◌, ℕ, Bool, List, [], Err, Ok, Option, None, Some, map, flat_map, OnOk, IfOk, MatchOption, MatchResult};
+ghost use Rattle.std.specs.Prelude.{option_map, slice_get, unwrap_or, vec_items, ◌&&◌, ◌==◌, if◌then◌else◌, length, codes, ◌≤◌, ◌+◌, ◌<◌};
+ghost use Rattle.std.specs.{List.FoldsTo, List.enumerate_from};
+ghost use Rattle.mime.specs.Values.{MediaType};
 ghost use Rattle.mime_http.specs.Ranking.{IsRanking};
-ghost use Rattle.mime_headers.specs.{Head.bare_lines, Head.heads_of, Inner.choice_now, Inner.medias, Inner.state_now};
-ghost use Rattle.mime_headers.specs.Report.{AddsChoice, AddsEntry, AddsHead, AddsLines, AddsMissing, AddsType, HasBoundary, IsAnswer, IsRead, IsReportOf, asked_by, asks_after, best_row, byte_text, decider, is_plain, fault_rows, is_cut, lacks_text, media_rows, offer_row, offer_rows, row_if, range_row, row_when, spaced_row, verdict_of, weight_text};
+ghost use Rattle.mime_headers.specs.{Head.first_seen, Head.heads_of, Inner.head_now, Inner.item_now, Inner.medias, Inner.ranges_now, Inner.state_now};
+ghost use Rattle.mime_headers.specs.{Head.field_of, Head.is_alone, Inner.field_now};
+ghost use Rattle.mime_headers.specs.Report as Spec;
 
-use crate::head::{
-    Made, bare_lines, heads_of, is_interim, is_spaced, is_status_line, title_of, values_of,
-};
+use crate::field::{Field, Name, field_of, first_seen, seen, values_of};
+use crate::head::{Head, Item, items_in};
+use crate::line::{Made, bare_lines, begins, without_escapes};
 use crate::shown::without_controls;
+use crate::start::{Kind, split_word};
 use mime::Mime;
 use mime_http::{
-    FieldError, RankedOffer, boundary, content_type, first_entry, has_quoted_weight, has_weight,
-    lacked, rank_offers, trimmed, unescape, weight_of,
+    FieldError, RankedOffer, boundary, content_type, first_entry, has_quoted_weight,
+    has_valid_weight, lacked, rank_offers, trimmed, unescape, weight_of,
 };
 use mime_io::LIMIT;
 use std::alloc::{AllocError, Global};
 
-/// A verdict on all `Content-Type` fields of an input, and on the offers. The last head with an `Accept` decides the offers' weights.
+/// A verdict on an input and on the offers.
 #[derive(Clone, Copy, PartialEq, Eq, Debug)]
 pub enum Verdict {
-    /// Each `Content-Type` is accepted. An offer weighs more than 0, or there are no offers.
+    /// Each `Content-Type` is accepted, each response and each request with a weight weighs more than 0, and so does an offer, unless there
+    /// are no offers.
     Acceptable,
-    /// A `Content-Type` is rejected, or there are offers and each weighs 0, for which a server may reply with 406 (RFC 9110, 15.5.7).
+    /// A `Content-Type` is rejected; or a response weighs 0 by its request, or a request by its response (RFC 9110, 15.5.16); or there are
+    /// offers and each weighs 0, for which a server may reply with 406 (15.5.7). The last request with an `Accept` decides the offers' weights.
     NotAcceptable,
 }
 
-/// The ranges of lines of `Accept`, and whether an offer is acceptable or there are no offers. `None` if no head has an `Accept`.
-type Choice = Option<(Vec<Mime>, bool)>;
-
 type Ranking = Vec<RankedOffer>;
 
-/// The ranges by which a response is weighed, if any.
-type Asked<'a> = Option<&'a [Mime]>;
+/// The report and the verdict, or the first line with a field in plain sight if there is no head.
+type Answer = Result<(Vec<u8>, Verdict), Option<(usize, Name)>>;
 
-/// What is known after some heads.
+/// What is known after some items.
 #[derive(Drop)]
 struct Report {
     text: Vec<u8>,
-    /// Whether each `Content-Type` is accepted.
+    /// Whether each `Content-Type` is accepted, and each weight in an exchange is above 0.
     are_good: bool,
-    /// The last choice.
-    choice: Choice,
-    /// Whether `choice` is that of the last request, which no response has answered.
-    asks: bool,
+    /// Whether an offer is acceptable, or there are no offers, by the last request with an `Accept`.
+    choice: Option<bool>,
+    /// The number of requests that wait for a response.
+    waiting: usize,
+    /// The ranges of the request that waits, if one alone does.
+    asked: Option<Vec<Mime>>,
+    /// The only media type of that request.
+    sent: Option<Mime>,
 }
 
-/// Returns the text and the verdict of the report on the heads of an input and on offers, or `None` if the input has no head.
-pub(crate) fn report_of(
-    alloc: Global,
-    input: &[u8],
-    offers: &[Mime],
-) -> Made<Option<(Vec<u8>, Verdict)>>
-    ensures { IfOk result (λ answer. MatchOption answer (heads_of (is_cut input.now) (bare_lines (is_cut input.now) input.now) ≡ [])
-        (λ answer. IsReportOf (map (λ offer. offer.media) offers.now) input.now (vec_items answer.0) answer.1)) }
+/// Returns the text and the verdict of the report on the heads of an input and on offers. If the input has no head, returns the first line
+/// with a field in plain sight.
+pub(crate) fn report_of(alloc: Global, input: Vec<u8>, offers: &[Mime]) -> Made<Answer>
+    ensures { IfOk result (λ answer. MatchResult answer
+        (λ found. Spec.IsReportOf (map (λ offer. offer.media) offers.now) (vec_items input) (vec_items found.0) found.1)
+        (λ line. (heads_of (Spec.items_read (vec_items input)) ≡ []) × (line ≡ first_seen 1 (Spec.lines_read (vec_items input))))) }
 {
     let is_cut = input.len() > LIMIT;
-    let lines = bare_lines(alloc, input, is_cut)?;
-    let heads = heads_of(alloc, &lines, is_cut)?;
-    if heads.is_empty() {
-        return Ok(None);
+    let plain = without_escapes(alloc, input)?;
+    let lines = bare_lines(alloc, &plain, is_cut)?;
+    let items = items_in(alloc, &lines, is_cut)?;
+    let count = head_count(&items);
+    if count == 0 {
+        return Ok(Err(first_seen(&lines)));
     }
     let mut report = Report {
         text: Vec::new(alloc),
         are_good: true,
         choice: None,
-        asks: false,
+        waiting: 0,
+        asked: None,
+        sent: None,
     };
-    let many = heads.len() > 1;
-    for head in &heads {
-        push_head(&mut report, offers, many, head.as_slice())?;
+    for item in &items {
+        push_item(&mut report, offers, count > 1, item)?;
     }
     push_missing(&mut report, offers)?;
-    let text = &mut report.text;
-    push_shown(text, is_cut, b"not read after ", b"1048576 bytes")?;
+    push_shown(
+        &mut report.text,
+        is_cut,
+        b"not read after ",
+        b"1048576 bytes",
+    )?;
     let verdict = verdict_of(&report);
-    Ok(Some((without_controls(alloc, report.text)?, verdict)))
+    Ok(Ok((without_controls(alloc, report.text)?, verdict)))
+}
+
+/// Returns the number of heads.
+fn head_count(items: &[Item]) -> usize
+    ensures { result ≡ length (heads_of (map item_now items.now)) }
+{
+    items
+        .iter()
+        .filter(|item| matches!(item, Item::Head(_)))
+        .count()
 }
 
 /// Returns the verdict of a report.
 fn verdict_of(report: &Report) -> Verdict
-    ensures { result ≡ verdict_of (state_now report.now) }
+    ensures { result ≡ Spec.verdict_of (state_now report.now) }
 {
-    match report.choice {
-        Some((_, true)) | None if report.are_good => Verdict::Acceptable,
-        _ => Verdict::NotAcceptable,
+    if report.are_good && report.choice != Some(false) {
+        return Verdict::Acceptable;
+    }
+    Verdict::NotAcceptable
+}
+
+/// Adds the rows of an item. `many` says whether there are several heads.
+fn push_item(report: &mut Report, offers: &[Mime], many: bool, item: &Item) -> Made<()>
+    ensures { OnOk result (Spec.AddsItem (medias offers.now) many (state_now report.old) (item_now item.now) (state_now report.new)) }
+{
+    match item {
+        Item::Head(head) => push_head(report, offers, many, head),
+        Item::Stray(line) => push_shown(&mut report.text, true, b"not in a head: ", line),
     }
 }
 
 /// Adds the rows of a head. `many` says whether there are several heads.
-fn push_head(report: &mut Report, offers: &[Mime], many: bool, head: &[&[u8]]) -> Made<()>
-    ensures { OnOk result (AddsHead (medias offers.now) many (state_now report.old) (map (λ it. it.now) head.now) (state_now report.new)) }
+fn push_head(report: &mut Report, offers: &[Mime], many: bool, head: &Head) -> Made<()>
+    ensures { OnOk result (Spec.AddsHead (medias offers.now) many (state_now report.old) (head_now head.now) (state_now report.new)) }
 {
     let alloc = *report.text.allocator();
-    let title = title_of(head);
-    let types = values_of(alloc, b"content-type:", head)?;
-    let accepts = values_of(alloc, b"accept:", head)?;
-    let text = &mut report.text;
-    push_shown(text, many, b"head ", title)?;
-    push_spaced(text, head)?;
-    let asked = asked_by(&report.choice, report.asks, title, &types);
-    push_types(text, &mut report.are_good, asked, &types)?;
-    push_shown(text, types.is_empty(), b"no Content-Type", b"")?;
-    let several = b"several Content-Type lines (HTTP allows one)";
-    push_shown(text, types.len() > 1, several, b"")?;
-    report.asks = asks_after(report.asks, title, &accepts);
-    push_choice(report, offers, &accepts)?;
-    Ok(())
-}
-
-/// Returns the ranges by which a head is weighed if it is a response that isn't interim (RFC 9110, 15.2), with one `Content-Type`. So each
-/// `Accept` weighs at most one media type.
-fn asked_by<'a>(choice: &'a Choice, asks: bool, title: &[u8], types: &[Vec<u8>]) -> Asked<'a>
-    ensures { option_map (λ ranges. medias ranges.now) result ≡ asked_by asks (choice_now choice.now) title.now (map vec_items types.now) }
-{
-    let is_answer = asks && is_status_line(title) && !is_interim(title) && types.len() == 1;
-    let choice = choice.as_ref()?;
-    is_answer.then_some(choice.0.as_slice())
-}
-
-/// Returns `true` if the last choice is that of the last request, which is still without an answer after a head.
-fn asks_after(asks: bool, title: &[u8], accepts: &[Vec<u8>]) -> bool
-    ensures { result ≡ asks_after asks title.now (map vec_items accepts.now) }
-{
-    if is_status_line(title) {
-        asks && (is_interim(title) && accepts.is_empty())
-    } else {
-        !accepts.is_empty()
+    let only = push_title_and_types(report, many, head)?;
+    let accepts = values_of(alloc, Name::Accept, head.is_alone(), head.lines())?;
+    let ranges = push_accept(&mut report.text, &accepts)?;
+    match head.kind {
+        Kind::Fields | Kind::Request => push_request(report, offers, ranges, only),
+        Kind::Interim => Ok(()),
+        Kind::Final => push_response(report, ranges),
     }
 }
 
-/// Adds `no Accept`, and the rows of the offers, if there are offers and no head has an `Accept` (RFC 9110, 12.5.1).
+/// Adds the rows of a head up to those of `Content-Type` and of a response's weight. Returns the only media type.
+fn push_title_and_types(report: &mut Report, many: bool, head: &Head) -> Made<Option<Mime>>
+    ensures { IfOk result (λ only. Spec.AddsTypes many (state_now report.old) (head_now head.now) (option_map (λ mime. mime.media) only)
+        (state_now report.new)) }
+{
+    let alloc = *report.text.allocator();
+    let (text, title) = (&mut report.text, head.title());
+    push_shown(text, many, b"head ", title)?;
+    push_remarks(text, &head.texts)?;
+    let types = values_of(alloc, Name::ContentType, head.is_alone(), head.lines())?;
+    let last = push_types(text, &mut report.are_good, &types)?;
+    push_count(text, expects_type(head.kind, title), &types)?;
+    let only = last.filter(|_| types.len() == 1);
+    if matches!(head.kind, Kind::Final) {
+        let asked = report.asked.as_deref();
+        push_weight(text, &mut report.are_good, b"answer ", asked, only.as_ref())?;
+    }
+    Ok(only)
+}
+
+/// Adds the row which says that an expected `Content-Type` isn't there, or that there is more than one.
+fn push_count(text: &mut Vec<u8>, is_expected: bool, types: &[Vec<u8>]) -> Made<()>
+    ensures { OnOk result (vec_items text.new ≡ vec_items text.old ++ Spec.count_row is_expected (map vec_items types.now)) }
+{
+    push_shown(
+        text,
+        is_expected && types.is_empty(),
+        b"no Content-Type",
+        b"",
+    )?;
+    let several = b"several Content-Type lines (HTTP allows one)";
+    push_shown(text, types.len() > 1, several, b"")
+}
+
+/// Returns `true` if a head is a final response with content, by its status.
+fn expects_type(kind: Kind, title: &[u8]) -> bool
+    ensures { result ≡ Spec.expects_type kind title.now }
+{
+    let code = split_word(split_word(title).1).0;
+    matches!(kind, Kind::Final) && code != b"204".as_slice() && code != b"304".as_slice()
+}
+
+/// Adds the row of a media type, weighed like an offer by ranges, and sets `good` to `false` if it weighs 0. Without ranges or a media type,
+/// adds nothing.
+fn push_weight(
+    text: &mut Vec<u8>,
+    good: &mut bool,
+    label: &[u8],
+    ranges: Option<&[Mime]>,
+    media: Option<&Mime>,
+) -> Made<()>
+    ensures { OnOk result ((weighed : List ℕ × Bool)
+        × Spec.IsWeighed label.now (option_map (λ ranges. medias ranges.now) ranges.entry) (option_map (λ mime. mime.now.media) media.entry) weighed
+        × (vec_items text.new ≡ vec_items text.old ++ weighed.0) × (good.new ≡ (good.old && weighed.1))) }
+{
+    if let (Some(ranges), Some(media)) = (ranges, media) {
+        let offers = std::slice::from_ref(media);
+        let ranking = push_offers(text, label, ranges, offers)?;
+        *good = *good && is_acceptable(&ranking);
+    }
+    Ok(())
+}
+
+/// Adds the rows of the offers by a request's ranges, and lets it wait. `only` is its only media type.
+fn push_request(
+    report: &mut Report,
+    offers: &[Mime],
+    ranges: Option<Vec<Mime>>,
+    only: Option<Mime>,
+) -> Made<()>
+    ensures { OnOk result (Spec.AddsRequest (medias offers.now) (ranges_now ranges) (option_map (λ mime. mime.media) only)
+        (state_now report.old) (state_now report.new)) }
+{
+    push_choice(report, offers, ranges.as_deref())?;
+    let is_known = report.waiting == 0;
+    report.waiting += 1;
+    report.asked = ranges.filter(|_| is_known);
+    report.sent = only.filter(|_| is_known);
+    Ok(())
+}
+
+/// Adds the weight of the request that a final response answers, by the response's ranges, and ends a wait.
+fn push_response(report: &mut Report, ranges: Option<Vec<Mime>>) -> Made<()>
+    ensures { OnOk result (Spec.AddsResponse (ranges_now ranges) (state_now report.old) (state_now report.new)) }
+{
+    let (text, good) = (&mut report.text, &mut report.are_good);
+    push_weight(
+        text,
+        good,
+        b"request ",
+        ranges.as_deref(),
+        report.sent.as_ref(),
+    )?;
+    report.waiting = report.waiting.saturating_sub(1);
+    report.asked = None;
+    report.sent = None;
+    Ok(())
+}
+
+/// Adds `no Accept`, and the rows of the offers by `*/*`, if there are offers and no request has an `Accept` (RFC 9110, 12.5.1).
 fn push_missing(report: &mut Report, offers: &[Mime]) -> Made<()>
-    ensures { OnOk result (AddsMissing (medias offers.now) (state_now report.old) (state_now report.new)) }
+    ensures { OnOk result (Spec.AddsMissing (medias offers.now) (state_now report.old) (state_now report.new)) }
 {
     if offers.is_empty() || report.choice.is_some() {
         return Ok(());
     }
-    push(&mut report.text, &[b"no Accept\n"])?;
-    let any = values_of(*report.text.allocator(), b"accept:", &[b"accept:*/*"])?;
-    push_choice(report, offers, &any)
+    let text = &mut report.text;
+    push(text, &[b"no Accept\n"])?;
+    let mut ranges = Vec::new(*text.allocator());
+    push_entry(text, &mut ranges, b"*/*")?;
+    push_choice(report, offers, Some(&ranges))
 }
 
-/// Adds the rows of the lines of `Accept` and of the offers, or nothing if there are no lines.
-fn push_choice(report: &mut Report, offers: &[Mime], lines: &[Vec<u8>]) -> Made<()>
-    ensures { OnOk result (AddsChoice (medias offers.now) (map vec_items lines.now) (state_now report.old) (state_now report.new)) }
+/// Adds the rows of the lines of `Accept`, and returns their ranges, or `None` if there are no lines.
+fn push_accept(text: &mut Vec<u8>, lines: &[Vec<u8>]) -> Made<Option<Vec<Mime>>>
+    ensures { IfOk result (λ ranges. Spec.AddsAccept (map vec_items lines.now) (vec_items text.old) (vec_items text.new, ranges_now ranges)) }
 {
     if lines.is_empty() {
-        return Ok(());
+        return Ok(None);
     }
-    let text = &mut report.text;
     let before = text.len();
     let mut ranges = Vec::new(*text.allocator());
     push_lines(text, &mut ranges, lines)?;
     let is_empty = before == text.len();
     push_shown(text, is_empty, b"empty Accept", b"")?;
-    let ranking = push_offers(text, b"offer ", &ranges, offers)?;
-    let is_acceptable = push_best(text, offers, &ranking)?;
-    report.choice = Some((ranges, is_acceptable));
+    Ok(Some(ranges))
+}
+
+/// Adds the rows of the offers by ranges, if any, and of the best.
+fn push_choice(report: &mut Report, offers: &[Mime], ranges: Option<&[Mime]>) -> Made<()>
+    ensures { OnOk result (Spec.AddsChoice (medias offers.now) (option_map (λ ranges. medias ranges.now) ranges.entry) (state_now report.old)
+        (state_now report.new)) }
+{
+    let Some(ranges) = ranges else {
+        return Ok(());
+    };
+    let text = &mut report.text;
+    let ranking = push_offers(text, b"offer ", ranges, offers)?;
+    push_best(text, offers, &ranking)?;
+    report.choice = Some(is_acceptable(&ranking));
     Ok(())
 }
 
@@ -166,7 +283,7 @@ fn push_choice(report: &mut Report, offers: &[Mime], lines: &[Vec<u8>]) -> Made<
 fn push_offers(text: &mut Vec<u8>, label: &[u8], ranges: &[Mime], offers: &[Mime]) -> Made<Ranking>
     ensures ranking { IfOk result (λ ranking. IsRanking (medias ranges.now) (medias offers.now) (vec_items ranking)) }
     ensures rows { IfOk result (λ ranking. vec_items text.new ≡ vec_items text.old
-        ++ offer_rows label.now (medias ranges.now) (medias offers.now) (vec_items ranking)) }
+        ++ Spec.offer_rows label.now (medias ranges.now) (medias offers.now) (vec_items ranking)) }
 {
     let ranking = rank_offers(*text.allocator(), ranges, offers)?;
     for one in &ranking {
@@ -188,7 +305,7 @@ fn push(text: &mut Vec<u8>, pieces: &[&[u8]]) -> Made<()>
 
 /// Adds a row of a label and bytes, or nothing if `bytes` is `None`.
 fn push_if(text: &mut Vec<u8>, label: &[u8], bytes: Option<&[u8]>) -> Made<()>
-    ensures { OnOk result (vec_items text.new ≡ vec_items text.old ++ row_if label.now (option_map (λ bytes. bytes.now) bytes.entry)) }
+    ensures { OnOk result (vec_items text.new ≡ vec_items text.old ++ Spec.row_if label.now (option_map (λ bytes. bytes.now) bytes.entry)) }
 {
     match bytes {
         Some(bytes) => push(text, &[label, bytes, b"\n"]),
@@ -198,7 +315,7 @@ fn push_if(text: &mut Vec<u8>, label: &[u8], bytes: Option<&[u8]>) -> Made<()>
 
 /// Adds a row of a label and bytes if `is_wanted`. A dot replaces each byte that isn't printable ASCII.
 fn push_shown(text: &mut Vec<u8>, is_wanted: bool, label: &[u8], bytes: &[u8]) -> Made<()>
-    ensures { OnOk result (vec_items text.new ≡ vec_items text.old ++ row_when is_wanted label.now bytes.now) }
+    ensures { OnOk result (vec_items text.new ≡ vec_items text.old ++ Spec.row_when is_wanted label.now bytes.now) }
 {
     if !is_wanted {
         return Ok(());
@@ -211,49 +328,66 @@ fn push_shown(text: &mut Vec<u8>, is_wanted: bool, label: &[u8], bytes: &[u8]) -
     push(text, &[b"\n"])
 }
 
-/// Adds a row for each line with white space between the name `Content-Type` or `Accept` and its colon.
-fn push_spaced(text: &mut Vec<u8>, head: &[&[u8]]) -> Made<()>
-    ensures { OnOk result (vec_items text.new ≡ vec_items text.old ++ flat_map spaced_row (map (λ line. line.now) head.now)) }
+/// Adds a row for each line of a head that isn't one of the two fields as it was sent, or may not be.
+fn push_remarks(text: &mut Vec<u8>, lines: &[&[u8]]) -> Made<()>
+    ensures { OnOk result (vec_items text.new ≡ vec_items text.old
+        ++ flat_map (λ line. Spec.remark_of line (field_of line)) (map (λ line. line.now) lines.now)) }
 {
-    for line in head {
-        let is_wanted = is_spaced(b"content-type", line) || is_spaced(b"accept", line);
-        push_shown(text, is_wanted, b"white space before the colon: ", line)?;
+    for line in lines {
+        push_remark(text, line, field_of(line))?;
     }
     Ok(())
 }
 
-/// Adds the rows of trimmed values of `Content-Type`, weighed by `asked`, if any. Sets `good` to `false` if a value is rejected.
-fn push_types(text: &mut Vec<u8>, good: &mut bool, asked: Asked, values: &[Vec<u8>]) -> Made<()>
-    ensures { OnOk result (FoldsTo (AddsType (option_map (λ ranges. medias ranges.now) asked.entry))
-        (vec_items text.old, good.old) (map vec_items values.now) (vec_items text.new, good.new)) }
+/// Adds the row of a line if it isn't one of the two fields as it was sent, or may not be. `field` is the line as a field.
+fn push_remark(text: &mut Vec<u8>, line: &[u8], field: Option<Field>) -> Made<()>
+    ensures { OnOk result (vec_items text.new ≡ vec_items text.old ++ Spec.remark_of line.now (option_map field_now field.entry)) }
 {
+    match field {
+        None => push_shown(text, seen(line).is_some(), b"not in a head: ", line),
+        Some(field) => {
+            push_shown(
+                text,
+                field.is_spaced,
+                b"white space before the colon: ",
+                line,
+            )?;
+            let is_wanted = !field.is_spaced && is_altered(field.value);
+            push_shown(text, is_wanted, b"perhaps not as sent: ", line)
+        }
+    }
+}
+
+/// Returns `true` if a value is as a tool prints it: in quotes, or with a byte at its end for a carriage return.
+fn is_altered(value: &[u8]) -> bool
+    ensures { result ≡ Spec.is_altered value.now }
+{
+    let ends: [&[u8]; 5] = [b".", b"$", b"^M", b"\\r", b"\\n"];
+    begins(b"'", value) || ends.iter().any(|end| value.ends_with(end))
+}
+
+/// Adds the rows of trimmed values of `Content-Type`, and returns the last media type. Sets `good` to `false` if a value is rejected.
+fn push_types(text: &mut Vec<u8>, good: &mut bool, values: &[Vec<u8>]) -> Made<Option<Mime>>
+    ensures { IfOk result (λ last. FoldsTo Spec.AddsType (vec_items text.old, good.old, None) (map vec_items values.now)
+        (vec_items text.new, good.new, option_map (λ mime. mime.media) last)) }
+{
+    let mut last = None;
     for value in values {
         let Some(mime) = read(text, b"bad Content-Type ", trimmed(value))? else {
             *good = false;
             continue;
         };
         push_media(text, &mime)?;
-        push_answer(text, asked, mime)?;
+        last = Some(mime);
     }
-    Ok(())
-}
-
-/// Adds the row of a response's media type, weighed like an offer by `asked`, or nothing if `asked` is `None`.
-fn push_answer(text: &mut Vec<u8>, asked: Asked, mime: Mime) -> Made<()>
-    ensures { OnOk result ((answer : List ℕ) × IsAnswer (option_map (λ ranges. medias ranges.now) asked.entry) mime.media answer
-        × (vec_items text.new ≡ vec_items text.old ++ answer)) }
-{
-    if let Some(ranges) = asked {
-        let _ranking = push_offers(text, b"answer ", ranges, &[mime])?;
-    }
-    Ok(())
+    Ok(last)
 }
 
 /// Reads a value of a field. If it is rejected, adds the rows of its fault and returns `None`.
 fn read(text: &mut Vec<u8>, label: &[u8], value: &[u8]) -> Made<Option<Mime>>
     ensures { IfOk result (λ found. MatchOption found
-        ((error : FieldError) × IsRead value.now (Err error) × (vec_items text.new ≡ vec_items text.old ++ fault_rows label.now value.now error))
-        (λ mime. IsRead value.now (Ok mime.media) × (vec_items text.new ≡ vec_items text.old))) }
+        ((error : FieldError) × Spec.IsRead value.now (Err error) × (vec_items text.new ≡ vec_items text.old ++ Spec.fault_rows label.now value.now error))
+        (λ mime. Spec.IsRead value.now (Ok mime.media) × (vec_items text.new ≡ vec_items text.old))) }
 {
     match content_type(*text.allocator(), value) {
         Ok(mime) => Ok(Some(mime)),
@@ -267,8 +401,8 @@ fn read(text: &mut Vec<u8>, label: &[u8], value: &[u8]) -> Made<Option<Mime>>
 
 /// Adds the rows of a media type.
 fn push_media(text: &mut Vec<u8>, mime: &Mime) -> Made<()>
-    ensures { OnOk result ((boundary : Option (List ℕ)) × HasBoundary mime.now.media boundary
-        × (vec_items text.new ≡ vec_items text.old ++ media_rows mime.now.media boundary)) }
+    ensures { OnOk result ((boundary : Option (List ℕ)) × Spec.HasBoundary mime.now.media boundary
+        × (vec_items text.new ≡ vec_items text.old ++ Spec.media_rows mime.now.media boundary)) }
 {
     push_if(text, b"Content-Type ", Some(mime.as_str().as_bytes()))?;
     push_if(text, b"essence ", Some(mime.essence_str().as_bytes()))?;
@@ -287,7 +421,7 @@ fn push_media(text: &mut Vec<u8>, mime: &Mime) -> Made<()>
 /// Adds the rows of a rejected value of a field.
 #[tactic(auto, using(std::proofs::Common::append_assoc))]
 fn push_fault(text: &mut Vec<u8>, label: &[u8], value: &[u8], error: FieldError) -> Made<()>
-    ensures { OnOk result (vec_items text.new ≡ vec_items text.old ++ fault_rows label.now value.now error) }
+    ensures { OnOk result (vec_items text.new ≡ vec_items text.old ++ Spec.fault_rows label.now value.now error) }
 {
     let said = format!(in *text.allocator(); "{error}")?;
     push(text, &[label, said.as_bytes(), b"\n"])?;
@@ -311,7 +445,7 @@ fn byte_at(value: &[u8], at: usize) -> Option<u8>
 
 /// Adds a byte, if there is one, as a person reads it, and in hexadecimal. Adds a remark if it is `(`, which begins a comment in mail.
 fn push_byte(text: &mut Vec<u8>, byte: Option<u8>) -> Made<()>
-    ensures { OnOk result (vec_items text.new ≡ vec_items text.old ++ unwrap_or (option_map byte_text byte) []) }
+    ensures { OnOk result (vec_items text.new ≡ vec_items text.old ++ unwrap_or (option_map Spec.byte_text byte) []) }
 {
     let Some(byte) = byte else {
         return Ok(());
@@ -333,7 +467,7 @@ fn push_byte(text: &mut Vec<u8>, byte: Option<u8>) -> Made<()>
 
 /// Adds the rows of each entry in lines of `Accept`, and pushes the ranges to `ranges`.
 fn push_lines(text: &mut Vec<u8>, ranges: &mut Vec<Mime>, lines: &[Vec<u8>]) -> Made<()>
-    ensures { OnOk result (AddsLines (map vec_items lines.now) (vec_items text.old, medias (vec_items ranges.old))
+    ensures { OnOk result (Spec.AddsLines (map vec_items lines.now) (vec_items text.old, medias (vec_items ranges.old))
         (vec_items text.new, medias (vec_items ranges.new))) }
 {
     for line in lines {
@@ -352,7 +486,7 @@ fn push_lines(text: &mut Vec<u8>, ranges: &mut Vec<Mime>, lines: &[Vec<u8>]) -> 
 
 /// Adds the rows of an entry that isn't empty, and pushes it to `ranges` if it is a range.
 fn push_entry(text: &mut Vec<u8>, ranges: &mut Vec<Mime>, entry: &[u8]) -> Made<()>
-    ensures { OnOk result (AddsEntry (vec_items text.old, medias (vec_items ranges.old)) entry.now
+    ensures { OnOk result (Spec.AddsEntry (vec_items text.old, medias (vec_items ranges.old)) entry.now
         (vec_items text.new, medias (vec_items ranges.new))) }
 {
     if entry.is_empty() {
@@ -367,7 +501,7 @@ fn push_entry(text: &mut Vec<u8>, ranges: &mut Vec<Mime>, entry: &[u8]) -> Made<
 
 /// Adds the row of a range that is read of an entry.
 fn push_range(text: &mut Vec<u8>, entry: &[u8], range: &Mime) -> Made<()>
-    ensures { OnOk result (vec_items text.new ≡ vec_items text.old ++ range_row entry.now range.now.media) }
+    ensures { OnOk result (vec_items text.new ≡ vec_items text.old ++ Spec.range_row entry.now range.now.media) }
 {
     let weight = decimals(weight_of(range));
     push(
@@ -384,14 +518,14 @@ fn push_range(text: &mut Vec<u8>, entry: &[u8], range: &Mime) -> Made<()>
 /// Returns `true` if an entry has a weight as RFC 9110 allows it (12.4.2), or none. `range` is what is read of the entry.
 #[tactic(auto, unfolding(crate::specs::Report::is_plain))]
 fn is_plain(entry: &[u8], range: &Mime) -> bool
-    ensures { result ≡ is_plain entry.now range.now.media }
+    ensures { result ≡ Spec.is_plain entry.now range.now.media }
 {
-    has_weight(range) && !has_quoted_weight(entry)
+    has_valid_weight(range) && !has_quoted_weight(entry)
 }
 
 /// Returns a weight in thousandths as a number with three decimals.
 fn decimals(weight: u16) -> [u8; 5]
-    ensures { result ≡ weight_text weight }
+    ensures { result ≡ Spec.weight_text weight }
 {
     let digit = |rest: u16| b'0' + (rest % 10) as u8;
     let (tenth, hundredth) = (digit(weight / 100), digit(weight / 10));
@@ -407,7 +541,7 @@ fn push_offer(
     offer: Option<&Mime>,
 ) -> Made<()>
     ensures { OnOk result (vec_items text.new ≡ vec_items text.old
-        ++ offer_row label.now (medias ranges.now) one.now (option_map (λ offer. offer.now.media) offer.entry)) }
+        ++ Spec.offer_row label.now (medias ranges.now) one.now (option_map (λ offer. offer.now.media) offer.entry)) }
 {
     let Some(offer) = offer else {
         return Ok(());
@@ -428,7 +562,7 @@ fn push_offer(
 
 /// Returns the range that decides the weight of an offer, with its position, or `None` if none does.
 fn decider<'r>(ranges: &'r [Mime], one: &RankedOffer) -> Option<(usize, &'r Mime)>
-    ensures { option_map (λ item. (item.0, item.1.now.media)) result ≡ decider (medias ranges.now) one.now }
+    ensures { option_map (λ item. (item.0, item.1.now.media)) result ≡ Spec.decider (medias ranges.now) one.now }
 {
     let at = one.range?;
     Some((at, ranges.get(at)?))
@@ -437,7 +571,7 @@ fn decider<'r>(ranges: &'r [Mime], one: &RankedOffer) -> Option<(usize, &'r Mime
 /// Adds each range that would decide the weight of an offer if the offer didn't lack a parameter.
 fn push_lacked(text: &mut Vec<u8>, ranges: &[Mime], by: Option<&Mime>, offer: &Mime) -> Made<()>
     ensures { OnOk result (vec_items text.new ≡ vec_items text.old
-        ++ flat_map (lacks_text offer.now.media (option_map (λ range. range.now.media) by.entry)) (enumerate_from 0 (medias ranges.now))) }
+        ++ flat_map (Spec.lacks_text offer.now.media (option_map (λ range. range.now.media) by.entry)) (enumerate_from 0 (medias ranges.now))) }
 {
     for (at, range) in ranges.iter().enumerate() {
         if let Some((name, value)) = lacked(range, by, offer) {
@@ -458,17 +592,23 @@ fn nth(mimes: &[Mime], at: usize) -> Option<&Mime>
     mimes.get(at)
 }
 
-/// Adds the row of the best offer, or of 406 if none is acceptable, or nothing if there are none. Returns `false` if it adds that of 406.
-fn push_best(text: &mut Vec<u8>, offers: &[Mime], ranking: &[RankedOffer]) -> Made<bool>
-    ensures rows { OnOk result (vec_items text.new ≡ vec_items text.old ++ (best_row (medias offers.now) ranking.now).0) }
-    ensures acceptable { IfOk result (λ acceptable. acceptable ≡ (best_row (medias offers.now) ranking.now).1) }
+/// Returns `true` if the best offer of a ranking weighs more than 0, or the ranking is empty.
+fn is_acceptable(ranking: &[RankedOffer]) -> bool
+    ensures { (offers : List MediaType) → result ≡ (Spec.best_row offers ranking.now).1 }
+{
+    ranking.first().is_none_or(|best| best.weight > 0)
+}
+
+/// Adds the row of the best offer, or of 406 if none is acceptable, or nothing if there are none.
+fn push_best(text: &mut Vec<u8>, offers: &[Mime], ranking: &[RankedOffer]) -> Made<()>
+    ensures { OnOk result (vec_items text.new ≡ vec_items text.old ++ (Spec.best_row (medias offers.now) ranking.now).0) }
 {
     match ranking.first() {
-        None => Ok(true),
-        Some(first) if first.weight == 0 => push(text, &[b"406 Not Acceptable\n"]).map(|()| false),
+        None => Ok(()),
+        Some(first) if first.weight == 0 => push(text, &[b"406 Not Acceptable\n"]),
         Some(first) => {
             let best = nth(offers, first.offer).map(|best| best.as_str().as_bytes());
-            push_if(text, b"best ", best).map(|()| true)
+            push_if(text, b"best ", best)
         }
     }
 }

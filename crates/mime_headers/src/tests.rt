@@ -1,6 +1,6 @@
 //! Tests of the calls that a run makes, which no clause states. The reports on heads are tested by vectors/ and tools/program.
 
-use crate::{Verdict, run};
+use crate::{HeadError, Verdict, run};
 use mime_io::{Calls, RunError};
 use std::process::Abort;
 
@@ -10,12 +10,12 @@ const REPORT: &[u8] = b"no Content-Type\nAccept 1.000 a/b\n";
 
 #[test]
 fn makes_these_calls_alone(rt: HostRuntime) {
-    let cases: [(&[u8], &[u8], Result<Verdict, RunError>); 5] = [
+    let cases: [(&[u8], &[u8], Result<Verdict, HeadError>); 5] = [
         (b"rr", b"wf", Ok(Verdict::Acceptable)),
-        (b"x", b"", Err(RunError::Read)),
-        (b"rx", b"", Err(RunError::Read)),
-        (b"rr", b"x", Err(RunError::Write)),
-        (b"rr", b"wx", Err(RunError::Write)),
+        (b"x", b"", Err(HeadError::Run(RunError::Read))),
+        (b"rx", b"", Err(HeadError::Run(RunError::Read))),
+        (b"rr", b"x", Err(HeadError::Run(RunError::Write))),
+        (b"rr", b"wx", Err(HeadError::Run(RunError::Write))),
     ];
     for (at, (reads, writes, answer)) in cases.iter().enumerate() {
         let mut source = Calls::device(reads, HEAD, REPORT);

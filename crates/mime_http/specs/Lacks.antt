@@ -2,7 +2,7 @@
 use Rattle.std.specs.Prelude.{ℕ, Bool, true, false, List, [], ◌∷◌, codes, length, take, Option, Some, None, find, nat_lt, not, option_and_then, option_map, ◌&&◌, ◌==◌, ◌||◌, if◌then◌else◌}
 use Rattle.std.specs.{Str.str_eq_ignore_ascii_case}
 use Rattle.mime.specs.{Bytes.backslash_byte, Bytes.quote_byte, Bytes.semicolon_byte, Values.MediaType}
-use Rattle.mime_http.specs.{HttpList.trimmed, Ranges.demanded, Ranges.has, Ranges.named_parts}
+use Rattle.mime_http.specs.{HttpList.trim_start, Ranges.demanded, Ranges.has, Ranges.named_parts}
 
 -- how specific a range is that names an offer's essence: how many of its parts it names, and how many parameters it demands
 abbrev pub specificity : MediaType → MediaType → Option (ℕ × ℕ)
@@ -28,5 +28,5 @@ begins label bytes = str_eq_ignore_ascii_case (take (length label) bytes) label
 abbrev pub is_quoted : Bool → Bool → List ℕ → Bool
 is_quoted inside paired [] = false
 is_quoted inside paired (b ∷ bytes) =
-    if not (inside || paired) && (b == semicolon_byte && begins (codes "q=") (trimmed bytes)) then begins (codes "q=\"") (trimmed bytes)
+    if not (inside || paired) && (b == semicolon_byte && begins (codes "q=") (trim_start bytes)) then begins (codes "q=\"") (trim_start bytes)
     else is_quoted (if b == quote_byte && not paired then not inside else inside) (b == backslash_byte && not paired) bytes

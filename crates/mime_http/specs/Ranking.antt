@@ -1,8 +1,8 @@
--- Why an offer is chosen: its weight, the range that decides, and a range of which it lacks a parameter (RFC 9110, 12.4.2 and 12.5.1).
-use Rattle.std.specs.Prelude.{◌≡◌, ◌↔◌, ◌<◌, ℕ, ◌-◌, Bool, true, false, List, [], ◌∷◌, length, Some, None, Contains, is_some, map, nat_lt, not, ◌&&◌, ◌||◌, ◌==◌, if◌then◌else◌}
-use Rattle.std.specs.{Char.is_ascii_digit, List.list_all, List.AllPairs, Str.bytes_eq}
+-- Why an offer is chosen: its weight, and the range that decides (RFC 9110, 12.4.2 and 12.5.1).
+use Rattle.std.specs.Prelude.{◌≡◌, ◌↔◌, ◌<◌, ℕ, ◌-◌, Bool, true, false, List, [], ◌∷◌, length, Some, None, Contains, map, nat_lt, not, ◌&&◌, ◌||◌, ◌==◌, if◌then◌else◌}
+use Rattle.std.specs.{Char.is_ascii_digit, List.list_all, List.AllPairs}
 use Rattle.mime.specs.Values.{MediaType}
-use Rattle.mime_http.specs.{Ranges.Rank, Ranges.ComesBefore, Ranges.closeness, Ranges.merit_at, declared.ranking.RankedOffer.RankedOffer}
+use Rattle.mime_http.specs.{Ranges.Rank, Ranges.ComesBefore, Ranges.merit_at, declared.ranking.RankedOffer.RankedOffer}
 
 -- what the rank of an offer at a position says: its weight, and the position of the range that decides, which the rank counts from the end
 abbrev pub ranked_as : ℕ → Rank → ℕ → RankedOffer
@@ -14,10 +14,6 @@ pub record IsRanking (ranges offers : List MediaType) (ranking : List RankedOffe
   pub best_first : AllPairs (ComesBefore (merit_at ranges offers)) order
   pub all : (at : ℕ) → Contains order at ↔ (at < length offers)
   pub given : ranking ≡ map (λ at. ranked_as (length ranges) (merit_at ranges offers at) at) order
-
--- a range names an offer's essence, but demands a parameter that the offer lacks
-abbrev pub is_lacking : MediaType → MediaType → Bool
-is_lacking offer range = bytes_eq range.essence offer.essence && not (is_some (closeness offer (0, range)))
 
 -- qvalue = ( "0" [ "." 0*3DIGIT ] ) / ( "1" [ "." 0*3("0") ] )
 abbrev pub are_decimals : Bool → List ℕ → Bool

@@ -3,7 +3,7 @@
 ghost use Rattle.std.specs.Prelude.{◌≡◌, false, find, length, not, option_map};
 ghost use Rattle.mime_http.specs.{Lacks.begins, Lacks.is_quoted, Lacks.lacked, Lacks.specificity, Ranges.demanded, Ranges.has};
 
-use crate::list::trimmed;
+use crate::list::trim_start;
 use crate::range::{has, named_parts, param_count};
 use mime::{Mime, Name};
 
@@ -43,8 +43,9 @@ fn specificity(offer: &Mime, range: &Mime) -> Option<(u8, usize)>
     Some((named, demanded_count(range)))
 }
 
-/// Returns the first parameter, other than `q`, that a range demands and an offer lacks, if the range would decide the offer's weight with it:
-/// the range matches the offer's essence, and is more specific than `decider`, the range that decides, if there is one (RFC 9110, 12.5.1).
+/// Returns the first parameter, other than `q`, that a range demands and an offer lacks, if the range matches the offer's essence and is more
+/// specific than `decider`, the range that decides the offer's weight, if there is one (RFC 9110, 12.5.1). The range may lack further
+/// parameters, too.
 /// For the range `text/html;level=1`, the decider `text/*` and the offer `text/html`, this returns `level` and `1`.
 pub fn lacked<'r>(
     range: &'r Mime,
@@ -76,8 +77,11 @@ pub fn has_quoted_weight(entry: &[u8]) -> bool
     let mut is_inside = false;
     let mut is_paired = false;
     for (at, &byte) in entry.iter().enumerate() {
-        if !(is_inside || is_paired) && byte == b';' && begins(b"q=", trimmed(&entry[at + 1..])) {
-            return begins(b"q=\"", trimmed(&entry[at + 1..]));
+        if !(is_inside || is_paired) && byte == b';' {
+            let rest = trim_start(&entry[at + 1..]);
+            if begins(b"q=", rest) {
+                return begins(b"q=\"", rest);
+            }
         }
         if byte == b'"' && !is_paired {
             is_inside = !is_inside;

@@ -116,7 +116,7 @@ pub fn meaning_counts()
     ensures { MeaningCounts }
 {}
 
-/// `has_weight` tests the value of `q` for exactly the weights that RFC 9110 allows (12.4.2).
+/// `has_valid_weight` tests the value of `q` for exactly the weights that RFC 9110 allows (12.4.2).
 pub fn qvalues_are()
     ensures { QvaluesAre }
 {}

@@ -3,8 +3,12 @@
 //!
 //! [`content_type`] reads the value of a header such as `Content-Type`. [`Accept`] reads the lines of an `Accept` header, weighs a server's
 //! offers, and returns the best offer, or all acceptable offers in order. [`covers`] and [`weight_of`] examine a single range.
-//! [`rank_offers`] and [`lacking`] explain a choice. [`with_parameter`], [`with_charset`] and [`with_boundary`] write parameters.
-//! [`first_value`], [`boundary`] and [`unescape`] read them. [`laws`] states facts about all values.
+//! [`with_parameter`], [`with_charset`] and [`with_boundary`] write parameters. [`first_value`], [`boundary`] and [`unescape`] read them.
+//! [`laws`] states facts about all values.
+//!
+//! Some calls explain a choice to a person, as the program `mime_headers` does. [`rank_offers`] returns the range that decides each weight, and
+//! [`lacked`] the parameter that keeps a range from deciding. [`first_entry`] and [`trimmed`] cut a line into its entries, so that a report
+//! shows each. [`has_valid_weight`] and [`has_quoted_weight`] test whether HTTP allows an entry's `q`.
 //!
 //! # Example
 //! A server checks two headers of a request. It accepts a body whose `Content-Type` is ` application/json ;; charset=utf-8`.
@@ -66,5 +70,5 @@ pub use crate::multipart::{boundary, is_boundary};
 pub use crate::parameter::{with_boundary, with_charset, with_parameter};
 pub use crate::quoted::unescape;
 pub use crate::range::{covers, first_value, weight_of};
-pub use crate::ranking::{RankedOffer, first_entry, has_weight, lacking, rank_offers};
+pub use crate::ranking::{RankedOffer, first_entry, has_valid_weight, rank_offers};
 pub use crate::value::{FieldError, content_type};

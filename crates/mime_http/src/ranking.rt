@@ -1,14 +1,14 @@
 //! Explains why an offer is chosen: ranks all offers, finds the range that decides each weight, and tests weights. Splits a line into
 //! entries.
 
-ghost use Rattle.std.specs.Prelude.{◌≡◌, ◌++◌, ◌∷◌, ◌==◌, ◌||◌, ◌&&◌, not, map, option_map, unwrap_or, true, position, codes, IfOk, MatchOption};
+ghost use Rattle.std.specs.Prelude.{◌≡◌, ◌++◌, ◌∷◌, ◌==◌, ◌||◌, ◌&&◌, not, map, option_map, unwrap_or, true, codes, IfOk, MatchOption};
 ghost use Rattle.std.specs.{Char.is_ascii_digit, List.list_all, Vec.vec_items};
 ghost use Rattle.mime.specs.Bytes.{comma_byte};
-ghost use Rattle.mime_http.specs.{HttpList.IsPiece, HttpList.BeginsPiece, Ranges.first_value, Ranking.is_qvalue, Ranking.is_lacking, Ranking.IsRanking};
+ghost use Rattle.mime_http.specs.{HttpList.IsPiece, HttpList.BeginsPiece, Ranges.first_value, Ranking.is_qvalue, Ranking.IsRanking};
 
 use crate::list::piece_end;
 use crate::offers::ranked;
-use crate::range::{covers, first_value};
+use crate::range::first_value;
 use mime::Mime;
 use std::alloc::{AllocError, Global};
 use std::cmp::Reverse;
@@ -45,15 +45,6 @@ pub fn rank_offers(
     offers.collect(alloc)
 }
 
-/// Returns the position of the first range that has an offer's essence, but demands a parameter that the offer lacks, or `None` if there is
-/// no such range. The offer `application/json` lacks a parameter of the range `application/json; charset=utf-8`.
-pub fn lacking(ranges: &[Mime], offer: &Mime) -> Option<usize>
-    ensures { result ≡ position (is_lacking offer.now.media) (map (λ range. range.media) ranges.now) }
-{
-    let essence = offer.essence_str();
-    ranges.iter().position(|range| range.essence_str() == essence && !covers(range, offer))
-}
-
 /// Returns `true` if all bytes are digits. If `zeros_alone` is `true`, all must be zeros.
 fn are_digits(zeros_alone: bool, bytes: &[u8]) -> bool
     ensures { result ≡ list_all (λ b. b == 48 || (not zeros_alone && is_ascii_digit b)) bytes.now }
@@ -76,7 +67,7 @@ fn is_qvalue(bytes: &[u8]) -> bool
 /// Returns `true` if a range has no weight, or one that RFC 9110 allows (12.4.2) or would allow without its quotes. Returns `false` for the
 /// weights `high`, `1.5` and `0.0001`, though [`weight_of`](crate::weight_of) reads them. A quoted weight, `q="0.5"`, isn't told from
 /// `q=0.5`, since the text of a range that was written anew has lost its quotes.
-pub fn has_weight(range: &Mime) -> bool
+pub fn has_valid_weight(range: &Mime) -> bool
     ensures { result ≡ unwrap_or (option_map is_qvalue (first_value (codes "q") range.now.media.pairs)) true }
 {
     match first_value(range, "q") {

@@ -1,7 +1,8 @@
 -- Lines, rows and errors for which each definition is true, and others for which it is false, so that a definition that says less or more
 -- doesn't check.
 use Rattle.std.proofs.Common.{◌≡◌, ◌*◌, [], ◌∷◌, map, refl, codes}
-use Rattle.mime_io.specs.{declared.error.RunError.TheVariants.Read, declared.error.RunError.TheVariants.Write, declared.error.RunError.TheVariants.TooLong, declared.error.RunError.TheVariants.NoHead, declared.error.RunError.TheVariants.NoMemory, Lines.lines_of, Lines.row, Lines.suffix_row, Stops.limit, Stops.stop_text}
+use Rattle.mime_io.specs.declared.error.RunError.TheVariants.{Read, Write, TooLong, NoMemory}
+use Rattle.mime_io.specs.{Lines.lines_of, Lines.row, Lines.suffix_row, Stops.limit, Stops.stop_text}
 use Rattle.std.specs.Prelude.{Some, None}
 
 -- No bytes have no line.
@@ -35,6 +36,5 @@ limit_of_input = refl
 
 -- Each error prints its words.
 printed_errors :
-    map stop_text (Read ∷ Write ∷ TooLong ∷ NoHead ∷ NoMemory ∷ []) ≡ codes "read" ∷ codes "write" ∷ codes "too long" ∷ codes "no head"
-    ∷ codes "no memory" ∷ []
+    map stop_text (Read ∷ Write ∷ TooLong ∷ NoMemory ∷ []) ≡ codes "read" ∷ codes "write" ∷ codes "too long" ∷ codes "no memory" ∷ []
 printed_errors = refl

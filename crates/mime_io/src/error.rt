@@ -14,8 +14,6 @@ pub enum RunError {
     Write,
     /// The source has more than 1,048,576 bytes.
     TooLong,
-    /// The input has no head, as of a request, a response or a mail.
-    NoHead,
     /// Memory ran out.
     NoMemory,
 }
@@ -29,7 +27,6 @@ impl RunError {
             RunError::Read => "read",
             RunError::Write => "write",
             RunError::TooLong => "too long",
-            RunError::NoHead => "no head",
             RunError::NoMemory => "no memory",
         }
     }

@@ -32,9 +32,8 @@ pub fn read_to_limit<S: Source>(alloc: Global, source: &mut S) -> Result<Vec<u8>
     // If the result is `TooLong`, the source had one byte more than the limit.
     ensures too_long { result ≡ Err RunError.TooLong
         → (bytes : List ℕ) × Consumes (S.left source.old) (S.left source.new) bytes × (length bytes ≡ limit + 1) }
-    // The result is never `Write` or `NoHead`.
+    // The result is never `Write`.
     ensures no_write { result ≢ Err RunError.Write }
-    ensures no_head { result ≢ Err RunError.NoHead }
 {
     read(alloc, source, LIMIT)
 }
@@ -51,10 +50,9 @@ pub fn read_past_limit<S: Source>(alloc: Global, source: &mut S) -> Result<Vec<u
     // The source fails exactly if the result is `Read`.
     ensures read { result ≡ Err RunError.Read → S.has_failed source.new ≡ true }
     ensures unfailed { result ≢ Err RunError.Read → S.has_failed source.new ≡ S.has_failed source.old }
-    // The result is never `Write`, `TooLong` or `NoHead`.
+    // The result is never `Write` or `TooLong`.
     ensures no_write { result ≢ Err RunError.Write }
     ensures no_too_long { result ≢ Err RunError.TooLong }
-    ensures no_head { result ≢ Err RunError.NoHead }
 {
     read(alloc, source, LIMIT + 1)
 }
@@ -72,7 +70,6 @@ fn read<S: Source>(alloc: Global, source: &mut S, most: usize) -> Result<Vec<u8>
     ensures too_long { result ≡ Err RunError.TooLong
         → (most ≡ limit) × (bytes : List ℕ) × Consumes (S.left source.old) (S.left source.new) bytes × (length bytes ≡ limit + 1) }
     ensures no_write { result ≢ Err RunError.Write }
-    ensures no_head { result ≢ Err RunError.NoHead }
 {
     let mut input = Vec::new(alloc);
     let mut block = [0u8; AT_ONCE];

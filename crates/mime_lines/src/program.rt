@@ -37,8 +37,6 @@ pub fn run<S: Source, T: Sink>(
     // If the result is `TooLong`, the source had one byte more than the limit.
     ensures too_long { result ≡ Err RunError.TooLong
         → (bytes : List ℕ) × Consumes (S.left source.old) (S.left source.new) bytes × (length bytes ≡ limit + 1) }
-    // The result is never `NoHead`.
-    ensures no_head { result ≢ Err RunError.NoHead }
     // Nothing is written before the report is complete.
     ensures untouched { IfErr result (λ error. error ≢ RunError.Write → sink.new ≡ sink.old) }
 {

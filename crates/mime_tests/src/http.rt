@@ -3,7 +3,7 @@
 use crate::fields::string_at;
 use crate::values::{read, read_or_not};
 use mime::Mime;
-use mime_http::{Accept, boundary, first_value, lacked, lacking, rank_offers, unescape};
+use mime_http::{Accept, boundary, first_value, lacked, rank_offers, unescape};
 use std::alloc::{AllocError, Global};
 use std::fmt::{Display, Write};
 
@@ -156,15 +156,6 @@ pub(crate) fn show_lacked(
     };
     show(out, &name);
     show(out, &value);
-}
-
-/// Shows the position of the first range with a parameter that the first offer lacks, or `none`.
-pub(crate) fn show_lacking(alloc: Global, out: &mut String, strings: &[String]) {
-    if let Ok((accept, offers)) = request_of(alloc, strings)
-        && let Some(offer) = offers.first()
-    {
-        show_option(out, lacking(accept.ranges(), offer));
-    }
 }
 
 /// Shows positions, in their order.

@@ -120,7 +120,6 @@ fn show_of_headers(alloc: Global, out: &mut String, word: &str, strings: &[Strin
         "has_quoted_weight" => show(out, &has_quoted_weight(one.as_bytes())),
         "is_boundary" => show(out, &is_boundary(one.as_bytes())),
         "lacked" => http::show_lacked(alloc, out, one, two, three),
-        "lacking" => http::show_lacking(alloc, out, strings),
         "order" => http::show_order(alloc, out, strings),
         "rank_offers" => http::show_ranking(alloc, out, strings),
         "trimmed" => show(out, &shown(trimmed(one.as_bytes()))),

@@ -1,7 +1,7 @@
--- The heads so far are added.
-use Rattle.mime_headers.proofs.Common.{AddsHead, FoldsTo, None, [], false, lines_now, map, medias, state_now, take, true}
+-- The items so far are added.
+use Rattle.mime_headers.proofs.Common.{AddsItem, FoldsTo, item_now, map, medias, nat_lt, start, state_now, take}
 use Rattle.mime_headers.proofs.report.report_of.Given as goal
 
-abbrev pub invariant-loop-head : goal.invariant-loop-head
-invariant-loop-head l = FoldsTo (AddsHead (medias l.fn.offers) l.many) (record { text = []; are_good = true; choice = None; asks = false })
-    (map lines_now (take l.head-index l.head-items)) (state_now l.report)
+abbrev pub invariant-loop-item : goal.invariant-loop-item
+invariant-loop-item l = FoldsTo (AddsItem (medias l.fn.offers) (nat_lt 1 l.count)) start (map item_now (take l.item-index l.item-items))
+    (state_now l.report)

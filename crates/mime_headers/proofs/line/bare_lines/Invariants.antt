@@ -1,6 +1,6 @@
 -- The lines so far, and those that are left, are all.
 use Rattle.mime_headers.proofs.Common.{bare, length, lines_now, lines_of, map, ◌++◌, ◌≡◌}
-use Rattle.mime_headers.proofs.head.bare_lines.Given as goal
+use Rattle.mime_headers.proofs.line.bare_lines.Given as goal
 
 abbrev pub invariant-loop-line : goal.invariant-loop-line
 invariant-loop-line l = lines_now l.lines ++ map bare (lines_of l.rest) ≡ map bare (lines_of l.initial.rest)

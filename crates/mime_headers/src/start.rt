@@ -1,0 +1,123 @@
+//! Start lines: request lines and status lines.
+
+ghost use Rattle.std.specs.Prelude.{◌≡◌, ◌==◌, ◌&&◌, not, length, option_map};
+ghost use Rattle.std.specs.{Char.is_ascii_digit, List.before_first, List.after_first, List.list_all};
+ghost use Rattle.mime.specs.Bytes.{is_token_byte};
+ghost use Rattle.mime_headers.specs.Head.{has_authority, is_request_line, is_start, is_status_line, is_target, is_version, kind_of, mark_before};
+
+use crate::line::{begins, signed, trim_start};
+use mime_search::{Class, first_stop};
+
+/// The kind of a head.
+#[derive(Clone, Copy, PartialEq, Eq, Debug)]
+pub(crate) enum Kind {
+    /// Fields without a start line, such as those of a mail.
+    Fields,
+    Request,
+    /// A response with a code from 100 to 199, after which another response follows (RFC 9110, 15.2).
+    Interim,
+    /// Any other response.
+    Final,
+}
+
+/// Returns what is before the first space, and what follows it. Without a space, returns all bytes and an empty slice.
+pub(crate) fn split_word(bytes: &[u8]) -> (&[u8], &[u8])
+    ensures before { result.0.now ≡ before_first (λ b. b == 32) bytes.now }
+    ensures after { result.1.now ≡ after_first (λ b. b == 32) bytes.now }
+{
+    let at = first_stop(bytes, 0, &Class::of(b' ', b' '));
+    (&bytes[..at], &bytes[(at + 1).min(bytes.len())..])
+}
+
+/// Returns `true` if all bytes may be in a token (RFC 9110, 5.6.2).
+pub(crate) fn are_token_bytes(bytes: &[u8]) -> bool
+    ensures { result ≡ list_all is_token_byte bytes.now }
+{
+    bytes.iter().all(|byte| mime::is_token(*byte))
+}
+
+/// Returns `true` if bytes are an HTTP version, such as `HTTP/1.1` or `HTTP/2`.
+#[tactic(auto, unfolding(crate::specs::Head::is_version))]
+fn is_version(bytes: &[u8]) -> bool
+    ensures { result ≡ is_version bytes.now }
+{
+    let end = bytes.strip_prefix(b"HTTP/");
+    matches!(end, Some([b'0'..=b'9'] | [b'0'..=b'9', b'.', b'0'..=b'9']))
+}
+
+/// Returns `true` if a text is a status line, such as `HTTP/1.1 200 OK` or `HTTP/2 200`.
+fn is_status_line(text: &[u8]) -> bool
+    ensures { result ≡ is_status_line text.now }
+{
+    let (version, rest) = split_word(text);
+    is_version(version) && matches!(split_word(rest).0, [b'0'..=b'9', b'0'..=b'9', b'0'..=b'9'])
+}
+
+/// Returns `true` if bytes have a colon before `//`, or a colon that only digits follow.
+fn has_authority(bytes: &[u8]) -> bool
+    ensures { result ≡ has_authority bytes.now }
+{
+    for (at, byte) in bytes.iter().enumerate() {
+        let rest = &bytes[at + 1..];
+        if *byte == b':' && (begins(b"//", rest) || is_port(rest)) {
+            return true;
+        }
+    }
+    false
+}
+
+/// Returns `true` if bytes are a port: digits, and at least one.
+fn is_port(bytes: &[u8]) -> bool
+    ensures { result ≡ (not (length bytes.now == 0) && list_all is_ascii_digit bytes.now) }
+{
+    !bytes.is_empty() && bytes.iter().all(u8::is_ascii_digit)
+}
+
+/// Returns `true` if bytes are a request-target, such as `/a`, `http://a/b`, `a:80` or `*` (RFC 9112, 3.2).
+fn is_target(bytes: &[u8]) -> bool
+    ensures { result ≡ is_target bytes.now }
+{
+    begins(b"/", bytes) || bytes == b"*".as_slice() || has_authority(&bytes[bytes.len().min(1)..])
+}
+
+/// Returns `true` if a text is a request line, such as `GET / HTTP/1.1`.
+#[tactic(auto, unfolding(crate::specs::Head::is_request_line))]
+fn is_request_line(text: &[u8]) -> bool
+    ensures { result ≡ is_request_line text.now }
+{
+    let (method, rest) = split_word(text);
+    let (target, version) = split_word(rest);
+    !method.is_empty() && are_token_bytes(method) && is_target(target) && is_version(version)
+}
+
+/// Returns the kind of the head that a text begins, or `None` if the text is no start line.
+pub(crate) fn kind_of(text: &[u8]) -> Option<Kind>
+    ensures { result ≡ kind_of text.now }
+{
+    if is_status_line(text) {
+        let is_interim = begins(b"1", split_word(text).1);
+        return Some(if is_interim {
+            Kind::Interim
+        } else {
+            Kind::Final
+        });
+    }
+    is_request_line(text).then_some(Kind::Request)
+}
+
+/// Returns the mark before a start line in a line: its indentation, unless it needs a sign, or its sign. Returns `None` if the line has no
+/// start line.
+pub(crate) fn start_mark(line: &[u8], needs_sign: bool) -> Option<&[u8]>
+    ensures { option_map (λ mark. mark.now) result ≡ mark_before is_start needs_sign line.now }
+{
+    let indented = trim_start(line);
+    if kind_of(indented).is_some() {
+        return if needs_sign {
+            None
+        } else {
+            Some(&line[..line.len() - indented.len()])
+        };
+    }
+    let (sign, text) = signed(line)?;
+    kind_of(text).is_some().then_some(sign)
+}
