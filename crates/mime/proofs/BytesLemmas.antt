@@ -1,9 +1,17 @@
 -- Bytes: their classes and tables, the byte at a position of joined bytes, and where a text may be cut at an ASCII byte.
-use Rattle.std.proofs.Common.{◌≡◌, ℕ, ◌<◌, Bool, List, get_or, map, ap, sym, ◌∙◌, arith, length, true, suc, ◌+◌, [], ◌∷◌, ◌++◌, Some, slice_get, refl, false, ◌==◌, rules}
+use Rattle.std.proofs.Common.{◌≡◌, ℕ, ◌<◌, Bool, List, get_or, map, ap, sym, ◌∙◌, arith, length, true, suc, ◌+◌, [], ◌∷◌, ◌++◌, Some}
+use Rattle.std.proofs.Common.{slice_get, refl, false, ◌==◌, rules}
 use Rattle.std.specs.{List.range_with_len, List.list_all, Str.IsUtf8, Str.IsCharBoundary}
-use Rattle.std.proofs.{lemmas.List.get_or-map, lemmas.List.Folds.list_all-append, lemmas.List.FromFn.get_or-map-range_with_len, lemmas.Bool.and_parts, lemmas.Bool.and_from, lemmas.Bool.Decides.nat_tests, lemmas.Option.slice_get_within, lemmas.Option.get_or_from_slice_get, lemmas.Str.IsCharBoundary-after_ascii}
+use Rattle.std.proofs.lemmas.List.{get_or-map}
+use Rattle.std.proofs.lemmas.List.Folds.{list_all-append}
+use Rattle.std.proofs.lemmas.List.FromFn.{get_or-map-range_with_len}
+use Rattle.std.proofs.lemmas.Bool.{and_parts, and_from}
+use Rattle.std.proofs.lemmas.Bool.Decides.{nat_tests}
+use Rattle.std.proofs.lemmas.Option.{slice_get_within, get_or_from_slice_get}
+use Rattle.std.proofs.lemmas.Str.{IsCharBoundary-after_ascii}
 use Rattle.std.specs.Prelude.{IsTrue, IsFalse, ◌==◌, not}
-use Rattle.mime.specs.{Bytes.is_token_byte, Bytes.semicolon_byte, Bytes.quote_byte, Grammar.is_space, Grammar.AreTokenBytes, Grammar.IsToken}
+use Rattle.mime.specs.Bytes.{is_token_byte, semicolon_byte, quote_byte}
+use Rattle.mime.specs.Grammar.{is_space, AreTokenBytes, IsToken}
 
 -- What a test of a table says of a byte is whether the byte is of the class, if it does byte by byte.
 pub in_table : (class test : ℕ → Bool) (table : List ℕ) → map test table ≡ map class (range_with_len 0 256)

@@ -1,9 +1,21 @@
 -- One call of a `MimeIter`: pieces are read up to the first that is an item, which is yielded.
-use Rattle.std.proofs.Common.{◌≡◌, ℕ, ◌≤◌, true, false, List, [], length, Option, Some, None, Result, Ok, Err, refl, sym, ap, subst, arith, Bor, ◌∷◌, rules}
+use Rattle.std.proofs.Common.{◌≡◌, ℕ, ◌≤◌, true, false, List, [], length, Option, Some, None, Result, Ok, Err, refl, sym, ap, subst, arith}
+use Rattle.std.proofs.Common.{Bor, ◌∷◌, rules}
 use Rattle.std.specs.Prelude.{codes}
 use Rattle.std.proofs.{lemmas.Bool.true≢false, lemmas.Option.none-some}
-use Rattle.mime.specs.{Values.OwnedMedia, Values.Reads, Cut.TakesSteps, Cut.Cut, Cut.CutItem, Cut.good, Runs.Iteration, Runs.GivesItem, Runs.IsNext, Inner.BetweenCalls.IsUnderWay, Inner.BetweenCalls.PassesOn, Inner.BetweenCalls.IsFound, declared.iter.Bad.Bad, declared.iter.Bad.TheVariants.Piece, declared.iter.Bad.TheVariants.NoMemory, declared.iter.MimeIter.TheInside.Inside, declared.scan.Positions.Positions, Faults.Explains, CutLaws.AreGiven, CutLaws.none_left, CutLaws.a_value, CutLaws.a_piece, CutLaws.no_memory, CutLaws.RunGivesCut, CutLaws.PrintedListComesBack, CutLaws.CommaContainsOnRuns}
-use Rattle.mime.proofs.{CutLemmas.Cuts.empty-cut, CutLemmas.Cuts.takes-viable, CutLemmas.Cuts.has_cut, CutLemmas.Cuts.cut_unique, GrammarLemmas.Viability.empty_is_viable, CutLemmas.Containment.comma_contains, CutLemmas.Containment.joined_comes_back}
+use Rattle.mime.specs.Values.{OwnedMedia, Reads}
+use Rattle.mime.specs.Cut.{TakesSteps, Cut, CutItem, good}
+use Rattle.mime.specs.Runs.{Iteration, GivesItem, IsNext}
+use Rattle.mime.specs.Inner.BetweenCalls.{IsUnderWay, PassesOn, IsFound}
+use Rattle.mime.specs.declared.iter.Bad.{Bad}
+use Rattle.mime.specs.declared.iter.Bad.TheVariants.{Piece, NoMemory}
+use Rattle.mime.specs.declared.iter.MimeIter.TheInside.{Inside}
+use Rattle.mime.specs.declared.scan.Positions.{Positions}
+use Rattle.mime.specs.Faults.{Explains}
+use Rattle.mime.specs.CutLaws.{AreGiven, none_left, a_value, a_piece, no_memory, RunGivesCut, PrintedListComesBack, CommaContainsOnRuns}
+use Rattle.mime.proofs.CutLemmas.Cuts.{empty-cut, takes-viable, has_cut, cut_unique}
+use Rattle.mime.proofs.GrammarLemmas.Viability.{empty_is_viable}
+use Rattle.mime.proofs.CutLemmas.Containment.{comma_contains, joined_comes_back}
 use Rattle.mime.specs.declared.scan.fault.ParseError.TheVariants as error
 use Rattle.std.specs.Iterator.{Drains}
 

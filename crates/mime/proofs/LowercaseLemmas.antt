@@ -2,8 +2,18 @@
 use Rattle.std.proofs.Common.{◌≡◌, ℕ, ◌+◌, Bool, true, map, List, [], ◌∷◌, ◌++◌, length, drop, refl, sym, ap, ◌∙◌, arith, rules}
 use Rattle.std.specs.Prelude.{◌==◌, IsTrue}
 use Rattle.std.specs.{Char.to_ascii_lowercase, List.list_all}
-use Rattle.std.proofs.{lemmas.Bool.Decides.nat_tests, lemmas.List.map-append, lemmas.List.length-map, lemmas.List.Folds.list_all-map, lemmas.Str.Ascii.lowercase-lowercase, lemmas.Grind.common_steps}
-use Rattle.mime.specs.{Bytes.is_token_byte, Grammar.Parameter, Grammar.plain, Grammar.quoted, Grammar.Parameters, Grammar.blank, Grammar.final, Grammar.more, Grammar.Tail, Grammar.no_list, Grammar.listed, Grammar.SyntaxTree, Grammar.IsToken, Grammar.IsContent, Grammar.IsParameter, Grammar.AreParameters, Grammar.IsTail, Grammar.IsWellFormed, Values.lowered, Values.is_charset, Values.lowered_value, Values.lowered_parameter, Values.lowered_list, Values.lowered_tail, Values.lowered_tree, Values.last_plus, Values.pair_of, Values.pairs_of_list, Values.pairs_of_tail, Inner.Scanning.positions_of, Inner.Scanning.semicolon_of, Inner.KeptText.IsLowPair, Inner.KeptText.lowered_pair}
+use Rattle.std.proofs.lemmas.Bool.Decides.{nat_tests}
+use Rattle.std.proofs.lemmas.List.{map-append, length-map}
+use Rattle.std.proofs.lemmas.List.Folds.{list_all-map}
+use Rattle.std.proofs.lemmas.Str.Ascii.{lowercase-lowercase}
+use Rattle.std.proofs.lemmas.Grind.{common_steps}
+use Rattle.mime.specs.Bytes.{is_token_byte}
+use Rattle.mime.specs.Grammar.{Parameter, plain, quoted, Parameters, blank, final, more, Tail, no_list, listed, SyntaxTree, IsToken}
+use Rattle.mime.specs.Grammar.{IsContent, IsParameter, AreParameters, IsTail, IsWellFormed}
+use Rattle.mime.specs.Values.{lowered, is_charset, lowered_value, lowered_parameter, lowered_list, lowered_tail, lowered_tree, last_plus}
+use Rattle.mime.specs.Values.{pair_of, pairs_of_list, pairs_of_tail}
+use Rattle.mime.specs.Inner.Scanning.{positions_of, semicolon_of}
+use Rattle.mime.specs.Inner.KeptText.{IsLowPair, lowered_pair}
 use Rattle.mime.proofs.GrammarLemmas.Content.{IsContent-case}
 pub use Rattle.mime_search.proofs.IgnoringCase.{length-lowered, lowered-drop}
 

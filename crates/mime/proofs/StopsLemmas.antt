@@ -2,11 +2,18 @@
 use Rattle.std.proofs.Common.{◌≡◌, ℕ, ◌<◌, List, [], ◌∷◌, length, take, subst, Bool, true, false, not, refl, sym, ap, ◌∙◌, arith, inl, inr}
 use Rattle.std.specs.Prelude.{◌||◌, ◌↔◌, nat_lt}
 use Rattle.std.specs.{Char.to_ascii_lowercase, List.list_all, List.prefix_len, List.range_with_len, Int.Bits.bit_or, Int.Bits.or_zero_r}
-use Rattle.std.proofs.{lemmas.Bool.lt-ltb, lemmas.Bool.cases_lt, lemmas.Bool.not-true, lemmas.Bool.true≢false, lemmas.Bool.Decides.nat_tests, Math.Bool.or-true, Math.Numerals.one-add, lemmas.Nat.le_or_l}
+use Rattle.std.proofs.lemmas.Bool.{lt-ltb, cases_lt, not-true, true≢false}
+use Rattle.std.proofs.lemmas.Bool.Decides.{nat_tests}
+use Rattle.std.proofs.Math.Bool.{or-true}
+use Rattle.std.proofs.Math.Numerals.{one-add}
+use Rattle.std.proofs.lemmas.Nat.{le_or_l}
 use Rattle.mime_search.proofs.IgnoringCase.{at_byte}
 use Rattle.mime.specs.{Bytes.is_token_byte, Bytes.is_quoted_byte, Bytes.is_quoted_text_byte, Inner.ByteClasses.is_token_except_plus}
 use Rattle.mime.specs.{Values.lowered, declared.value.kept.TheConstants.CAPITALS}
-use Rattle.mime_search.specs.{Classes.end_of_run, Classes.is_outside_range, Classes.is_outside, Classes.is_stop, declared.class.Class.Class, declared.class.Range.Range, declared.class.TheConstants.TOKEN_STOPS, declared.class.TheConstants.TEXT_STOPS}
+use Rattle.mime_search.specs.Classes.{end_of_run, is_outside_range, is_outside, is_stop}
+use Rattle.mime_search.specs.declared.class.Class.{Class}
+use Rattle.mime_search.specs.declared.class.Range.{Range}
+use Rattle.mime_search.specs.declared.class.TheConstants.{TOKEN_STOPS, TEXT_STOPS}
 
 -- What is past all ranges is outside.
 past_range : (range : Range) (b : ℕ) → range.1 < b → is_outside_range range b ≡ true

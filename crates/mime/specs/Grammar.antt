@@ -2,7 +2,8 @@
 -- (RFC 7231, 3.1.1.1, with the departures that docs/DIFFERENCES.md lists).
 use Rattle.std.specs.Prelude.{ℕ, List, [], ◌∷◌, ◌++◌, ◌==◌, ◌||◌, Bool, IsTrue, ⊤}
 use Rattle.std.specs.List.{list_all}
-use Rattle.mime.specs.Bytes.{is_token_byte, is_quoted_byte, is_quoted_text_byte, slash_byte, semicolon_byte, equals_byte, quote_byte, backslash_byte, space_byte, tab_byte}
+use Rattle.mime.specs.Bytes.{is_token_byte, is_quoted_byte, is_quoted_text_byte, slash_byte, semicolon_byte, equals_byte, quote_byte}
+use Rattle.mime.specs.Bytes.{backslash_byte, space_byte, tab_byte}
 
 -- parameter = name "=" ( value / DQUOTE content DQUOTE spaces )
 pub data Parameter : Type 0 where

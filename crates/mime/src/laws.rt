@@ -11,13 +11,15 @@ ghost use Rattle.mime.specs.Values.{OwnedMedia, lowered};
 ghost use Rattle.mime.specs.Names.{name_table};
 ghost use Rattle.mime.specs.Items.{name_text};
 ghost use Rattle.mime.specs.Laws.{OneTree, OneReading, EmptyIsViable, PrefixOfViableIsViable, AcceptedIsViable, AcceptedOrRejected};
-ghost use Rattle.mime.specs.Laws.{OneCompletion, CompletedIsRejected, NoCompletion, OneFault, OneLongestPrefix, PrefixEndsBetweenCharacters, PrefixIsInUtf8};
+ghost use Rattle.mime.specs.Laws.{OneCompletion, CompletedIsRejected, NoCompletion, OneFault, OneLongestPrefix};
+ghost use Rattle.mime.specs.Laws.{PrefixEndsBetweenCharacters, PrefixIsInUtf8};
 ghost use Rattle.mime.specs.Laws.{PlusIsLast, KeptIsRead, EssenceIsRead, EssenceIsParts, SameEssence, OneOrder, BeforeIsTransitive};
 ghost use Rattle.mime.specs.Laws.{BareTextIs, KeptTextIs, OneAnswer, HasAnswer, IsDecided, FirstDifferenceDecides};
 ghost use Rattle.mime.specs.HeaderLaws.{KeptIsSafe, ParameterIsRead};
 ghost use Rattle.mime.specs.Comparison.{Same, IsOrderOf};
 ghost use Rattle.mime.specs.HashLaws.{RespectsEquality, IsPrefixFree};
-ghost use Rattle.mime.specs.CutLaws.{OneCut, CutHasItems, CutWritesText, OneCount, CommaContains, JoinedComesBack, HttpListIsCut, PassesOneCharacter};
+ghost use Rattle.mime.specs.CutLaws.{OneCut, CutHasItems, CutWritesText, OneCount, CommaContains, JoinedComesBack, HttpListIsCut};
+ghost use Rattle.mime.specs.CutLaws.{PassesOneCharacter};
 ghost use Rattle.mime.specs.CutLaws.{RunGivesCut, PrintedListComesBack, CommaContainsOnRuns};
 
 use crate::atoms::Atom;

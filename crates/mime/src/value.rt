@@ -86,7 +86,10 @@ impl Model for Mime {
     ghost use Rattle.mime.specs.Inner.KeptPlaces.{positions_at, IsKeptAt};
     ghost use Rattle.mime.specs.Inner.KeptText.{media_of};
 
-    ghost view = { λ mime. record { media = media_of (bytes_of mime.text) (positions_at mime.places mime.essence_end); fixed = is_fixed mime.text } };
+    ghost view = { λ mime. record {
+      media = media_of (bytes_of mime.text) (positions_at mime.places mime.essence_end);
+      fixed = is_fixed mime.text;
+    } };
 
     ghost invariant = { λ mime. IsKeptAt (bytes_of mime.text) mime.places mime.essence_end };
 }

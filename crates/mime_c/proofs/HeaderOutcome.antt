@@ -1,11 +1,16 @@
 -- `mime_accept` and `mime_best` have one outcome, unless memory runs out.
-use Rattle.std.proofs.Common.{◌≡◌, ◌≢◌, ℕ, ◌⊎◌, inl, inr, Bool, List, [], ◌∷◌, Option, Some, None, length, refl, sym, ap, ◌∙◌, subst, arith, ⊎_elim, rules}
+use Rattle.std.proofs.Common.{◌≡◌, ◌≢◌, ℕ, ◌⊎◌, inl, inr, Bool, List, [], ◌∷◌, Option, Some, None, length, refl, sym, ap, ◌∙◌, subst, arith}
+use Rattle.std.proofs.Common.{⊎_elim, rules}
 use Rattle.std.specs.Prelude.{MatchOption}
 use Rattle.std.proofs.{lemmas.List.nil_from_length, lemmas.Option.same_Some}
 use Rattle.mime.specs.Values.{MediaType}
 use Rattle.mime_http.specs.{HttpList.Header, HttpList.IsHeader, HttpList.IsFirstBad, Ranges.best_offer}
 use Rattle.mime_http.proofs.HandedOut.{header_of, one_header, one_first_bad}
-use Rattle.mime_c.specs.{Strings.strings, Strings.written, HeaderAnswers.ranges_texts, HeaderAnswers.AreRanges, HeaderAnswers.are_ranges, HeaderAnswers.ranges_have_no_memory, HeaderAnswers.lines_of, HeaderAnswers.OfOffers, HeaderAnswers.are_offers, HeaderAnswers.an_offer_is_bad, HeaderAnswers.offers_have_no_memory, HeaderAnswers.IsBest, HeaderAnswers.best_is, HeaderAnswers.none_is_best, Laws.HasOne, Laws.AcceptsToOne, Laws.BestIsOne, declared.TheConstants.MIME_OK, declared.TheConstants.MIME_NO_MEMORY, declared.TheConstants.MIME_BAD_OFFER}
+use Rattle.mime_c.specs.Strings.{strings, written}
+use Rattle.mime_c.specs.HeaderAnswers.{ranges_texts, AreRanges, are_ranges, ranges_have_no_memory, lines_of, OfOffers, are_offers}
+use Rattle.mime_c.specs.HeaderAnswers.{an_offer_is_bad, offers_have_no_memory, IsBest, best_is, none_is_best}
+use Rattle.mime_c.specs.Laws.{HasOne, AcceptsToOne, BestIsOne}
+use Rattle.mime_c.specs.declared.TheConstants.{MIME_OK, MIME_NO_MEMORY, MIME_BAD_OFFER}
 use Rattle.mime_c.proofs.{OneOutcome.one_is, OneOutcome.one_in_room, HeaderRoom.ranges_come_back}
 
 -- ---- ranges

@@ -1,13 +1,21 @@
 -- How many bytes the strings of a header's value are, and that they come back.
-use Rattle.std.proofs.Common.{◌≡◌, ℕ, ◌+◌, ◌*◌, ◌<◌, ◌≤◌, Bool, true, List, [], ◌∷◌, ◌++◌, length, filter, refl, subst, ap, arith, length-append, rules}
+use Rattle.std.proofs.Common.{◌≡◌, ℕ, ◌+◌, ◌*◌, ◌<◌, ◌≤◌, Bool, true, List, [], ◌∷◌, ◌++◌, length, filter, refl, subst, ap, arith}
+use Rattle.std.proofs.Common.{length-append, rules}
 use Rattle.std.specs.List.{AllByRecursion}
 use Rattle.std.proofs.lemmas.Bool.Decides.{nat_tests}
 use Rattle.mime.specs.{Bytes.comma_byte, HeaderLaws.IsSafePair, Laws.without_parameters, Values.MediaType, Values.Reads}
 use Rattle.mime.proofs.HandedOut.{length-lowered, essence_is_read, kept_is_safe, token-size}
-use Rattle.mime_http.specs.{HttpMediaType.IsHttpParameter, HttpMediaType.with_token, HttpMediaType.with_string, HttpMediaType.AreHttpParameters, HttpMediaType.no_more, HttpMediaType.semicolon, HttpMediaType.semicolon_and, HttpMediaType.HttpReads, HttpList.trimmed, HttpList.IsPrinted, HttpList.as_it_stands, HttpList.anew, HttpList.AreBetweenCommas, HttpList.no_line, HttpList.line_end, HttpList.comma, HttpList.AreSorted, HttpList.no_text, HttpList.blank, HttpList.a_range, HttpList.a_bad, HttpList.Header, HttpList.IsHeader, Written.quote_of, Written.text_of_pair, Written.text_of_pairs, Written.with_pairs}
+use Rattle.mime_http.specs.HttpMediaType.{IsHttpParameter, with_token, with_string, AreHttpParameters, no_more, semicolon, semicolon_and}
+use Rattle.mime_http.specs.HttpMediaType.{HttpReads}
+use Rattle.mime_http.specs.HttpList.{trimmed, IsPrinted, as_it_stands, anew, AreBetweenCommas, no_line, line_end, comma, AreSorted, no_text}
+use Rattle.mime_http.specs.HttpList.{blank, a_range, a_bad, Header, IsHeader}
+use Rattle.mime_http.specs.Written.{quote_of, text_of_pair, text_of_pairs, with_pairs}
 use Rattle.mime_http.proofs.HandedOut.{text_of_parts, white_around, written_reads, http_is_answered, length-lowered_value}
-use Rattle.mime_c.specs.{Strings.strings, Strings.ComeBack, Strings.parts_of, Strings.texts_of, HeaderAnswers.range_texts, HeaderAnswers.ranges_texts}
-use Rattle.mime_c.proofs.{NoZero.pair_texts, NoZero.HasNoZero, NoZero.come_back, NoZero.no_zero-read, NoZero.no_zero-pairs, Room.lengths_of, Writing.strings_of_texts, Writing.strings_of_range, Writing.strings_of_ranges}
+use Rattle.mime_c.specs.Strings.{strings, ComeBack, parts_of, texts_of}
+use Rattle.mime_c.specs.HeaderAnswers.{range_texts, ranges_texts}
+use Rattle.mime_c.proofs.NoZero.{pair_texts, HasNoZero, come_back, no_zero-read, no_zero-pairs}
+use Rattle.mime_c.proofs.Room.{lengths_of}
+use Rattle.mime_c.proofs.Writing.{strings_of_texts, strings_of_range, strings_of_ranges}
 
 -- ---- parameters
 

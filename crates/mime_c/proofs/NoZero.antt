@@ -3,8 +3,16 @@ use Rattle.std.proofs.Common.{rules, ◌≡◌, ℕ, true, false, List, [], ◌�
 use Rattle.std.specs.Prelude.{◌==◌}
 use Rattle.std.specs.List.{list_all, onto_first, flat_map, AllByRecursion}
 use Rattle.std.proofs.{lemmas.Bool.and_parts, lemmas.Bool.and_from, lemmas.Bool.Decides.nat_tests}
-use Rattle.mime.specs.{Bytes.is_token_byte, Bytes.is_quoted_byte, Grammar.IsContent, Grammar.no_byte, Grammar.text_byte, Grammar.quoted_pair, Values.MediaType, Values.Reads, Faults.IsViable, HeaderLaws.IsSafePair, Laws.without_parameters, Cut.CutItem, Cut.good, Cut.bad, Cut.Cut, CutLaws.IsItem}
-use Rattle.mime.proofs.HandedOut.{is_other, list_all-wider, are_other-token, AreTokenBytes-from_token, accepted_is_viable, walk-from_viable, essence_is_read, walked-safe, kept_is_safe, kept_is_read, cut_has_items}
+use Rattle.mime.specs.Bytes.{is_token_byte, is_quoted_byte}
+use Rattle.mime.specs.Grammar.{IsContent, no_byte, text_byte, quoted_pair}
+use Rattle.mime.specs.Values.{MediaType, Reads}
+use Rattle.mime.specs.Faults.{IsViable}
+use Rattle.mime.specs.HeaderLaws.{IsSafePair}
+use Rattle.mime.specs.Laws.{without_parameters}
+use Rattle.mime.specs.Cut.{CutItem, good, bad, Cut}
+use Rattle.mime.specs.CutLaws.{IsItem}
+use Rattle.mime.proofs.HandedOut.{is_other, list_all-wider, are_other-token, AreTokenBytes-from_token, accepted_is_viable, walk-from_viable}
+use Rattle.mime.proofs.HandedOut.{essence_is_read, walked-safe, kept_is_safe, kept_is_read, cut_has_items}
 use Rattle.mime_c.specs.Strings.{string_of, strings, texts_in, ComeBack, texts_of, item_texts}
 
 -- A text doesn't have the byte 0.

@@ -1,13 +1,24 @@
 -- Each call has one outcome, unless memory runs out: what all calls share, and the calls for texts.
-use Rattle.std.proofs.Common.{◌≡◌, ◌≢◌, ℕ, ◌⊎◌, inl, inr, zero, suc, ◌<◌, ◌≤◌, List, length, take, refl, sym, ap, ◌∙◌, subst, arith, ⊎_elim, rules}
+use Rattle.std.proofs.Common.{◌≡◌, ◌≢◌, ℕ, ◌⊎◌, inl, inr, zero, suc, ◌<◌, ◌≤◌, List, length, take, refl, sym, ap, ◌∙◌, subst, arith, ⊎_elim}
+use Rattle.std.proofs.Common.{rules}
 use Rattle.std.specs.Prelude.{if◌then◌else◌}
 use Rattle.std.specs.{Str.IsUtf8, Str.IsValidUpTo, Ordering.eq_by_cmp}
 use Rattle.std.proofs.{lemmas.Bool.cases_lt, lemmas.Str.IsUtf8-nil, lemmas.Str.utf8_valid_len-IsValidUpTo, lemmas.List.take_all}
-use Rattle.mime.specs.{Values.MediaType, Values.Reads, Comparison.media_cmp, Faults.IsFault, Faults.Explains, declared.scan.fault.ParseError.ParseError}
-use Rattle.mime.proofs.HandedOut.{one_fault, rejected-from_fault, Explains-from_fault, one_reading, eq_by_cmp-tells, eq_by_cmp-same, accepted_or_rejected, has_cut, cut_unique}
-use Rattle.mime_http.specs.{declared.value.FieldError.FieldError, declared.value.FieldError.TheVariants.NotUtf8, declared.value.FieldError.TheVariants.Invalid, declared.value.FieldError.TheVariants.NoMemory}
+use Rattle.mime.specs.Values.{MediaType, Reads}
+use Rattle.mime.specs.Comparison.{media_cmp}
+use Rattle.mime.specs.Faults.{IsFault, Explains}
+use Rattle.mime.specs.declared.scan.fault.ParseError.{ParseError}
+use Rattle.mime.proofs.HandedOut.{one_fault, rejected-from_fault, Explains-from_fault, one_reading, eq_by_cmp-tells, eq_by_cmp-same}
+use Rattle.mime.proofs.HandedOut.{accepted_or_rejected, has_cut, cut_unique}
+use Rattle.mime_http.specs.declared.value.FieldError.{FieldError}
+use Rattle.mime_http.specs.declared.value.FieldError.TheVariants.{NotUtf8, Invalid, NoMemory}
 use Rattle.mime_http.proofs.HandedOut.{utf8_or_not}
-use Rattle.mime_c.specs.{Strings.ComeBack, Strings.texts_of, Answers.number_of, Answers.number_of_error, Answers.InRoom, Answers.has_room, Answers.has_no_room, Answers.Holds, Answers.holds, Answers.Of, Answers.is_read, Answers.fails, Answers.TextExplains, Answers.AreWritten, Answers.are_written, Answers.AreListed, Answers.is_listed, Answers.is_not_text, Answers.AreCompared, Answers.are_compared, Laws.HasOne, Laws.ReadsToOne, Laws.ListsToOne, Laws.ComparesAsOne, declared.MimeFound.MimeFound, declared.TheConstants.MIME_OK, declared.TheConstants.MIME_NO_MEMORY}
+use Rattle.mime_c.specs.Strings.{ComeBack, texts_of}
+use Rattle.mime_c.specs.Answers.{number_of, number_of_error, InRoom, has_room, has_no_room, Holds, holds, Of, is_read, fails, TextExplains}
+use Rattle.mime_c.specs.Answers.{AreWritten, are_written, AreListed, is_listed, is_not_text, AreCompared, are_compared}
+use Rattle.mime_c.specs.Laws.{HasOne, ReadsToOne, ListsToOne, ComparesAsOne}
+use Rattle.mime_c.specs.declared.MimeFound.{MimeFound}
+use Rattle.mime_c.specs.declared.TheConstants.{MIME_OK, MIME_NO_MEMORY}
 use Rattle.mime_c.proofs.NoZero.{texts_come_back, items_come_back}
 
 -- ---- what all calls share

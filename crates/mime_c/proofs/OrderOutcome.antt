@@ -2,11 +2,19 @@
 use Rattle.std.proofs.Common.{◌≡◌, ◌≢◌, ℕ, ◌<◌, ◌⊎◌, inl, inr, zero, suc, List, [], ◌∷◌, length, map, refl, subst, arith, ⊎_elim, rules}
 use Rattle.std.specs.Prelude.{Contains, ◌↔◌}
 use Rattle.std.specs.List.{All, AllPairs}
-use Rattle.std.proofs.{lemmas.Bool.cases_lt, lemmas.Bool.Decides.nat_tests, lemmas.List.length-map, lemmas.List.Elements.All-contains, lemmas.List.Elements.All-cons, lemmas.List.Elements.All-head, lemmas.List.Elements.All-nil, lemmas.List.Elements.All-tail, lemmas.List.Elements.All-weaker, lemmas.List.Elements.Contains-get_or, lemmas.List.Kept.AllPairs-cons}
+use Rattle.std.proofs.lemmas.Bool.{cases_lt}
+use Rattle.std.proofs.lemmas.Bool.Decides.{nat_tests}
+use Rattle.std.proofs.lemmas.List.{length-map}
+use Rattle.std.proofs.lemmas.List.Elements.{All-contains, All-cons, All-head, All-nil, All-tail, All-weaker, Contains-get_or}
+use Rattle.std.proofs.lemmas.List.Kept.{AllPairs-cons}
 use Rattle.mime.specs.Values.{MediaType}
 use Rattle.mime_http.specs.Ranges.{Rank, merit, merit_at, ComesBefore, AreInOrder}
 use Rattle.mime_http.proofs.HandedOut.{weighs_within, one_order}
-use Rattle.mime_c.specs.{Strings.written, Answers.InRoom, Answers.Holds, HeaderAnswers.IsOrder, HeaderAnswers.order_is, HeaderAnswers.none_is_ordered, Laws.HasOne, Laws.OrderIsOne, declared.TheConstants.MIME_NO_MEMORY, declared.TheConstants.MIME_NOT_ACCEPTABLE}
+use Rattle.mime_c.specs.Strings.{written}
+use Rattle.mime_c.specs.Answers.{InRoom, Holds}
+use Rattle.mime_c.specs.HeaderAnswers.{IsOrder, order_is, none_is_ordered}
+use Rattle.mime_c.specs.Laws.{HasOne, OrderIsOne}
+use Rattle.mime_c.specs.declared.TheConstants.{MIME_NO_MEMORY, MIME_NOT_ACCEPTABLE}
 use Rattle.mime_c.proofs.{OneOutcome.one_success, OneOutcome.one_in_room, HeaderOutcome.one_of_offers, HeaderOutcome.empty_or_not}
 
 -- ---- what a list contains

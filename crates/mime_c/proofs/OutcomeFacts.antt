@@ -2,11 +2,21 @@
 use Rattle.std.proofs.Common.{rules, ◌≡◌, ◌≢◌, ℕ, ◌*◌, ◌≤◌, ◌⊎◌, inl, inr, List, [], ◌∷◌, length, refl, sym, ap, subst, arith, codes, None}
 use Rattle.std.specs.{List.All, Str.IsUtf8}
 use Rattle.std.proofs.lemmas.List.Elements.{All-contains, All-cons, All-nil}
-use Rattle.mime.specs.{Bytes.is_token_byte, Grammar.no_list, Values.MediaType, Values.Reads, Faults.Explains, Cut.CutItem, Cut.good, Cut.bad, Cut.Cut, Cut.whole, declared.scan.fault.ParseError.TheVariants.NoMemory}
+use Rattle.mime.specs.Bytes.{is_token_byte}
+use Rattle.mime.specs.Grammar.{no_list}
+use Rattle.mime.specs.Values.{MediaType, Reads}
+use Rattle.mime.specs.Faults.{Explains}
+use Rattle.mime.specs.Cut.{CutItem, good, bad, Cut, whole}
+use Rattle.mime.specs.declared.scan.fault.ParseError.TheVariants.{NoMemory}
 use Rattle.mime.proofs.HandedOut.{rejected-from_walk, one_reading, cut_unique}
-use Rattle.mime_http.specs.{declared.value.FieldError.FieldError, declared.value.FieldError.TheVariants.NotUtf8, declared.value.FieldError.TheVariants.Invalid}
+use Rattle.mime_http.specs.declared.value.FieldError.{FieldError}
+use Rattle.mime_http.specs.declared.value.FieldError.TheVariants.{NotUtf8, Invalid}
 use Rattle.mime_http.specs.declared.value.FieldError.TheVariants as field
-use Rattle.mime_c.specs.{Strings.strings, Strings.ComeBack, Strings.texts_of, Strings.item_texts, Strings.written, Answers.number_of_error, Answers.found_of_error, Answers.nothing, Answers.has_room, Answers.has_no_room, Answers.is_read, Answers.fails, Answers.TextExplains, Answers.are_written, Answers.ReadsTo, Answers.NeedsMemory, Answers.ListsTo, Answers.is_listed, Answers.has_no_memory, Answers.is_not_text, Answers.Compares, Answers.are_compared, declared.MimeFound.MimeFound, declared.TheConstants.MIME_OK, declared.TheConstants.MIME_NO_MEMORY}
+use Rattle.mime_c.specs.Strings.{strings, ComeBack, texts_of, item_texts, written}
+use Rattle.mime_c.specs.Answers.{number_of_error, found_of_error, nothing, has_room, has_no_room, is_read, fails, TextExplains, are_written}
+use Rattle.mime_c.specs.Answers.{ReadsTo, NeedsMemory, ListsTo, is_listed, has_no_memory, is_not_text, Compares, are_compared}
+use Rattle.mime_c.specs.declared.MimeFound.{MimeFound}
+use Rattle.mime_c.specs.declared.TheConstants.{MIME_OK, MIME_NO_MEMORY}
 use Rattle.mime_c.proofs.AnswerFacts.{empty_needs_none}
 
 -- ---- out of memory

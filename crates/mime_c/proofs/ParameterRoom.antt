@@ -4,7 +4,9 @@ use Rattle.std.specs.Prelude.{not, bytes_eq}
 use Rattle.std.proofs.{lemmas.Bool.Decides.nat_tests, lemmas.List.Concat.flat_map-append}
 use Rattle.mime.specs.{Values.MediaType, Values.Reads, Values.lowered, Values.lowered_value}
 use Rattle.mime.proofs.HandedOut.{length-lowered, lowered_value-either, is_other, list_all-wider}
-use Rattle.mime_http.specs.{Boundary.is_bchar, Boundary.IsBoundary, HttpMediaType.HttpReads, Written.escaped, Written.text_of_pair, Written.others}
+use Rattle.mime_http.specs.Boundary.{is_bchar, IsBoundary}
+use Rattle.mime_http.specs.HttpMediaType.{HttpReads}
+use Rattle.mime_http.specs.Written.{escaped, text_of_pair, others}
 use Rattle.mime_c.specs.{Strings.ComeBack, ParameterAnswers.room_with, ParameterAnswers.with_parameter}
 use Rattle.mime_c.proofs.{HeaderRoom.anew_fits, HeaderRoom.length-pair, HeaderRoom.sizes_of, NoZero.come_back, NoZero.no_zero-read}
 

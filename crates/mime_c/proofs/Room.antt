@@ -1,9 +1,15 @@
 -- How many bytes the strings are.
-use Rattle.std.proofs.Common.{rules, ◌≡◌, ℕ, zero, suc, ◌+◌, ◌*◌, ◌<◌, ◌≤◌, List, [], ◌∷◌, ◌++◌, length, take, Option, Some, None, sym, ap, ◌∙◌, subst, arith, length-append, length-take}
+use Rattle.std.proofs.Common.{rules, ◌≡◌, ℕ, zero, suc, ◌+◌, ◌*◌, ◌<◌, ◌≤◌, List, [], ◌∷◌, ◌++◌, length, take, Option, Some, None, sym, ap}
+use Rattle.std.proofs.Common.{◌∙◌, subst, arith, length-append, length-take}
 use Rattle.std.proofs.{lemmas.List.map-append, lemmas.List.Concat.flat_map-append}
-use Rattle.mime.specs.{Grammar.Parameter, Grammar.plain, Grammar.quoted, Grammar.Parameters, Grammar.blank, Grammar.final, Grammar.more, Grammar.Tail, Grammar.no_list, Grammar.listed, Grammar.SyntaxTree, Grammar.text_of, Grammar.text_of_parameter, Grammar.text_of_list, Grammar.text_of_tail, Values.MediaType, Values.Reads, Values.pair_of, Values.pairs_of_list, Values.pairs_of_tail, Values.kept_text, Cut.CutItem, Cut.ItemsOf, Cut.is_read, Cut.is_rejected, Cut.is_empty, Cut.Cut, Cut.whole, Cut.unfinished, Cut.goes_on}
-use Rattle.mime.proofs.HandedOut.{length-lowered, positions_of, kept_text_of, length-in_part, text_of-essence, length-essence_of, value_of_low, value_of-lowering, keeps-tree, kept-in_part, split-size, token-size}
-use Rattle.mime_c.specs.{Strings.strings, Strings.texts_of, Strings.item_texts, declared.TheConstants.MIME_GOOD, declared.TheConstants.MIME_BAD}
+use Rattle.mime.specs.Grammar.{Parameter, plain, quoted, Parameters, blank, final, more, Tail, no_list, listed, SyntaxTree, text_of}
+use Rattle.mime.specs.Grammar.{text_of_parameter, text_of_list, text_of_tail}
+use Rattle.mime.specs.Values.{MediaType, Reads, pair_of, pairs_of_list, pairs_of_tail, kept_text}
+use Rattle.mime.specs.Cut.{CutItem, ItemsOf, is_read, is_rejected, is_empty, Cut, whole, unfinished, goes_on}
+use Rattle.mime.proofs.HandedOut.{length-lowered, positions_of, kept_text_of, length-in_part, text_of-essence, length-essence_of}
+use Rattle.mime.proofs.HandedOut.{value_of_low, value_of-lowering, keeps-tree, kept-in_part, split-size, token-size}
+use Rattle.mime_c.specs.Strings.{strings, texts_of, item_texts}
+use Rattle.mime_c.specs.declared.TheConstants.{MIME_GOOD, MIME_BAD}
 use Rattle.mime_c.proofs.NoZero.{pair_texts}
 
 -- A string has one byte more than its text.

@@ -2,13 +2,33 @@
 use Rattle.std.proofs.Common.{◌≡◌, ◌≢◌, ℕ, ◌⊎◌, inl, inr, List, [], ◌∷◌, refl, sym, ◌∙◌, subst, arith, ⊎_elim, codes, rules}
 use Rattle.std.specs.Prelude.{bytes_eq}
 use Rattle.std.specs.{List.list_all, Option.option_map, Str.IsUtf8}
-use Rattle.std.proofs.{lemmas.Bool.cases_Bool, lemmas.Bool.true≢false, lemmas.Option.same_Some, lemmas.Option.none-some, lemmas.Slice.Eq.bytes_eq-Decides}
+use Rattle.std.proofs.lemmas.Bool.{cases_Bool, true≢false}
+use Rattle.std.proofs.lemmas.Option.{same_Some, none-some}
+use Rattle.std.proofs.lemmas.Slice.Eq.{bytes_eq-Decides}
 use Rattle.mime.specs.{Bytes.is_quoted_byte, Grammar.IsToken, Values.MediaType, Values.type_of, declared.scan.fault.ParseError.ParseError}
 use Rattle.mime.proofs.HandedOut.{kept_is_safe, kept_is_read}
-use Rattle.mime_http.specs.{Boundary.IsBoundary, Boundary.IsBoundaryOf, HttpMediaType.HttpReads, HttpList.IsPrinted, HttpFaults.IsHttpFault, HttpFaults.HttpExplains, Ranges.first_value, Unescaped.unescaped, Written.escaped, Written.with_pairs, declared.value.FieldError.FieldError, declared.value.FieldError.TheVariants.NotUtf8, declared.value.FieldError.TheVariants.Invalid}
-use Rattle.mime_http.proofs.HandedOut.{utf8_or_not, read_or_not, content_of_escaped, one_printed_text, printed_is_read, no_field_error, one_field_error, one_http_fault, with_pair_is_read}
-use Rattle.mime_c.specs.{Strings.ComeBack, Answers.number_of, Answers.number_of_error, ParameterAnswers.HasBoundary, ParameterAnswers.boundary_is, ParameterAnswers.has_no_boundary, ParameterAnswers.boundary_has_no_memory, ParameterAnswers.IsParameter, ParameterAnswers.with_parameter, ParameterAnswers.IsSet, ParameterAnswers.is_set, ParameterAnswers.isnt_parameter, Laws.HasOne, Laws.HeaderReadsToOne, Laws.BoundaryIsOne, Laws.UnescapesToOne, Laws.SetsToOne, declared.TheConstants.MIME_NO_MEMORY}
-use Rattle.mime_c.proofs.{OneOutcome.one_is, OneOutcome.one_success, OneOutcome.one_in_room, OneOutcome.IsReading, OneOutcome.one_of_reading, OneOutcome.one_writing, OneOutcome.valid_up_to, HeaderOutcome.some_or_none, HeaderRoom.read_anew, NoZero.texts_come_back, ParameterRoom.set_comes_back, ParameterRoom.boundary_comes_back}
+use Rattle.mime_http.specs.Boundary.{IsBoundary, IsBoundaryOf}
+use Rattle.mime_http.specs.HttpMediaType.{HttpReads}
+use Rattle.mime_http.specs.HttpList.{IsPrinted}
+use Rattle.mime_http.specs.HttpFaults.{IsHttpFault, HttpExplains}
+use Rattle.mime_http.specs.Ranges.{first_value}
+use Rattle.mime_http.specs.Unescaped.{unescaped}
+use Rattle.mime_http.specs.Written.{escaped, with_pairs}
+use Rattle.mime_http.specs.declared.value.FieldError.{FieldError}
+use Rattle.mime_http.specs.declared.value.FieldError.TheVariants.{NotUtf8, Invalid}
+use Rattle.mime_http.proofs.HandedOut.{utf8_or_not, read_or_not, content_of_escaped, one_printed_text, printed_is_read, no_field_error}
+use Rattle.mime_http.proofs.HandedOut.{one_field_error, one_http_fault, with_pair_is_read}
+use Rattle.mime_c.specs.Strings.{ComeBack}
+use Rattle.mime_c.specs.Answers.{number_of, number_of_error}
+use Rattle.mime_c.specs.ParameterAnswers.{HasBoundary, boundary_is, has_no_boundary, boundary_has_no_memory, IsParameter, with_parameter}
+use Rattle.mime_c.specs.ParameterAnswers.{IsSet, is_set, isnt_parameter}
+use Rattle.mime_c.specs.Laws.{HasOne, HeaderReadsToOne, BoundaryIsOne, UnescapesToOne, SetsToOne}
+use Rattle.mime_c.specs.declared.TheConstants.{MIME_NO_MEMORY}
+use Rattle.mime_c.proofs.OneOutcome.{one_is, one_success, one_in_room, IsReading, one_of_reading, one_writing, valid_up_to}
+use Rattle.mime_c.proofs.HeaderOutcome.{some_or_none}
+use Rattle.mime_c.proofs.HeaderRoom.{read_anew}
+use Rattle.mime_c.proofs.NoZero.{texts_come_back}
+use Rattle.mime_c.proofs.ParameterRoom.{set_comes_back, boundary_comes_back}
 
 -- ---- the reading of a value
 

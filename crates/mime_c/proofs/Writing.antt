@@ -1,11 +1,19 @@
 -- Strings that are written in a row into the caller's buffer.
-use Rattle.std.proofs.Common.{rules, ◌≡◌, ℕ, ◌+◌, ◌*◌, ◌<◌, ◌≤◌, List, [], ◌∷◌, ◌++◌, length, take, drop, refl, sym, ap, ◌∙◌, subst, arith, append_assoc, append-nil, length-append, length-take, length-drop, set}
+use Rattle.std.proofs.Common.{rules, ◌≡◌, ℕ, ◌+◌, ◌*◌, ◌<◌, ◌≤◌, List, [], ◌∷◌, ◌++◌, length, take, drop, refl, sym, ap, ◌∙◌, subst, arith}
+use Rattle.std.proofs.Common.{append_assoc, append-nil, length-append, length-take, length-drop, set}
 use Rattle.std.specs.Str.{IsUtf8}
-use Rattle.std.proofs.{lemmas.List.take_at, lemmas.List.drop_at, lemmas.List.drop-drop, lemmas.Grind.common_steps, lemmas.List.Concat.flat_map-append, lemmas.List.Elements.Contains-append_right}
+use Rattle.std.proofs.lemmas.List.{take_at, drop_at, drop-drop}
+use Rattle.std.proofs.lemmas.Grind.{common_steps}
+use Rattle.std.proofs.lemmas.List.Concat.{flat_map-append}
+use Rattle.std.proofs.lemmas.List.Elements.{Contains-append_right}
 use Rattle.mime.specs.{Items.Item, Items.items_of, Values.MediaType, Cut.CutItem, Cut.Cut, Runs.IsFirstItem, Runs.HasNoItem}
 use Rattle.mime.specs.Runs as runs
 use Rattle.mime.proofs.HandedOut.{has_cut}
-use Rattle.mime_c.specs.{Strings.string_of, Strings.strings, Strings.parts_of, Strings.texts_of, Strings.item_text, Strings.item_texts, Writing.HasWritten, Writing.Writes, HeaderAnswers.four_digits, HeaderAnswers.range_texts, HeaderAnswers.ranges_texts, Answers.has_room, Answers.ListsTo, Answers.is_listed, Answers.has_no_memory, declared.TheConstants.MIME_OK, declared.TheConstants.MIME_NO_MEMORY}
+use Rattle.mime_c.specs.Strings.{string_of, strings, parts_of, texts_of, item_text, item_texts}
+use Rattle.mime_c.specs.Writing.{HasWritten, Writes}
+use Rattle.mime_c.specs.HeaderAnswers.{four_digits, range_texts, ranges_texts}
+use Rattle.mime_c.specs.Answers.{has_room, ListsTo, is_listed, has_no_memory}
+use Rattle.mime_c.specs.declared.TheConstants.{MIME_OK, MIME_NO_MEMORY}
 use Rattle.mime_http.specs.Ranges.{weight_of}
 use Rattle.mime_c.proofs.{NoZero.pair_texts, NoZero.items_come_back, Room.items_fit, Room.strings_of_items}
 

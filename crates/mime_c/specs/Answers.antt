@@ -6,13 +6,15 @@ use Rattle.mime.specs.Comparison.{Same}
 use Rattle.mime.specs.Faults.{Explains}
 use Rattle.mime.specs.Cut.{CutItem, good, Cut}
 use Rattle.mime.specs.declared.scan.fault.ParseError.{ParseError}
-use Rattle.mime.specs.declared.scan.fault.ParseError.TheVariants.{MissingSlash, MissingSubtype, MissingEqual, MissingValue, MissingQuote, InvalidToken}
+use Rattle.mime.specs.declared.scan.fault.ParseError.TheVariants.{MissingSlash, MissingSubtype, MissingEqual, MissingValue, MissingQuote}
+use Rattle.mime.specs.declared.scan.fault.ParseError.TheVariants.{InvalidToken}
 use Rattle.mime.specs.declared.scan.fault.ParseError.TheVariants as fault
 use Rattle.mime_http.specs.declared.value.FieldError.{FieldError}
 use Rattle.mime_http.specs.declared.value.FieldError.TheVariants.{NotUtf8, Invalid, NoMemory}
 use Rattle.mime_c.specs.Strings.{strings, ComeBack, parts_of, texts_of, item_texts, written}
 use Rattle.mime_c.specs.declared.MimeFound.{MimeFound}
-use Rattle.mime_c.specs.declared.TheConstants.{MIME_OK, MIME_MISSING_SLASH, MIME_MISSING_SUBTYPE, MIME_MISSING_EQUAL, MIME_MISSING_VALUE, MIME_MISSING_QUOTE, MIME_INVALID_BYTE, MIME_NO_MEMORY, MIME_NOT_UTF8, MIME_NO_ROOM}
+use Rattle.mime_c.specs.declared.TheConstants.{MIME_OK, MIME_MISSING_SLASH, MIME_MISSING_SUBTYPE, MIME_MISSING_EQUAL, MIME_MISSING_VALUE}
+use Rattle.mime_c.specs.declared.TheConstants.{MIME_MISSING_QUOTE, MIME_INVALID_BYTE, MIME_NO_MEMORY, MIME_NOT_UTF8, MIME_NO_ROOM}
 
 -- the number of a fault, and of why a text or a value isn't read
 abbrev pub number_of : ParseError → ℕ

@@ -1,7 +1,8 @@
 //! Laws that follow from only the definitions of the calls. Each law is the clause of an empty function.
 #![tactic(auto, using(crate::proofs::LawLemmas::laws))]
 
-ghost use Rattle.mime_c.specs.Laws.{ReadsToOne, ListsToOne, ComparesAsOne, HeaderReadsToOne, AcceptsToOne, BestIsOne, OrderIsOne, BoundaryIsOne, UnescapesToOne, SetsToOne};
+ghost use Rattle.mime_c.specs.Laws.{ReadsToOne, ListsToOne, ComparesAsOne, HeaderReadsToOne, AcceptsToOne, BestIsOne, OrderIsOne};
+ghost use Rattle.mime_c.specs.Laws.{BoundaryIsOne, UnescapesToOne, SetsToOne};
 
 /// Unless memory runs out, `mime_read` of a text into a buffer has exactly one outcome.
 pub fn reads_to_one()

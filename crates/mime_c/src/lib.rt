@@ -378,7 +378,8 @@ pub extern "C" fn mime_accept(
 
 /// Reads an `Accept` header of one line, or of no line if `is_there` is false. Bad entries aren't kept.
 fn accepted(alloc: Global, is_there: bool, line: &[u8]) -> Result<Accept, AllocError>
-    ensures header { IfOk result (λ accept. (header : Header) × IsHeader (lines_of is_there line.now) header × (accept.ranges ≡ header.ranges)) }
+    ensures header { IfOk result (λ accept. (header : Header) × IsHeader (lines_of is_there line.now) header
+        × (accept.ranges ≡ header.ranges)) }
     ensures nothing { HaveNoEntry (lines_of is_there line.now) → IsOk result }
 {
     let lines = [line];
@@ -388,8 +389,8 @@ fn accepted(alloc: Global, is_there: bool, line: &[u8]) -> Result<Accept, AllocE
 
 /// Chooses the best offer of a list, such as `text/html, application/json`, for an `Accept` header (RFC 9110, 12.5.1). Sets `best` to the
 /// offer's position in the list, from 0. If `is_there` is false, the request has no such header, and accepts everything. Returns `MIME_OK`,
-/// `MIME_NOT_ACCEPTABLE`, `MIME_NO_MEMORY`, or `MIME_BAD_OFFER`. With `MIME_BAD_OFFER`, `best` is the position of the first offer that isn't
-/// a media type.
+/// `MIME_NOT_ACCEPTABLE`, `MIME_NO_MEMORY`, or `MIME_BAD_OFFER`. With `MIME_BAD_OFFER`, `best` is the position of the first offer that
+/// isn't a media type.
 #[unsafe(no_mangle)]
 pub extern "C" fn mime_best(
     alloc: Global,

@@ -1,5 +1,6 @@
 -- Values of Content-Disposition for which the words of the recipe hold, and others for which they don't.
-use Rattle.std.proofs.Common.{rules, ◌≡◌, ◌∙◌, ◌++◌, ◌∷◌, [], ℕ, List, Option, Some, None, false, length, map, length-append, refl, sym, ap, arith, codes}
+use Rattle.std.proofs.Common.{rules, ◌≡◌, ◌∙◌, ◌++◌, ◌∷◌, [], ℕ, List, Option, Some, None, false, length, map, length-append, refl, sym, ap}
+use Rattle.std.proofs.Common.{arith, codes}
 use Rattle.std.specs.{Option.option_map, Str.IsUtf8}
 use Rattle.std.proofs.lemmas.Option.{same_Some, none-some}
 use Rattle.mime.specs.{Bytes.is_token_byte, Bytes.is_quoted_byte, Values.MediaType}

@@ -1,7 +1,10 @@
 -- Bytes stand at a place in others.
-use Rattle.std.proofs.Common.{◌≡◌, ◌≢◌, ◌∙◌, ◌<◌, ◌-◌, ◌++◌, ◌∷◌, [], ℕ, List, Bool, true, take, drop, length, length-append, take-append-drop, nat_eq, ap, sym, refl, arith}
+use Rattle.std.proofs.Common.{◌≡◌, ◌≢◌, ◌∙◌, ◌<◌, ◌-◌, ◌++◌, ◌∷◌, [], ℕ, List, Bool, true, take, drop, length, length-append}
+use Rattle.std.proofs.Common.{take-append-drop, nat_eq, ap, sym, refl, arith}
 use Rattle.std.specs.List.{starts_with}
-use Rattle.std.proofs.{lemmas.Bool.Decides.Decides-eqb, lemmas.List.take_at, lemmas.List.drop_at, lemmas.List.take_rest, lemmas.Slice.Eq.starts_is}
+use Rattle.std.proofs.lemmas.Bool.Decides.{Decides-eqb}
+use Rattle.std.proofs.lemmas.List.{take_at, drop_at, take_rest}
+use Rattle.std.proofs.lemmas.Slice.Eq.{starts_is}
 
 -- What stands before a place in a text is taken up to it.
 pub taken : {text : List ℕ} (before rest : List ℕ) → text ≡ before ++ rest → take (length before) text ≡ before

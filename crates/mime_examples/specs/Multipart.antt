@@ -1,7 +1,8 @@
 -- The parts of a multipart body (RFC 2046, 5.1.1). A line ends with a line feed, with or without a carriage return before it. A delimiter
 -- is two hyphens and the boundary at the start of a line, and closes the body with two more hyphens after it. Any other line that goes on
 -- with more than white space isn't a delimiter, since the boundary of a part that is multipart itself may begin with this one.
-use Rattle.std.specs.Prelude.{◌≡◌, ◌≢◌, ◌⊎◌, ◌≤◌, ℕ, ◌-◌, Bool, true, false, List, [], ◌∷◌, ◌++◌, ◌==◌, Option, Some, None, IsTrue, not, codes, length, slice_get}
+use Rattle.std.specs.Prelude.{◌≡◌, ◌≢◌, ◌⊎◌, ◌≤◌, ℕ, ◌-◌, Bool, true, false, List, [], ◌∷◌, ◌++◌, ◌==◌, Option, Some, None, IsTrue, not}
+use Rattle.std.specs.Prelude.{codes, length, slice_get}
 use Rattle.std.specs.List.{list_all}
 use Rattle.std.specs.Str.{IsTrimAscii}
 use Rattle.mime.specs.{Grammar.is_space, Values.lowered}

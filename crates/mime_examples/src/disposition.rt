@@ -53,8 +53,8 @@ fn meaning(alloc: Global, mime: &Mime, name: &str) -> Result<Option<Vec<u8>>, Al
 /// parameters of the same name, the first counts.
 ///
 /// Browsers and curl write a backslash as it is, and `%22` in place of a quote. So a backslash is removed only before a quote or a
-/// backslash, unlike in other headers: `filename="C:\tmp\x.c"` names the file `C:\tmp\x.c`. But `\\` in a name becomes `\`, and a value with
-/// a name that ends in one backslash isn't read. `%22` isn't decoded. A parameter `filename*` isn't read.
+/// backslash, unlike in other headers: `filename="C:\tmp\x.c"` names the file `C:\tmp\x.c`. But `\\` in a name becomes `\`, and a value
+/// with a name that ends in one backslash isn't read. `%22` isn't decoded. A parameter `filename*` isn't read.
 ///
 /// # Errors
 /// Returns `AllocError` if memory runs out.

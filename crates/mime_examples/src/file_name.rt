@@ -20,7 +20,8 @@ use std::alloc::{AllocError, Global};
 /// Returns `AllocError` if memory runs out, as do the functions below.
 pub fn with_file_name(alloc: Global, mime: &Mime, name: &str) -> Result<Option<Mime>, AllocError>
     ensures exact { IfOk result (λ answer. IsTrue (is_some answer) ↔ AreHeaderBytes name.now) }
-    ensures made { IfOk result (λ answer. IfSome answer (λ named. named.media ≡ with_pair mime.now.media (codes "name") (escaped name.now))) }
+    ensures made { IfOk result (λ answer. IfSome answer (λ named. named.media
+        ≡ with_pair mime.now.media (codes "name") (escaped name.now))) }
 {
     with_parameter(alloc, mime, "name", name)
 }

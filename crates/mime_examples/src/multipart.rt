@@ -260,7 +260,8 @@ pub fn content_of(part: &[u8]) -> Option<&[u8]>
 /// `Content-Disposition`, or [`read_disposition`] returns `None`. Only the first line of a value is read (RFC 5322, 2.2.3).
 pub fn disposition_of(alloc: Global, part: &[u8]) -> Result<Option<Disposition>, AllocError>
     ensures { IfOk result (λ answer. (first : Option (List ℕ)) × IsFirstField (codes "content-disposition") part.now first
-        × MatchOption answer ((value name : List ℕ) (file_name : Option (List ℕ)) → first ≡ Some value → ¬ (IsDisposition value name file_name))
+        × MatchOption answer
+        ((value name : List ℕ) (file_name : Option (List ℕ)) → first ≡ Some value → ¬ (IsDisposition value name file_name))
         (λ found. (value : List ℕ) × (first ≡ Some value)
         × IsDisposition value (vec_items found.name) (option_map vec_items found.file_name))) }
 {

@@ -16,7 +16,8 @@ use std::alloc::Global;
 /// Returns the status of the reply: 406 if the client accepts no offer (RFC 9110, 15.5.7), or 503 if memory ran out (15.6.4).
 pub fn chosen<'o>(alloc: Global, lines: &[&[u8]], offers: &'o [Mime]) -> Result<&'o Mime, u16>
     ensures best { IfOk result (λ offer. (header : Header) × IsHeader (map (λ line. line.now) lines.now) header
-        × (at : ℕ) × (best_offer header.ranges (map (λ offer. offer.media) offers.now) ≡ Some at) × (slice_get offers.now at ≡ Some offer.now)) }
+        × (at : ℕ) × (best_offer header.ranges (map (λ offer. offer.media) offers.now) ≡ Some at)
+        × (slice_get offers.now at ≡ Some offer.now)) }
     ensures none { result ≡ Err 406 → (header : Header) × IsHeader (map (λ line. line.now) lines.now) header
         × (best_offer header.ranges (map (λ offer. offer.media) offers.now) ≡ None) }
     ensures known { IfErr result (λ status. (status ≡ 406) ⊎ (status ≡ 503)) }

@@ -2,7 +2,14 @@
 use Rattle.std.proofs.Common.{rules}
 use Rattle.mime_search.{specs.Classes.end_of_run, specs.declared.class.Class.Class}
 use Rattle.std.proofs.lemmas.List.{take-take}
-use Rattle.mime_http.proofs.Common.{is_stop, length-drop, length-take-le, not, take-append-drop, drop, prefix_len, one-add, take_rest, AreSpaces, IsToken, AreTokenBytes-from_token, AreTokenBytes, IsAscii-cons, IsAscii-nil, IsCharBoundary-after_ascii, IsCharBoundary-before_ascii, IsUtf8, IsUtf8-append, IsUtf8-drop, IsUtf8-from_ascii, IsUtf8-take, List, [], and_parts, append-nil, arith, drop-append-add, get_or, get_or_from_slice_get, is_space, is_token_byte, length, length-append, nat_tests, refl, slice_get-prefix, take-append_seam, ℕ, ⊤, ◌++◌, ◌+◌, ◌<◌, ◌∷◌, and_from, ap, cond_both, false, if◌then◌else◌, list_all-append, suc, take, take_all, take_more, trim_end, trim_start, trimmed, ◌-◌, ◌≡◌, ◌≤◌, HttpReads, MediaType, append_assoc, list_all, sym, ◌∙◌, IsUtf8-nil}
+use Rattle.mime_http.proofs.Common.{is_stop, length-drop, length-take-le, not, take-append-drop, drop, prefix_len, one-add, take_rest}
+use Rattle.mime_http.proofs.Common.{AreSpaces, IsToken, AreTokenBytes-from_token, AreTokenBytes, IsAscii-cons, IsAscii-nil}
+use Rattle.mime_http.proofs.Common.{IsCharBoundary-after_ascii, IsCharBoundary-before_ascii, IsUtf8, IsUtf8-append, IsUtf8-drop}
+use Rattle.mime_http.proofs.Common.{IsUtf8-from_ascii, IsUtf8-take, List, [], and_parts, append-nil, arith, drop-append-add, get_or}
+use Rattle.mime_http.proofs.Common.{get_or_from_slice_get, is_space, is_token_byte, length, length-append, nat_tests, refl}
+use Rattle.mime_http.proofs.Common.{slice_get-prefix, take-append_seam, ℕ, ⊤, ◌++◌, ◌+◌, ◌<◌, ◌∷◌, and_from, ap, cond_both, false}
+use Rattle.mime_http.proofs.Common.{if◌then◌else◌, list_all-append, suc, take, take_all, take_more, trim_end, trim_start, trimmed, ◌-◌, ◌≡◌}
+use Rattle.mime_http.proofs.Common.{◌≤◌, HttpReads, MediaType, append_assoc, list_all, sym, ◌∙◌, IsUtf8-nil}
 use Rattle.mime_http.proofs.{Runs.spaces-append}
 
 -- ---- ASCII bytes

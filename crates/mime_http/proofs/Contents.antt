@@ -1,12 +1,26 @@
 -- The content of quoted strings: what is written for a value and in which form, what needs no backslash, and what it means.
 use Rattle.std.proofs.Common.{rules}
-use Rattle.mime_http.proofs.Common.{AreHeaderBytes, one-add, AreTokenBytes-from_token, Bool, IsBoundary, IsContent, IsToken, List, WrittenIsMeant, [], and_parts, ap, append-nil, append_assoc, arith, drop, drop-length, escaped, false, get_or, if◌then◌else◌, is_bchar, is_quoted_byte, is_quoted_text_byte, is_token_byte, length, list_all, list_all-wider, lowered, lowered_value, nat_tests, no_byte, not, quoted_pair, refl, suc, sym, take, take-length, text_byte, true, unescaped, zero, ℕ, ◌&&◌, ◌*◌, ◌++◌, ◌+◌, ◌-◌, ◌<◌, ◌==◌, ◌||◌, ◌∙◌, ◌∷◌, ◌≡◌, ◌≢◌, ◌≤◌, Form, flat_map-append, text_of_pairs, Token, form_of, is_plain, is_token_value, prefix_len, text_in, text_of_pair, is_ascii_uppercase}
+use Rattle.mime_http.proofs.Common.{AreHeaderBytes, one-add, AreTokenBytes-from_token, Bool, IsBoundary, IsContent, IsToken, List}
+use Rattle.mime_http.proofs.Common.{WrittenIsMeant, [], and_parts, ap, append-nil, append_assoc, arith, drop, drop-length, escaped, false}
+use Rattle.mime_http.proofs.Common.{get_or, if◌then◌else◌, is_bchar, is_quoted_byte, is_quoted_text_byte, is_token_byte, length, list_all}
+use Rattle.mime_http.proofs.Common.{list_all-wider, lowered, lowered_value, nat_tests, no_byte, not, quoted_pair, refl, suc, sym, take}
+use Rattle.mime_http.proofs.Common.{take-length, text_byte, true, unescaped, zero, ℕ, ◌&&◌, ◌*◌, ◌++◌, ◌+◌, ◌-◌, ◌<◌, ◌==◌, ◌||◌, ◌∙◌, ◌∷◌}
+use Rattle.mime_http.proofs.Common.{◌≡◌, ◌≢◌, ◌≤◌, Form, flat_map-append, text_of_pairs, Token, form_of, is_plain, is_token_value}
+use Rattle.mime_http.proofs.Common.{prefix_len, text_in, text_of_pair, is_ascii_uppercase}
 use Rattle.mime.specs.Bytes.{backslash_byte}
 use Rattle.std.specs.Int.Bits.{or_zero_r}
 use Rattle.std.proofs.Common.{take-take, take_at, length-append}
-use Rattle.mime_http.proofs.{Common.prefix_len-le-length, Common.get_or-drop, Common.nat_lt, Common.drop-drop, Common.drop_more, Common.is_stop, Common.slice_range, ReadAt.run_is, ReadAt.run_goes_on}
-use Rattle.mime_search.{specs.Classes.end_of_run, specs.Quoted.meant_from, specs.declared.class.Class.Class, specs.declared.class.TheConstants.TEXT_STOPS}
-use Rattle.mime_http.{specs.declared.quoted.Form.TheVariants.Quoted, specs.declared.quoted.Form.TheVariants.Escaped, proofs.Common.Some, proofs.Common.None, proofs.Written.token_from_test, specs.declared.parameter.TheConstants.CONTROLS, proofs.ReadAt.are_text_bytes}
+use Rattle.mime_http.proofs.Common.{prefix_len-le-length, get_or-drop, nat_lt, drop-drop, drop_more, is_stop, slice_range}
+use Rattle.mime_http.proofs.ReadAt.{run_is, run_goes_on}
+use Rattle.mime_search.specs.Classes.{end_of_run}
+use Rattle.mime_search.specs.Quoted.{meant_from}
+use Rattle.mime_search.specs.declared.class.Class.{Class}
+use Rattle.mime_search.specs.declared.class.TheConstants.{TEXT_STOPS}
+use Rattle.mime_http.specs.declared.quoted.Form.TheVariants.{Quoted, Escaped}
+use Rattle.mime_http.proofs.Common.{Some, None}
+use Rattle.mime_http.proofs.Written.{token_from_test}
+use Rattle.mime_http.specs.declared.parameter.TheConstants.{CONTROLS}
+use Rattle.mime_http.proofs.ReadAt.{are_text_bytes}
 
 -- Bytes of quoted text need no backslash.
 pub plain_text : (bytes : List ℕ) → list_all is_quoted_text_byte bytes ≡ true → escaped bytes ≡ bytes

@@ -1,8 +1,17 @@
 -- Lines are cut in one way, and each line is; and how far a line's first piece goes.
 use Rattle.std.proofs.Common.{rules}
-use Rattle.mime_http.proofs.Common.{drop_of_length-le, AreBetweenCommas, At, BeginsPiece, IsInString, IsPiece, List, OneCut, Outside, [], after, ap, append-nil, append_assoc, arith, nat_tests, comma, cond_both, cut, cut_from, ends_piece, eqb-true, false, flat_map, line_end, no_line, opens_string, piece_byte, piece_end, piece_string, refl, string_byte, string_end, string_pair, subst, sym, true, ℕ, ⊤, ◌++◌, ◌==◌, ◌∙◌, ◌∷◌, ◌≡◌, Equals, Paired, before_mark, Bool, cond, cut_after, drop, drop-drop, drop_more, get_or, get_or-drop, is_mark, length, length-drop, min, not, prefix_len, prefix_len-le-length, suc, take, zero, ◌&&◌, ◌+◌, ◌-◌, ◌<◌, ◌≤◌, IsNextOutside, piece_len, passes_at_first, true≢false, cases_Bool, ⊎_elim, take-append-drop, take_all, cases_lt}
+use Rattle.mime_http.proofs.Common.{drop_of_length-le, AreBetweenCommas, At, BeginsPiece, IsInString, IsPiece, List, OneCut, Outside, []}
+use Rattle.mime_http.proofs.Common.{after, ap, append-nil, append_assoc, arith, nat_tests, comma, cond_both, cut, cut_from, ends_piece}
+use Rattle.mime_http.proofs.Common.{eqb-true, false, flat_map, line_end, no_line, opens_string, piece_byte, piece_end, piece_string, refl}
+use Rattle.mime_http.proofs.Common.{string_byte, string_end, string_pair, subst, sym, true, ℕ, ⊤, ◌++◌, ◌==◌, ◌∙◌, ◌∷◌, ◌≡◌, Equals, Paired}
+use Rattle.mime_http.proofs.Common.{before_mark, Bool, cond, cut_after, drop, drop-drop, drop_more, get_or, get_or-drop, is_mark, length}
+use Rattle.mime_http.proofs.Common.{length-drop, min, not, prefix_len, prefix_len-le-length, suc, take, zero, ◌&&◌, ◌+◌, ◌-◌, ◌<◌, ◌≤◌}
+use Rattle.mime_http.proofs.Common.{IsNextOutside, piece_len, passes_at_first, true≢false, cases_Bool, ⊎_elim, take-append-drop, take_all}
+use Rattle.mime_http.proofs.Common.{cases_lt}
 use Rattle.mime_http.specs.LineCut.{Quoted}
-use Rattle.mime_search.{specs.Classes.is_stop, specs.Classes.end_of_run, specs.Quoted.awaits_next, specs.Quoted.len_from, specs.declared.class.Class.Class}
+use Rattle.mime_search.specs.Classes.{is_stop, end_of_run}
+use Rattle.mime_search.specs.Quoted.{awaits_next, len_from}
+use Rattle.mime_search.specs.declared.class.Class.{Class}
 
 -- ---- what is a piece from a place on
 

@@ -1,7 +1,9 @@
 -- A header's value that is a media type has no error, and any other has one, but that memory ran out.
 use Rattle.std.proofs.Common.{List, ap, refl, sym, ℕ, ◌∙◌, ◌≡◌, ◌≢◌}
 use Rattle.std.{specs.Str.IsUtf8, proofs.lemmas.Str.utf8_valid_len-IsValidUpTo}
-use Rattle.mime_http.{specs.HttpFaults.HttpExplains, specs.HttpMediaType.IsHttpMediaType, proofs.ReadFaults.no_fault, proofs.ReadFaults.one_http_fault}
+use Rattle.mime_http.specs.HttpFaults.{HttpExplains}
+use Rattle.mime_http.specs.HttpMediaType.{IsHttpMediaType}
+use Rattle.mime_http.proofs.ReadFaults.{no_fault, one_http_fault}
 use Rattle.mime_http.specs.declared.value.FieldError.{FieldError, TheVariants.Invalid, TheVariants.NoMemory, TheVariants.NotUtf8}
 
 -- A media type has no error.

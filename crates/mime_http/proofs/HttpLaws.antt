@@ -1,6 +1,17 @@
 -- What is printed of a header's value: one text, which is read as its one media type, and needs memory only if it is long.
-use Rattle.mime_http.proofs.Common.{Explains, InvalidToken, NoMemory, ParseError, rejected-from_fault, ◌≢◌, IsUtf8, IsUtf8-nil, List, Parts, Reads, [], answer_of, arith, length, media_of, read, subst, text_of_parts, ℕ, ◌≡◌, IsPrinted, MediaType, OneHttpReading, OnePrintedText, PrintedIsRead, anew, ap, as_it_stands, one_reading, sym, trimmed, with_pairs, ◌∙◌, kept_is_read, HttpReads, Err, HttpExplains, IfErr, IsAccepted, IsHttpMediaType, NeedsMemory, Ok, Result, codes, is_token_byte, refl, ◌<◌, ◌≤◌, IsOk}
-use Rattle.mime_http.{proofs.Around.put_ascii, proofs.Around.put_one, proofs.Around.put_token, proofs.ReadBack.answered_is_http, proofs.ReadForth.AreFound, proofs.ReadForth.http_is_answered, proofs.Written.length-pairs, proofs.Written.lengths, proofs.Written.parts_are_read, proofs.PlainIsHttp.plain_is_http, proofs.Around.reads_around, proofs.ReadFaults.no_fault, specs.declared.value.FieldError.FieldError, specs.declared.value.FieldError.TheVariants.NotUtf8, specs.declared.value.FieldError.TheVariants.Invalid}
+use Rattle.mime_http.proofs.Common.{Explains, InvalidToken, NoMemory, ParseError, rejected-from_fault, ◌≢◌, IsUtf8, IsUtf8-nil, List, Parts}
+use Rattle.mime_http.proofs.Common.{Reads, [], answer_of, arith, length, media_of, read, subst, text_of_parts, ℕ, ◌≡◌, IsPrinted, MediaType}
+use Rattle.mime_http.proofs.Common.{OneHttpReading, OnePrintedText, PrintedIsRead, anew, ap, as_it_stands, one_reading, sym, trimmed}
+use Rattle.mime_http.proofs.Common.{with_pairs, ◌∙◌, kept_is_read, HttpReads, Err, HttpExplains, IfErr, IsAccepted, IsHttpMediaType}
+use Rattle.mime_http.proofs.Common.{NeedsMemory, Ok, Result, codes, is_token_byte, refl, ◌<◌, ◌≤◌, IsOk}
+use Rattle.mime_http.proofs.Around.{put_ascii, put_one, put_token, reads_around}
+use Rattle.mime_http.proofs.ReadBack.{answered_is_http}
+use Rattle.mime_http.proofs.ReadForth.{AreFound, http_is_answered}
+use Rattle.mime_http.proofs.Written.{length-pairs, lengths, parts_are_read}
+use Rattle.mime_http.proofs.PlainIsHttp.{plain_is_http}
+use Rattle.mime_http.proofs.ReadFaults.{no_fault}
+use Rattle.mime_http.specs.declared.value.FieldError.{FieldError}
+use Rattle.mime_http.specs.declared.value.FieldError.TheVariants.{NotUtf8, Invalid}
 use Rattle.mime_http.specs.declared.value.FieldError.TheVariants as field
 
 -- ---- what is written anew

@@ -2,8 +2,27 @@
 use Rattle.std.proofs.Common.{rules}
 use Rattle.std.specs.Str.{is_utf8}
 use Rattle.std.proofs.lemmas.Str.{IsUtf8-from_is_utf8, is_utf8-from_IsUtf8}
-use Rattle.mime_http.proofs.Common.{Answer, FirstBad, Header, IsHeader, IsUtf8, OneFirstBad, after_blank, after_range, arith, bad_here, inl, inr, length, lines_or_any, list_all, media_of, rejected, suc, true≢false, ◌⊎◌, ◌≢◌, At, Outside, State, Parts, MatchOption, MatchOption-at_some, MissingSlash, by_option, next, ends_piece, after, answer_of, answer_from, answer_at_end, read, before_type, in_subtype, in_value, in_string, is_quoted_byte, ◌+◌, AreBetweenCommas, AreElements, AreSame, AreSorted, AreSpaces, BadIsAlone, BeginsPiece, HttpListsAreRead, HttpReads, IsAccepted, IsHttpMediaType, IsPiece, IsPrinted, List, MediaType, OneHeader, ReadAreHttpLists, [], a_bad, a_range, accepted_or_rejected, and_parts, anew, ap, append-nil, arith, as_it_stands, comma, element, false, is_space, is_token_byte, line_end, nat_tests, no_line, no_text, nothing, piece_byte, piece_end, refl, sym, trimmed, with_pairs, ℕ, ⊎_elim, ⊤, ◌∙◌, ◌∷◌, ◌≡◌, Equals, Paired, awaits_after, awaits_after-append, cases_Bool, if◌then◌else◌}
-use Rattle.mime_http.{specs.HttpList.blank, specs.LineCut.Quoted, proofs.Around.reads_around, proofs.Around.white_more, proofs.HttpLaws.one_printed_text, proofs.HttpLaws.same_anew, proofs.PlainIsHttp.plain_is_http, proofs.Takes.sorted_both, proofs.Cuts.IsOutside, proofs.Cuts.IsWhole, proofs.Cuts.is_piece, proofs.Cuts.one_cut, proofs.Cuts.only_cut, proofs.Cuts.opens_none, proofs.ReadBack.answered_is_http, proofs.ReadFaults.rejected_is_none, proofs.ReadForth.http_is_answered, proofs.Runs.keeps_before, proofs.Runs.over_white}
+use Rattle.mime_http.proofs.Common.{Answer, FirstBad, Header, IsHeader, IsUtf8, OneFirstBad, after_blank, after_range, arith, bad_here, inl}
+use Rattle.mime_http.proofs.Common.{inr, length, lines_or_any, list_all, media_of, rejected, suc, true≢false, ◌⊎◌, ◌≢◌, At, Outside, State}
+use Rattle.mime_http.proofs.Common.{Parts, MatchOption, MatchOption-at_some, MissingSlash, by_option, next, ends_piece, after, answer_of}
+use Rattle.mime_http.proofs.Common.{answer_from, answer_at_end, read, before_type, in_subtype, in_value, in_string, is_quoted_byte, ◌+◌}
+use Rattle.mime_http.proofs.Common.{AreBetweenCommas, AreElements, AreSame, AreSorted, AreSpaces, BadIsAlone, BeginsPiece, HttpListsAreRead}
+use Rattle.mime_http.proofs.Common.{HttpReads, IsAccepted, IsHttpMediaType, IsPiece, IsPrinted, List, MediaType, OneHeader}
+use Rattle.mime_http.proofs.Common.{ReadAreHttpLists, [], a_bad, a_range, accepted_or_rejected, and_parts, anew, ap, append-nil, arith}
+use Rattle.mime_http.proofs.Common.{as_it_stands, comma, element, false, is_space, is_token_byte, line_end, nat_tests, no_line, no_text}
+use Rattle.mime_http.proofs.Common.{nothing, piece_byte, piece_end, refl, sym, trimmed, with_pairs, ℕ, ⊎_elim, ⊤, ◌∙◌, ◌∷◌, ◌≡◌, Equals}
+use Rattle.mime_http.proofs.Common.{Paired, awaits_after, awaits_after-append, cases_Bool, if◌then◌else◌}
+use Rattle.mime_http.specs.HttpList.{blank}
+use Rattle.mime_http.specs.LineCut.{Quoted}
+use Rattle.mime_http.proofs.Around.{reads_around, white_more}
+use Rattle.mime_http.proofs.HttpLaws.{one_printed_text, same_anew}
+use Rattle.mime_http.proofs.PlainIsHttp.{plain_is_http}
+use Rattle.mime_http.proofs.Takes.{sorted_both}
+use Rattle.mime_http.proofs.Cuts.{IsOutside, IsWhole, is_piece, one_cut, only_cut, opens_none}
+use Rattle.mime_http.proofs.ReadBack.{answered_is_http}
+use Rattle.mime_http.proofs.ReadFaults.{rejected_is_none}
+use Rattle.mime_http.proofs.ReadForth.{http_is_answered}
+use Rattle.mime_http.proofs.Runs.{keeps_before, over_white}
 use Rattle.mime_http.specs.ListLaws.{no_element}
 
 -- ---- what HTTP writes has no comma outside strings

@@ -1,8 +1,23 @@
 -- Offers that are sorted by their ranks are in order, of which the first is the best.
 use Rattle.std.proofs.Common.{rules}
-use Rattle.mime_http.proofs.Common.{BestIsRankedFirst, NoneIsBest, OneOrder, OneRanking, by_option, get_or_from_slice_get, option_map, slice_get_within, unwrap_or, AllPairs, All-contains, Option, best_offer, if◌then◌else◌, position, slice_get, AreInOrder, Contains, IsDistinct, IsTotalOrder, List, MediaType, Ordering, Rank, Reverse, [], ap, arith, back_total, false, flip_args, get_or, get_or_past, cases_Bool, inl, inr, is_gt, is_lt, length, length-map, map, map-append, merit, nat_cmp, nat_cmp_total, nat_tests, ne_eqb, on, on_total, ordering_then, rank_cmp, subst, sym, then_cmp, true, then_total, ℕ, ⊎_elim, ◌++◌, ◌+◌, ◌<◌, ◌==◌, ◌∙◌, ◌∷◌, ◌≡◌, ◌≤◌, ◌⊎◌, All, cases_lt, All-map, All-push, Contains-append_left, Contains-append_right, BestIsAcceptable, BestIsFirst, None, Some, and_parts, get_or-map, nat_lt, refl, slice_get-get_or, suc, zero}
-use Rattle.std.{specs.List.Sorted.IsPermutation, specs.List.Sorted.IsSorted, proofs.lemmas.List.Quantifiers.all_pairs_push, proofs.lemmas.List.Sorted.ranks_by, proofs.lemmas.List.Sorted.sorted_far, proofs.lemmas.List.Sorted.All-permutation, proofs.lemmas.List.Sorted.IsPermutation-map, proofs.lemmas.List.Sorted.Contains-permutation, proofs.lemmas.Map.Keys.IsDistinct-IsPermutation, proofs.lemmas.Map.Keys.IsDistinct-from_apart, proofs.lemmas.Map.Keys.apart_from_distinct, proofs.Math.ListN.get_or-map as get_or-map_at, proofs.lemmas.List.Quantifiers.position-Some}
-use Rattle.mime_http.specs.{Ranges.ComesBefore, Ranges.merit_at, Ranking.IsRanking, Ranking.ranked_as, Sorted.AreRanked, declared.ranking.RankedOffer.RankedOffer}
+use Rattle.mime_http.proofs.Common.{BestIsRankedFirst, NoneIsBest, OneOrder, OneRanking, by_option, get_or_from_slice_get, option_map}
+use Rattle.mime_http.proofs.Common.{slice_get_within, unwrap_or, AllPairs, All-contains, Option, best_offer, if◌then◌else◌, position}
+use Rattle.mime_http.proofs.Common.{slice_get, AreInOrder, Contains, IsDistinct, IsTotalOrder, List, MediaType, Ordering, Rank, Reverse, []}
+use Rattle.mime_http.proofs.Common.{ap, arith, back_total, false, flip_args, get_or, get_or_past, cases_Bool, inl, inr, is_gt, is_lt}
+use Rattle.mime_http.proofs.Common.{length, length-map, map, map-append, merit, nat_cmp, nat_cmp_total, nat_tests, ne_eqb, on, on_total}
+use Rattle.mime_http.proofs.Common.{ordering_then, rank_cmp, subst, sym, then_cmp, true, then_total, ℕ, ⊎_elim, ◌++◌, ◌+◌, ◌<◌, ◌==◌, ◌∙◌}
+use Rattle.mime_http.proofs.Common.{◌∷◌, ◌≡◌, ◌≤◌, ◌⊎◌, All, cases_lt, All-map, All-push, Contains-append_left, Contains-append_right}
+use Rattle.mime_http.proofs.Common.{BestIsAcceptable, BestIsFirst, None, Some, and_parts, get_or-map, nat_lt, refl, slice_get-get_or, suc}
+use Rattle.mime_http.proofs.Common.{zero}
+use Rattle.std.specs.List.Sorted.{IsPermutation, IsSorted}
+use Rattle.std.proofs.lemmas.List.Quantifiers.{all_pairs_push, position-Some}
+use Rattle.std.proofs.lemmas.List.Sorted.{ranks_by, sorted_far, All-permutation, IsPermutation-map, Contains-permutation}
+use Rattle.std.proofs.lemmas.Map.Keys.{IsDistinct-IsPermutation, IsDistinct-from_apart, apart_from_distinct}
+use Rattle.std.proofs.Math.ListN.{get_or-map as get_or-map_at}
+use Rattle.mime_http.specs.Ranges.{ComesBefore, merit_at}
+use Rattle.mime_http.specs.Ranking.{IsRanking, ranked_as}
+use Rattle.mime_http.specs.Sorted.{AreRanked}
+use Rattle.mime_http.specs.declared.ranking.RankedOffer.{RankedOffer}
 use Rattle.mime_http.proofs.Highest.{all_weigh_0, best_is_found, is_best, lowest, one_rank, rank_at, ranks_total}
 
 -- What weighs something is an offer's.

@@ -2,8 +2,20 @@
 use Rattle.std.proofs.Common.{rules}
 use Rattle.std.proofs.lemmas.Grind.{common_steps}
 use Rattle.std.proofs.Common.{suc, sym, zero}
-use Rattle.mime_http.proofs.Common.{Bool, one-add, InvalidToken, IsClosedAt, IsContent, List, None, ParseError, Some, State, [], IsStringFault, IsToken, Parts, after_semicolon, answer_at, answer_at_end, answer_from, ap, append-nil, append_assoc, arith, awaits_after, awaits_after-append, before_semicolon, cases_lt, drop, drop-drop, drop_more, drop_of_length-le, drop_split, false, fault_at, flat_map-append, get_or-drop, if◌then◌else◌, in_name, in_ranges, in_string, in_subtype, in_value, is_quoted_byte, is_quoted_text_byte, is_space, is_bchar, is_token_byte, is_token_value, length, length-drop, length-take-le, nat_tests, list_all, list_all-append, list_all-wider, next, no_byte, not, prefix_len, prefix_len_stops, quoted_pair, refl, rejected, slice_index, slice_range, take, take-add, take-append-drop, take_all, text_byte, text_of_pair, text_of_parts, true, with_parameter, ℕ, ◌++◌, ◌+◌, ◌-◌, ◌<◌, ◌∙◌, ◌∷◌, ◌≡◌, ◌≢◌, ◌≤◌, not-true, content-awaits, is_stop}
-use Rattle.mime_http.{proofs.Written.token_from_test, proofs.ReadBack.content_more, proofs.Runs.EndsToken, proofs.Runs.KeepsSpace, proofs.Runs.content_ends, proofs.Runs.name_begins, proofs.Runs.no_way, proofs.Runs.on_content, proofs.Runs.on_subtype, proofs.Runs.on_value, proofs.Runs.one_byte, proofs.Runs.over_white, proofs.Runs.subtype_ends, proofs.Runs.value_ends}
+use Rattle.mime_http.proofs.Common.{Bool, one-add, InvalidToken, IsClosedAt, IsContent, List, None, ParseError, Some, State, []}
+use Rattle.mime_http.proofs.Common.{IsStringFault, IsToken, Parts, after_semicolon, answer_at, answer_at_end, answer_from, ap, append-nil}
+use Rattle.mime_http.proofs.Common.{append_assoc, arith, awaits_after, awaits_after-append, before_semicolon, cases_lt, drop, drop-drop}
+use Rattle.mime_http.proofs.Common.{drop_more, drop_of_length-le, drop_split, false, fault_at, flat_map-append, get_or-drop, if◌then◌else◌}
+use Rattle.mime_http.proofs.Common.{in_name, in_ranges, in_string, in_subtype, in_value, is_quoted_byte, is_quoted_text_byte, is_space}
+use Rattle.mime_http.proofs.Common.{is_bchar, is_token_byte, is_token_value, length, length-drop, length-take-le, nat_tests, list_all}
+use Rattle.mime_http.proofs.Common.{list_all-append, list_all-wider, next, no_byte, not, prefix_len, prefix_len_stops, quoted_pair, refl}
+use Rattle.mime_http.proofs.Common.{rejected, slice_index, slice_range, take, take-add, take-append-drop, take_all, text_byte, text_of_pair}
+use Rattle.mime_http.proofs.Common.{text_of_parts, true, with_parameter, ℕ, ◌++◌, ◌+◌, ◌-◌, ◌<◌, ◌∙◌, ◌∷◌, ◌≡◌, ◌≢◌, ◌≤◌, not-true}
+use Rattle.mime_http.proofs.Common.{content-awaits, is_stop}
+use Rattle.mime_http.proofs.Written.{token_from_test}
+use Rattle.mime_http.proofs.ReadBack.{content_more}
+use Rattle.mime_http.proofs.Runs.{EndsToken, KeepsSpace, content_ends, name_begins, no_way, on_content, on_subtype, on_value, one_byte}
+use Rattle.mime_http.proofs.Runs.{over_white, subtype_ends, value_ends}
 use Rattle.mime_search.specs.declared.class.TheConstants.{TOKEN_STOPS, TEXT_STOPS}
 
 -- ---- a part of a value

@@ -1,6 +1,13 @@
 -- What is read of a value is what HTTP writes: each state says what the bytes so far are.
 use Rattle.std.proofs.Common.{rules}
-use Rattle.mime_http.proofs.Common.{Answer, arith, AreHttpParameters, AreSpaces, AreTokenBytes, AreTokenBytes-from_token, Bool, HttpReads, IsContent, IsHttpParameter, IsToken, List, MatchOption, MatchOption-at_some, Option, Parts, Some, State, [], after_semicolon, answer_at_end, answer_from, answer_of, append-nil, append_assoc, before_semicolon, before_type, cond_both, eqb-true, in_name, in_string, in_subtype, in_type, in_value, is_space, is_token_byte, list_all, list_all-append, map, map-append, media_of, next, no_byte, no_more, quoted_pair, read, refl, rejected, semicolon, semicolon_and, subst, text_byte, true, with_parameter, with_string, with_token, ℕ, ⊤, ◌++◌, ◌+◌, ◌∷◌, ◌≡◌, IsOpenContent, lowered_pair, IsContent-closed, IsOpenContent-push}
+use Rattle.mime_http.proofs.Common.{Answer, arith, AreHttpParameters, AreSpaces, AreTokenBytes, AreTokenBytes-from_token, Bool, HttpReads}
+use Rattle.mime_http.proofs.Common.{IsContent, IsHttpParameter, IsToken, List, MatchOption, MatchOption-at_some, Option, Parts, Some, State}
+use Rattle.mime_http.proofs.Common.{[], after_semicolon, answer_at_end, answer_from, answer_of, append-nil, append_assoc, before_semicolon}
+use Rattle.mime_http.proofs.Common.{before_type, cond_both, eqb-true, in_name, in_string, in_subtype, in_type, in_value, is_space}
+use Rattle.mime_http.proofs.Common.{is_token_byte, list_all, list_all-append, map, map-append, media_of, next, no_byte, no_more}
+use Rattle.mime_http.proofs.Common.{quoted_pair, read, refl, rejected, semicolon, semicolon_and, subst, text_byte, true, with_parameter}
+use Rattle.mime_http.proofs.Common.{with_string, with_token, ℕ, ⊤, ◌++◌, ◌+◌, ◌∷◌, ◌≡◌, IsOpenContent, lowered_pair, IsContent-closed}
+use Rattle.mime_http.proofs.Common.{IsOpenContent-push}
 
 -- ---- what the bytes are in each state
 

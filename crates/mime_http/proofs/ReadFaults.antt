@@ -1,7 +1,16 @@
 -- The fault of a value that isn't read is the answer: where reading stops nothing helps, and at each byte before that something does.
 use Rattle.std.proofs.Common.{rules}
-use Rattle.mime_http.proofs.Common.{Answer, AreSpaces, not, ◌==◌, nat_tests, EndsIn, InvalidToken, IsHttpFault, IsHttpMediaType, IsHttpViable, List, MissingQuote, MissingSubtype, MissingValue, NoMemory, None, OneHttpFault, ParseError, Parts, State, [], awaits_after, list_all, true, with_parameter, answer_at_end, answer_from, answer_of, ap, append-nil, append_assoc, arith, before_type, by_option, false, codes, completion_of, cons_option, in_name, in_string, in_subtype, in_type, in_value, is_quoted_byte, is_token_byte, last_byte_of, length, length-append, media_of, next, read, refl, rejected, slice_get-prefix, slice_get_within, subst, suc, sym, take, take-append-add, take-append_seam, take-length, unwrap_or, ℕ, ⊤, ◌++◌, ◌+◌, ◌-◌, ◌∙◌, ◌∷◌, ◌≡◌, ◌≢◌, closed-letter, takes_all-any}
-use Rattle.mime_http.proofs.{Runs.no_way, Runs.one_byte, ReadBack.Behind, ReadBack.Spells, ReadBack.behind, ReadBack.answered_is_http, ReadBack.read_at_end, ReadBack.read_from, ReadBack.spelled_after, ReadForth.http_is_answered}
+use Rattle.mime_http.proofs.Common.{Answer, AreSpaces, not, ◌==◌, nat_tests, EndsIn, InvalidToken, IsHttpFault, IsHttpMediaType}
+use Rattle.mime_http.proofs.Common.{IsHttpViable, List, MissingQuote, MissingSubtype, MissingValue, NoMemory, None, OneHttpFault}
+use Rattle.mime_http.proofs.Common.{ParseError, Parts, State, [], awaits_after, list_all, true, with_parameter, answer_at_end, answer_from}
+use Rattle.mime_http.proofs.Common.{answer_of, ap, append-nil, append_assoc, arith, before_type, by_option, false, codes, completion_of}
+use Rattle.mime_http.proofs.Common.{cons_option, in_name, in_string, in_subtype, in_type, in_value, is_quoted_byte, is_token_byte}
+use Rattle.mime_http.proofs.Common.{last_byte_of, length, length-append, media_of, next, read, refl, rejected, slice_get-prefix}
+use Rattle.mime_http.proofs.Common.{slice_get_within, subst, suc, sym, take, take-append-add, take-append_seam, take-length, unwrap_or, ℕ}
+use Rattle.mime_http.proofs.Common.{⊤, ◌++◌, ◌+◌, ◌-◌, ◌∙◌, ◌∷◌, ◌≡◌, ◌≢◌, closed-letter, takes_all-any}
+use Rattle.mime_http.proofs.Runs.{no_way, one_byte}
+use Rattle.mime_http.proofs.ReadBack.{Behind, Spells, behind, answered_is_http, read_at_end, read_from, spelled_after}
+use Rattle.mime_http.proofs.ReadForth.{http_is_answered}
 
 -- What isn't read is no media type.
 pub rejected_is_none : (value : List ℕ) (fault : ParseError) → answer_of value ≡ rejected fault → ¬ (IsHttpMediaType value)

@@ -1,6 +1,14 @@
 -- What HTTP writes is read, byte by byte, as the media type that it is; what is read is safe in a header, and in UTF-8.
-use Rattle.mime_http.proofs.Common.{AllByRecursion, IsUtf8-append, cond_both, is_token_value, text_of_pair, text_of_pairs, length-append, AreHttpParameters, AreSpaces, AreTokenBytes-from_token, HttpReads, IsHttpParameter, IsSafePair, IsToken, IsUtf8, IsUtf8-nil, List, MediaType, Parts, Some, State, [], after_semicolon, and_parts, answer_at_end, answer_from, answer_of, ap, append-nil, append_assoc, arith, before_semicolon, content-from_token, is_quoted_byte, is_space, is_token_byte, length, map, media_of, next, no_more, read, refl, semicolon, semicolon_and, subst, sym, with_pairs, with_parameter, with_string, with_token, ℕ, ◌++◌, ◌+◌, ◌∙◌, ◌∷◌, ◌≡◌, before_type, lowered_pair, regroup}
-use Rattle.mime_http.proofs.{Around.around, Around.past_ascii, Around.put_ascii, Around.spaces_ascii, Runs.EndsToken, Runs.KeepsSpace, Around.past_token, Around.put_one, Around.put_token, Runs.content_ends, Runs.name_begins, Runs.on_content, Runs.on_subtype, Runs.on_value, Runs.space_is_no_token, Runs.subtype_ends, Runs.type_begins, Runs.value_ends, Runs.keeps_after, Runs.keeps_before, Runs.keeps_inside, Runs.over_white}
+use Rattle.mime_http.proofs.Common.{AllByRecursion, IsUtf8-append, cond_both, is_token_value, text_of_pair, text_of_pairs, length-append}
+use Rattle.mime_http.proofs.Common.{AreHttpParameters, AreSpaces, AreTokenBytes-from_token, HttpReads, IsHttpParameter, IsSafePair, IsToken}
+use Rattle.mime_http.proofs.Common.{IsUtf8, IsUtf8-nil, List, MediaType, Parts, Some, State, [], after_semicolon, and_parts, answer_at_end}
+use Rattle.mime_http.proofs.Common.{answer_from, answer_of, ap, append-nil, append_assoc, arith, before_semicolon, content-from_token}
+use Rattle.mime_http.proofs.Common.{is_quoted_byte, is_space, is_token_byte, length, map, media_of, next, no_more, read, refl, semicolon}
+use Rattle.mime_http.proofs.Common.{semicolon_and, subst, sym, with_pairs, with_parameter, with_string, with_token, ℕ, ◌++◌, ◌+◌, ◌∙◌, ◌∷◌}
+use Rattle.mime_http.proofs.Common.{◌≡◌, before_type, lowered_pair, regroup}
+use Rattle.mime_http.proofs.Around.{around, past_ascii, put_ascii, spaces_ascii, past_token, put_one, put_token}
+use Rattle.mime_http.proofs.Runs.{EndsToken, KeepsSpace, content_ends, name_begins, on_content, on_subtype, on_value, space_is_no_token}
+use Rattle.mime_http.proofs.Runs.{subtype_ends, type_begins, value_ends, keeps_after, keeps_before, keeps_inside, over_white}
 
 -- ---- a parameter
 

@@ -1,5 +1,9 @@
 -- How reading goes on over white space, over a token, and over quoted content.
-use Rattle.mime_http.proofs.Common.{AreSpaces, AreTokenBytes, Bool, InvalidToken, IsContent, IsToken, List, None, Parts, Some, State, [], after_semicolon, append-nil, awaits_after, awaits_after-append, takes_all, append_assoc, answer_from, arith, before_semicolon, before_type, in_name, in_string, in_subtype, in_type, in_value, is_space, is_token_byte, length, list_all, list_all-append, nat_tests, next, refl, rejected, true, false, with_parameter, ℕ, ⊤, ◌++◌, ◌+◌, ◌∷◌, ◌≡◌, content-closed, content-taken}
+use Rattle.mime_http.proofs.Common.{AreSpaces, AreTokenBytes, Bool, InvalidToken, IsContent, IsToken, List, None, Parts, Some, State, []}
+use Rattle.mime_http.proofs.Common.{after_semicolon, append-nil, awaits_after, awaits_after-append, takes_all, append_assoc, answer_from}
+use Rattle.mime_http.proofs.Common.{arith, before_semicolon, before_type, in_name, in_string, in_subtype, in_type, in_value, is_space}
+use Rattle.mime_http.proofs.Common.{is_token_byte, length, list_all, list_all-append, nat_tests, next, refl, rejected, true, false}
+use Rattle.mime_http.proofs.Common.{with_parameter, ℕ, ⊤, ◌++◌, ◌+◌, ◌∷◌, ◌≡◌, content-closed, content-taken}
 
 -- White space after white space is white space.
 pub spaces-append : (n m : List ℕ) → AreSpaces n → AreSpaces m → AreSpaces (n ++ m)

@@ -1,8 +1,12 @@
 -- A range that covers none of the offers only moves the ranges after it by one position, which changes no comparison.
 use Rattle.std.proofs.Common.{rules}
-use Rattle.mime_http.proofs.Common.{cons_option, filter_map, find, Contains, List, MediaType, None, Rank, StrangerChangesNothing, [], ap, arith, closeness, enumerate_from, get_or, if◌then◌else◌, length, length-append, list_all-map, map, merit, nat_cmp, nat_lt, nat_tests, option_map, ordering_then, position, rank_cmp, refl, sym, zero, ℕ, ◌++◌, ◌+◌, ◌-◌, ◌∙◌, ◌∷◌, ◌≡◌, ◌≤◌, Contains-append_right}
+use Rattle.mime_http.proofs.Common.{cons_option, filter_map, find, Contains, List, MediaType, None, Rank, StrangerChangesNothing, [], ap}
+use Rattle.mime_http.proofs.Common.{arith, closeness, enumerate_from, get_or, if◌then◌else◌, length, length-append, list_all-map, map}
+use Rattle.mime_http.proofs.Common.{merit, nat_cmp, nat_lt, nat_tests, option_map, ordering_then, position, rank_cmp, refl, sym, zero, ℕ}
+use Rattle.mime_http.proofs.Common.{◌++◌, ◌+◌, ◌-◌, ◌∙◌, ◌∷◌, ◌≡◌, ◌≤◌, Contains-append_right}
 use Rattle.std.proofs.Math.ListN.{get_or-map}
-use Rattle.mime_http.{specs.Ranges.ComesBefore, proofs.Highest.is_best, proofs.Highest.lowest, proofs.Highest.position-map, proofs.Highest.rank_at, proofs.Highest.is_top}
+use Rattle.mime_http.specs.Ranges.{ComesBefore}
+use Rattle.mime_http.proofs.Highest.{is_best, lowest, position-map, rank_at, is_top}
 
 -- This is a rank with another last place.
 abbrev moved : (ℕ → ℕ) → Rank → Rank

@@ -1,7 +1,14 @@
 -- What is taken of lines, piece by piece.
 use Rattle.std.proofs.Common.{rules}
-use Rattle.mime_http.proofs.Common.{AreHeld, At, FirstBad, Held, IsFirstBad, MatchOption, None, Option, Some, after_blank, after_range, bad_here, cut_from, after, false, length-append, nothing_held, ap, option_or, pieces_of, with_bad, with_range, ◌∙◌, ◌^◌, AreSorted, AreSpaces, Bool, Header, HttpReads, IsHeader, IsHttpMediaType, IsPrinted, IsUtf8, List, MediaType, OnOk, Outside, Result, Takes, [], a_bad, a_range, append-nil, append_assoc, cut, cut_after, arith, drop, drop_more, drop_of_length-le, get_or, if◌then◌else◌, length, lines_or_any, no_text, on_ok_weaker, refl, sym, take, trimmed, ℕ, ◌++◌, ◌+◌, ◌-◌, ◌<◌, ◌∷◌, ◌≡◌, ◌≤◌}
-use Rattle.mime_http.{specs.HttpList.blank, proofs.Cuts.are_cut, proofs.Cuts.only_cut, proofs.Cuts.cut_at_end, proofs.Cuts.end_on, proofs.Around.trimmed_from_blank}
+use Rattle.mime_http.proofs.Common.{AreHeld, At, FirstBad, Held, IsFirstBad, MatchOption, None, Option, Some, after_blank, after_range}
+use Rattle.mime_http.proofs.Common.{bad_here, cut_from, after, false, length-append, nothing_held, ap, option_or, pieces_of, with_bad}
+use Rattle.mime_http.proofs.Common.{with_range, ◌∙◌, ◌^◌, AreSorted, AreSpaces, Bool, Header, HttpReads, IsHeader, IsHttpMediaType}
+use Rattle.mime_http.proofs.Common.{IsPrinted, IsUtf8, List, MediaType, OnOk, Outside, Result, Takes, [], a_bad, a_range, append-nil}
+use Rattle.mime_http.proofs.Common.{append_assoc, cut, cut_after, arith, drop, drop_more, drop_of_length-le, get_or, if◌then◌else◌, length}
+use Rattle.mime_http.proofs.Common.{lines_or_any, no_text, on_ok_weaker, refl, sym, take, trimmed, ℕ, ◌++◌, ◌+◌, ◌-◌, ◌<◌, ◌∷◌, ◌≡◌, ◌≤◌}
+use Rattle.mime_http.specs.HttpList.{blank}
+use Rattle.mime_http.proofs.Cuts.{are_cut, only_cut, cut_at_end, end_on}
+use Rattle.mime_http.proofs.Around.{trimmed_from_blank}
 
 -- Two runs of texts are sorted one after the other.
 pub sorted_both : {texts more : List (List ℕ)} {ranges others : List MediaType} {bad poor : List (List ℕ)}

@@ -2,7 +2,9 @@
 use Rattle.std.specs.Prelude.{ℕ, Bool, List, [], ◌∷◌, ◌++◌, ◌||◌, ◌==◌, not, if◌then◌else◌, codes}
 use Rattle.std.specs.List.{list_all}
 use Rattle.mime.specs.Bytes.{is_quoted_text_byte, equals_byte, quote_byte, backslash_byte}
-use Rattle.mime_http.specs.{Written.escaped, Written.is_token_value, declared.quoted.Form.Form, declared.quoted.Form.TheVariants.Token, declared.quoted.Form.TheVariants.Quoted, declared.quoted.Form.TheVariants.Escaped}
+use Rattle.mime_http.specs.Written.{escaped, is_token_value}
+use Rattle.mime_http.specs.declared.quoted.Form.{Form}
+use Rattle.mime_http.specs.declared.quoted.Form.TheVariants.{Token, Quoted, Escaped}
 
 -- whether a byte of a quoted string needs no backslash
 abbrev pub is_plain : ℕ → Bool

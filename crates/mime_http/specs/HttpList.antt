@@ -2,7 +2,9 @@
 -- is printed for a media type. OWS (5.6.3) is the `AreSpaces` of `mime`.
 use Rattle.std.specs.Prelude.{◌≡◌, ℕ, suc, Bool, false, List, [], ◌∷◌, ◌++◌, ◌==◌, ◌&&◌, IsFalse, if◌then◌else◌, codes}
 use Rattle.std.specs.{List.list_all, Str.IsUtf8}
-use Rattle.mime.specs.{Bytes.comma_byte, Bytes.equals_byte, Bytes.quote_byte, Bytes.backslash_byte, Grammar.is_space, Grammar.AreSpaces, Values.MediaType, Values.Reads, Values.IsAccepted}
+use Rattle.mime.specs.Bytes.{comma_byte, equals_byte, quote_byte, backslash_byte}
+use Rattle.mime.specs.Grammar.{is_space, AreSpaces}
+use Rattle.mime.specs.Values.{MediaType, Reads, IsAccepted}
 use Rattle.mime_http.specs.{HttpMediaType.HttpReads, HttpMediaType.IsHttpMediaType, Written.with_pairs}
 
 -- the lines of a header; for a request without the header, one line that accepts everything (12.5.1)

@@ -1,5 +1,7 @@
--- Which parameter keeps a range from deciding the weight of an offer, and whether a weight is written in quotes (RFC 9110, 12.4.2 and 12.5.1).
-use Rattle.std.specs.Prelude.{ℕ, Bool, true, false, List, [], ◌∷◌, codes, length, take, Option, Some, None, find, nat_lt, not, option_and_then, option_map, ◌&&◌, ◌==◌, ◌||◌, if◌then◌else◌}
+-- Which parameter keeps a range from deciding the weight of an offer, and whether a weight is written in quotes (RFC 9110, 12.4.2 and
+-- 12.5.1).
+use Rattle.std.specs.Prelude.{ℕ, Bool, true, false, List, [], ◌∷◌, codes, length, take, Option, Some, None, find, nat_lt, not}
+use Rattle.std.specs.Prelude.{option_and_then, option_map, ◌&&◌, ◌==◌, ◌||◌, if◌then◌else◌}
 use Rattle.std.specs.{Str.str_eq_ignore_ascii_case}
 use Rattle.mime.specs.{Bytes.backslash_byte, Bytes.quote_byte, Bytes.semicolon_byte, Values.MediaType}
 use Rattle.mime_http.specs.{HttpList.trim_start, Ranges.demanded, Ranges.has, Ranges.named_parts}
@@ -28,5 +30,6 @@ begins label bytes = str_eq_ignore_ascii_case (take (length label) bytes) label
 abbrev pub is_quoted : Bool → Bool → List ℕ → Bool
 is_quoted inside paired [] = false
 is_quoted inside paired (b ∷ bytes) =
-    if not (inside || paired) && (b == semicolon_byte && begins (codes "q=") (trim_start bytes)) then begins (codes "q=\"") (trim_start bytes)
+    if not (inside || paired) && (b == semicolon_byte && begins (codes "q=") (trim_start bytes))
+    then begins (codes "q=\"") (trim_start bytes)
     else is_quoted (if b == quote_byte && not paired then not inside else inside) (b == backslash_byte && not paired) bytes

@@ -1,5 +1,6 @@
 -- Private: the places of a line, its cut as a function over them, and what is kept of its pieces.
-use Rattle.std.specs.Prelude.{◌≡◌, ◌<◌, ◌≤◌, ◌||◌, ℕ, zero, suc, Bool, true, false, List, [], ◌∷◌, ◌++◌, ◌+◌, ◌-◌, ◌^◌, min, Option, Some, None, MatchOption, flat_map, length, drop, slice_index, if◌then◌else◌, ◌==◌, not}
+use Rattle.std.specs.Prelude.{◌≡◌, ◌<◌, ◌≤◌, ◌||◌, ℕ, zero, suc, Bool, true, false, List, [], ◌∷◌, ◌++◌, ◌+◌, ◌-◌, ◌^◌, min, Option, Some}
+use Rattle.std.specs.Prelude.{None, MatchOption, flat_map, length, drop, slice_index, if◌then◌else◌, ◌==◌, not}
 use Rattle.std.specs.{List.prefix_len, Option.option_or}
 use Rattle.mime.specs.Bytes.{comma_byte, equals_byte, quote_byte, backslash_byte}
 use Rattle.mime.specs.Values.{MediaType}

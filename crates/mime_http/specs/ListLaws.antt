@@ -2,7 +2,8 @@
 use Rattle.std.specs.Prelude.{◌≡◌, ◌≢◌, ℕ, List, [], ◌∷◌, ◌++◌, map, ⊤}
 use Rattle.std.specs.Str.{IsUtf8}
 use Rattle.mime.specs.{Grammar.AreSpaces, Values.MediaType, Laws.ExactlyOne}
-use Rattle.mime_http.specs.{HttpMediaType.HttpReads, HttpMediaType.IsHttpMediaType, HttpList.lines_or_any, HttpList.AreBetweenCommas, HttpList.trimmed, HttpList.AreSorted, HttpList.IsPiece, HttpList.BeginsPiece, HttpList.Header, HttpList.IsHeader, HttpList.IsFirstBad}
+use Rattle.mime_http.specs.HttpMediaType.{HttpReads, IsHttpMediaType}
+use Rattle.mime_http.specs.HttpList.{lines_or_any, AreBetweenCommas, trimmed, AreSorted, IsPiece, BeginsPiece, Header, IsHeader, IsFirstBad}
 
 -- Lines have exactly one cut into pieces.
 abbrev pub OneCut : Type 0

@@ -1,6 +1,10 @@
 -- The weight of an offer by the ranges of an `Accept` header, and the best offer (RFC 9110, 12.4.2 and 12.5.1).
-use Rattle.std.specs.Prelude.{◌≡◌, ◌⊎◌, ◌↔◌, ◌<◌, ℕ, ◌-◌, Bool, List, ◌++◌, length, Option, Some, None, IsTrue, Contains, option_map, unwrap_or, map, filter, filter_map, find, position, slice_index_or, nat_lt, not, ◌&&◌, if◌then◌else◌, codes}
-use Rattle.std.specs.{List.list_all, List.list_any, List.enumerate_from, List.AllPairs, Ordering.is_gt, Ordering.is_le, Ordering.nat_cmp, Ordering.on, Ordering.then_cmp, Str.bytes_eq, declared.cmp.Ordering.Ordering}
+use Rattle.std.specs.Prelude.{◌≡◌, ◌⊎◌, ◌↔◌, ◌<◌, ℕ, ◌-◌, Bool, List, ◌++◌, length, Option, Some, None, IsTrue, Contains, option_map}
+use Rattle.std.specs.Prelude.{unwrap_or, map, filter, filter_map, find, position, slice_index_or, nat_lt, not, ◌&&◌, if◌then◌else◌, codes}
+use Rattle.std.specs.List.{list_all, list_any, enumerate_from, AllPairs}
+use Rattle.std.specs.Ordering.{is_gt, is_le, nat_cmp, on, then_cmp}
+use Rattle.std.specs.Str.{bytes_eq}
+use Rattle.std.specs.declared.cmp.Ordering.{Ordering}
 use Rattle.mime.specs.Values.{MediaType, type_of}
 use Rattle.mime_http.specs.{Unescaped.unescaped, Weight.thousandths_of}
 

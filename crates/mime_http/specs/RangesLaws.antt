@@ -1,8 +1,13 @@
 -- The laws of the file Ranges (RFC 9110, 12.5.1).
-use Rattle.std.specs.Prelude.{◌≡◌, ◌⊎◌, ◌↔◌, ◌<◌, ◌≤◌, ℕ, ◌+◌, ◌*◌, List, [], ◌∷◌, ◌++◌, codes, replicate, Some, None, IsTrue, Contains, MatchOption, is_some, map, option_map, unwrap_or, nat_lt, slice_get, if◌then◌else◌}
+use Rattle.std.specs.Prelude.{◌≡◌, ◌⊎◌, ◌↔◌, ◌<◌, ◌≤◌, ℕ, ◌+◌, ◌*◌, List, [], ◌∷◌, ◌++◌, codes, replicate, Some, None, IsTrue, Contains}
+use Rattle.std.specs.Prelude.{MatchOption, is_some, map, option_map, unwrap_or, nat_lt, slice_get, if◌then◌else◌}
 use Rattle.std.specs.List.{enumerate_from}
 use Rattle.mime.specs.Values.{MediaType, type_of}
-use Rattle.mime_http.specs.{Ranges.Rank, Ranges.weight_of, Ranges.closeness, Ranges.closest, Ranges.given_weight, Ranges.best_offer, Ranges.AreInOrder, Ranking.IsRanking, Ranking.is_qvalue, Unescaped.unescaped, Weight.thousandths_of, declared.ranking.RankedOffer.RankedOffer}
+use Rattle.mime_http.specs.Ranges.{Rank, weight_of, closeness, closest, given_weight, best_offer, AreInOrder}
+use Rattle.mime_http.specs.Ranking.{IsRanking, is_qvalue}
+use Rattle.mime_http.specs.Unescaped.{unescaped}
+use Rattle.mime_http.specs.Weight.{thousandths_of}
+use Rattle.mime_http.specs.declared.ranking.RankedOffer.{RankedOffer}
 
 -- qvalue = ( "0" [ "." 0*3DIGIT ] ) / ( "1" [ "." 0*3("0") ] ), and how many thousandths it is (12.4.2)
 pub data IsQvalue : List ℕ → ℕ → Type 0 where

@@ -1,5 +1,6 @@
 -- Why an offer is chosen: its weight, and the range that decides (RFC 9110, 12.4.2 and 12.5.1).
-use Rattle.std.specs.Prelude.{◌≡◌, ◌↔◌, ◌<◌, ℕ, ◌-◌, Bool, true, false, List, [], ◌∷◌, length, Some, None, Contains, map, nat_lt, not, ◌&&◌, ◌||◌, ◌==◌, if◌then◌else◌}
+use Rattle.std.specs.Prelude.{◌≡◌, ◌↔◌, ◌<◌, ℕ, ◌-◌, Bool, true, false, List, [], ◌∷◌, length, Some, None, Contains, map, nat_lt, not, ◌&&◌}
+use Rattle.std.specs.Prelude.{◌||◌, ◌==◌, if◌then◌else◌}
 use Rattle.std.specs.{Char.is_ascii_digit, List.list_all, List.AllPairs}
 use Rattle.mime.specs.Values.{MediaType}
 use Rattle.mime_http.specs.{Ranges.Rank, Ranges.ComesBefore, Ranges.merit_at, declared.ranking.RankedOffer.RankedOffer}

@@ -1,5 +1,6 @@
 -- A weight in thousandths (RFC 9110, 12.4.2).
-use Rattle.std.specs.Prelude.{ℕ, ◌+◌, ◌*◌, ◌-◌, List, [], ◌++◌, length, take, drop, take_while, slice_index, fold, min, if◌then◌else◌, ◌==◌, codes}
+use Rattle.std.specs.Prelude.{ℕ, ◌+◌, ◌*◌, ◌-◌, List, [], ◌++◌, length, take, drop, take_while, slice_index, fold, min, if◌then◌else◌, ◌==◌}
+use Rattle.std.specs.Prelude.{codes}
 use Rattle.std.specs.Char.{is_ascii_digit}
 
 -- the number that a text begins with, in thousandths and at most 1000: its digits before a dot, and three after it. What isn't a weight

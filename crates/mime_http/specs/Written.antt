@@ -1,7 +1,8 @@
 -- A parameter written into a media type, and how a header then holds it (RFC 9110, 5.6.4, 5.6.6 and 8.3.1).
 use Rattle.std.specs.Prelude.{◌≡◌, ℕ, Bool, false, List, [], ◌∷◌, ◌++◌, flat_map, filter, not, if◌then◌else◌, ◌==◌, ◌||◌, codes}
 use Rattle.std.specs.{List.list_all, Str.bytes_eq}
-use Rattle.mime.specs.{Bytes.is_token_byte, Bytes.equals_byte, Bytes.quote_byte, Bytes.backslash_byte, Values.MediaType, Values.lowered, Values.lowered_value}
+use Rattle.mime.specs.Bytes.{is_token_byte, equals_byte, quote_byte, backslash_byte}
+use Rattle.mime.specs.Values.{MediaType, lowered, lowered_value}
 use Rattle.mime_http.specs.Unescaped.{unescaped}
 
 -- the content of a quoted string that means these bytes: a backslash before each quote and each backslash

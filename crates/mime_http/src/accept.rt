@@ -3,7 +3,9 @@
 ghost use Rattle.std.specs.Prelude.{◌≡◌, ◌≢◌, ◌<◌, [], ◌∷◌, map, length, IfSome, IsOk, IfOk, OnOk, MatchOption};
 ghost use Rattle.std.specs.{Str.IsUtf8, Vec.vec_items};
 ghost use Rattle.mime.specs.Faults.{Explains};
-ghost use Rattle.mime_http.specs.{HttpList.trimmed, HttpList.lines_or_any, HttpList.AreSorted, HttpList.Header, HttpList.IsHeader, HttpList.IsFirstBad, Ranges.given_weight, Ranges.best_offer, Ranges.AreInOrder, LineCut.cut, LineCut.pieces_of, LineCut.Takes, LineCut.nothing_held, LineCut.with_range, LineCut.with_bad};
+ghost use Rattle.mime_http.specs.HttpList.{trimmed, lines_or_any, AreSorted, Header, IsHeader, IsFirstBad};
+ghost use Rattle.mime_http.specs.Ranges.{given_weight, best_offer, AreInOrder};
+ghost use Rattle.mime_http.specs.LineCut.{cut, pieces_of, Takes, nothing_held, with_range, with_bad};
 
 use crate::list::{piece_end, trimmed};
 use crate::offers::{best_of, merit, order_of};
@@ -30,7 +32,10 @@ impl Model for Accept {
 
     ghost Value = { Header };
 
-    ghost view = { λ accept. record { ranges = map (λ range. range.media) (vec_items accept.ranges); bad = map vec_items (vec_items accept.bad) } };
+    ghost view = { λ accept. record {
+      ranges = map (λ range. range.media) (vec_items accept.ranges);
+      bad = map vec_items (vec_items accept.bad);
+    } };
 }
 
 /// The bad entries of a line.
@@ -171,7 +176,8 @@ impl Reading {
         }
     }
 
-    /// Adds the ranges and the bad entries of a header's lines. This function isn't inlined, so that its callers share one copy of the loop.
+    /// Adds the ranges and the bad entries of a header's lines. This function isn't inlined, so that its callers share one copy of the
+    /// loop.
     #[inline(never)]
     fn take_lines(
         &mut self,
@@ -226,8 +232,8 @@ impl Accept {
         Ok(reading.accept)
     }
 
-    /// Reads one line as [`Accept::from_lines`] does, but counts its bad entries and doesn't keep them. A line can also be a list of offers,
-    /// such as `text/html, application/json`, which [`Accept::ranges`] then returns.
+    /// Reads one line as [`Accept::from_lines`] does, but counts its bad entries and doesn't keep them. A line can also be a list of
+    /// offers, such as `text/html, application/json`, which [`Accept::ranges`] then returns.
     ///
     /// # Errors
     /// Returns `AllocError` if memory runs out, which never happens for a line of only commas and white space.

@@ -35,7 +35,8 @@ fn demanded_count(range: &Mime) -> usize
     count
 }
 
-/// Returns how many parts of an offer's essence a range names, and how many parameters it demands, or `None` if it doesn't match the essence.
+/// Returns how many parts of an offer's essence a range names, and how many parameters it demands, or `None` if it doesn't match the
+/// essence.
 fn specificity(offer: &Mime, range: &Mime) -> Option<(u8, usize)>
     ensures { result ≡ specificity offer.now.media range.now.media }
 {
@@ -43,10 +44,9 @@ fn specificity(offer: &Mime, range: &Mime) -> Option<(u8, usize)>
     Some((named, demanded_count(range)))
 }
 
-/// Returns the first parameter, other than `q`, that a range demands and an offer lacks, if the range matches the offer's essence and is more
-/// specific than `decider`, the range that decides the offer's weight, if there is one (RFC 9110, 12.5.1). The range may lack further
-/// parameters, too.
-/// For the range `text/html;level=1`, the decider `text/*` and the offer `text/html`, this returns `level` and `1`.
+/// Returns the first parameter, other than `q`, that a range demands and an offer lacks, if the range matches the offer's essence and is
+/// more specific than `decider`, the range that decides the offer's weight, if there is one (RFC 9110, 12.5.1). The range may lack further
+/// parameters, too. For the range `text/html;level=1`, the decider `text/*` and the offer `text/html`, this returns `level` and `1`.
 pub fn lacked<'r>(
     range: &'r Mime,
     decider: Option<&Mime>,
@@ -69,8 +69,8 @@ fn begins(label: &[u8], bytes: &[u8]) -> bool
     bytes.len() >= label.len() && bytes[..label.len()].eq_ignore_ascii_case(label)
 }
 
-/// Returns `true` if the first `q` of an entry of an `Accept` header is written in quotes, as in `text/html;q="0.5"`. RFC 9110 (12.4.2) has no
-/// quotes there, though [`weight_of`](crate::weight_of) reads them.
+/// Returns `true` if the first `q` of an entry of an `Accept` header is written in quotes, as in `text/html;q="0.5"`. RFC 9110 (12.4.2) has
+/// no quotes there, though [`weight_of`](crate::weight_of) reads them.
 pub fn has_quoted_weight(entry: &[u8]) -> bool
     ensures { result ≡ is_quoted false false entry.now }
 {

@@ -2,7 +2,12 @@
 #![tactic(auto, using(crate::proofs::LawLemmas::laws))]
 
 ghost use Rattle.std.specs.Prelude.{◌≡◌};
-ghost use Rattle.mime_http.specs.{HeaderLaws.PlainIsHttp, HeaderLaws.OneHttpReading, HeaderLaws.OnePrintedText, HeaderLaws.PrintedIsRead, HeaderLaws.OneHttpFault, ListLaws.OneCut, ListLaws.HttpListsAreRead, ListLaws.ReadAreHttpLists, ListLaws.OneHeader, ListLaws.OneFirstBad, ListLaws.BadIsAlone, Written.WrittenIsMeant, RangesLaws.ClosestIsClosest, RangesLaws.BestIsAcceptable, RangesLaws.BestIsFirst, RangesLaws.NoneIsBest, RangesLaws.OneOrder, RangesLaws.OneRanking, RangesLaws.BestIsRankedFirst, RangesLaws.CoversItself, RangesLaws.MeaningCounts, RangesLaws.StrangerChangesNothing, RangesLaws.QvaluesAre, RangesLaws.WeightIsNumber};
+ghost use Rattle.mime_http.specs.HeaderLaws.{PlainIsHttp, OneHttpReading, OnePrintedText, PrintedIsRead, OneHttpFault};
+ghost use Rattle.mime_http.specs.ListLaws.{OneCut, HttpListsAreRead, ReadAreHttpLists, OneHeader, OneFirstBad, BadIsAlone};
+ghost use Rattle.mime_http.specs.Written.{WrittenIsMeant};
+ghost use Rattle.mime_http.specs.RangesLaws.{ClosestIsClosest, BestIsAcceptable, BestIsFirst, NoneIsBest, OneOrder, OneRanking};
+ghost use Rattle.mime_http.specs.RangesLaws.{BestIsRankedFirst, CoversItself, MeaningCounts, StrangerChangesNothing, QvaluesAre};
+ghost use Rattle.mime_http.specs.RangesLaws.{WeightIsNumber};
 
 use crate::accept::BadEntries;
 use crate::ranking::RankedOffer;

@@ -6,9 +6,9 @@
 //! [`with_parameter`], [`with_charset`] and [`with_boundary`] write parameters. [`first_value`], [`boundary`] and [`unescape`] read them.
 //! [`laws`] states facts about all values.
 //!
-//! Some calls explain a choice to a person, as the program `mime_headers` does. [`rank_offers`] returns the range that decides each weight, and
-//! [`lacked`] the parameter that keeps a range from deciding. [`first_entry`] and [`trimmed`] cut a line into its entries, so that a report
-//! shows each. [`has_valid_weight`] and [`has_quoted_weight`] test whether HTTP allows an entry's `q`.
+//! Some calls explain a choice to a person, as the program `mime_headers` does. [`rank_offers`] returns the range that decides each weight,
+//! and [`lacked`] the parameter that keeps a range from deciding. [`first_entry`] and [`trimmed`] cut a line into its entries, so that a
+//! report shows each. [`has_valid_weight`] and [`has_quoted_weight`] test whether HTTP allows an entry's `q`.
 //!
 //! # Example
 //! A server checks two headers of a request. It accepts a body whose `Content-Type` is ` application/json ;; charset=utf-8`.

@@ -3,7 +3,8 @@
 ghost use Rattle.std.specs.Prelude.{◌≡◌, ◌<◌, ◌≤◌, ◌+◌, length, drop, take};
 ghost use Rattle.std.specs.List.{prefix_len};
 ghost use Rattle.mime.specs.{Bytes.comma_byte, Bytes.quote_byte, Grammar.is_space};
-ghost use Rattle.mime_http.specs.{HttpList.trim_start, HttpList.trim_end, HttpList.trimmed, LineCut.Outside, LineCut.Quoted, LineCut.IsNextOutside, LineCut.before_mark, LineCut.piece_len};
+ghost use Rattle.mime_http.specs.HttpList.{trim_start, trim_end, trimmed};
+ghost use Rattle.mime_http.specs.LineCut.{Outside, Quoted, IsNextOutside, before_mark, piece_len};
 
 use mime_search::{BLOCK, Class, content_end, first_stop};
 

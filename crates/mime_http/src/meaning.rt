@@ -27,8 +27,8 @@ fn differ_but_mean_the_same(value: &[u8], other: &[u8]) -> bool
     requires { value.now ≢ other.now }
     ensures { result ≡ bytes_eq (unescaped value.now) (unescaped other.now) }
 {
-    // Long values may begin alike. A search for a backslash is then faster than the loop. If the longer value has none, the other value means
-    // as many bytes only if it has none either.
+    // Long values may begin alike. A search for a backslash is then faster than the loop. If the longer value has none, the other value
+    // means as many bytes only if it has none either.
     let longer = if value.len() < other.len() {
         other
     } else {

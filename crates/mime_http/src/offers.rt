@@ -3,7 +3,8 @@
 ghost use Rattle.std.specs.Prelude.{◌≡◌, ◌<◌, ◌+◌, [], map, length, IfSome, IfOk, IsOk};
 ghost use Rattle.std.specs.{Option.option_cmp, Ordering.ord_max, Vec.vec_items};
 ghost use Rattle.mime.specs.Values.{type_of};
-ghost use Rattle.mime_http.specs.{Sorted.AreRanked, Ranges.rank_cmp, Ranges.closeness, Ranges.closest, Ranges.merit, Ranges.best_offer, Ranges.AreInOrder};
+ghost use Rattle.mime_http.specs.Sorted.{AreRanked};
+ghost use Rattle.mime_http.specs.Ranges.{rank_cmp, closeness, closest, merit, best_offer, AreInOrder};
 
 use crate::range::{demanded, named_parts};
 use mime::Mime;
@@ -124,7 +125,8 @@ pub(crate) fn ranked(
     offers: &[Mime],
     least: u16,
 ) -> Result<Vec<Ranked>, AllocError>
-    ensures { IfOk result (λ ranked. AreRanked least (map (λ range. range.media) ranges.now) (map (λ offer. offer.media) offers.now) (vec_items ranked)) }
+    ensures { IfOk result (λ ranked. AreRanked least (map (λ range. range.media) ranges.now)
+        (map (λ offer. offer.media) offers.now) (vec_items ranked)) }
 {
     let mut ranked = Vec::new(alloc);
     for (at, offer) in offers.iter().enumerate() {
@@ -143,7 +145,8 @@ pub(crate) fn order_of(
     ranges: &[Mime],
     offers: &[Mime],
 ) -> Result<Vec<usize>, AllocError>
-    ensures order { IfOk result (λ order. AreInOrder (map (λ range. range.media) ranges.now) (map (λ offer. offer.media) offers.now) (vec_items order)) }
+    ensures order { IfOk result (λ order. AreInOrder (map (λ range. range.media) ranges.now)
+        (map (λ offer. offer.media) offers.now) (vec_items order)) }
     ensures none { offers.now ≡ [] → IsOk result }
 {
     if offers.is_empty() {

@@ -1,9 +1,13 @@
 //! Writes parameters of media types.
 
-ghost use Rattle.std.specs.Prelude.{◌≡◌, ◌++◌, ◌∷◌, [], ◌↔◌, IsTrue, IfOk, IsOk, IfSome, None, OnOk, Some, is_some, if◌then◌else◌, codes, string_bytes, length};
+ghost use Rattle.std.specs.Prelude.{◌≡◌, ◌++◌, ◌∷◌, [], ◌↔◌, IsTrue, IfOk, IsOk, IfSome, None, OnOk, Some, is_some, if◌then◌else◌, codes};
+ghost use Rattle.std.specs.Prelude.{string_bytes, length};
 ghost use Rattle.std.specs.List.{list_all};
 ghost use Rattle.mime.specs.{Bytes.is_quoted_byte, Grammar.IsToken, HeaderLaws.AreHeaderBytes, Values.lowered, Values.lowered_value};
-ghost use Rattle.mime_http.specs.{Boundary.IsBoundary, Forms.form_of, Forms.text_in, Written.escaped, Written.is_token_value, Written.text_of_pairs, Written.others, Written.with_pair, declared.quoted.Form.TheVariants.Token, declared.quoted.Form.TheVariants.Quoted};
+ghost use Rattle.mime_http.specs.Boundary.{IsBoundary};
+ghost use Rattle.mime_http.specs.Forms.{form_of, text_in};
+ghost use Rattle.mime_http.specs.Written.{escaped, is_token_value, text_of_pairs, others, with_pair};
+ghost use Rattle.mime_http.specs.declared.quoted.Form.TheVariants.{Token, Quoted};
 
 use crate::multipart::is_boundary;
 use crate::quoted::{Form, push_escaped, special_from};
@@ -234,7 +238,8 @@ pub fn with_parameter(
 pub fn with_charset(alloc: Global, mime: &Mime, charset: &str) -> Result<Option<Mime>, AllocError>
     ensures exact { IfOk result (λ answer. IsTrue (is_some answer) ↔ IsToken charset.now) }
     ensures none { ¬ (IsToken charset.now) → IsOk result }
-    ensures made { IfOk result (λ answer. IfSome answer (λ made. made.media ≡ with_pair mime.now.media (codes "charset") (lowered charset.now))) }
+    ensures made { IfOk result (λ answer. IfSome answer (λ made. made.media
+        ≡ with_pair mime.now.media (codes "charset") (lowered charset.now))) }
 {
     if !is_token_text(charset) {
         return Ok(None);

@@ -1,6 +1,7 @@
 //! The content of a quoted string: what it means, and how a value is written.
 
-ghost use Rattle.std.specs.Prelude.{◌≡◌, ◌++◌, ◌≤◌, ◌+◌, ◌&&◌, OnOk, IsOk, is_ok, if◌then◌else◌, length, nat_lt, not, slice_index, drop, string_bytes};
+ghost use Rattle.std.specs.Prelude.{◌≡◌, ◌++◌, ◌≤◌, ◌+◌, ◌&&◌, OnOk, IsOk, is_ok, if◌then◌else◌, length, nat_lt, not, slice_index, drop};
+ghost use Rattle.std.specs.Prelude.{string_bytes};
 ghost use Rattle.std.specs.{List.prefix_len, Vec.vec_items, Vec.vec_len, Vec.vec_capacity};
 ghost use Rattle.mime_http.specs.{Forms.is_plain, Unescaped.unescaped, Written.escaped};
 

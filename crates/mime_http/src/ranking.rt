@@ -34,7 +34,8 @@ pub fn rank_offers(
     ranges: &[Mime],
     offers: &[Mime],
 ) -> Result<Vec<RankedOffer>, AllocError>
-    ensures { IfOk result (λ ranking. IsRanking (map (λ range. range.media) ranges.now) (map (λ offer. offer.media) offers.now) (vec_items ranking)) }
+    ensures { IfOk result (λ ranking. IsRanking (map (λ range. range.media) ranges.now)
+        (map (λ offer. offer.media) offers.now) (vec_items ranking)) }
 {
     let ranked = ranked(alloc, ranges, offers, 0)?;
     let offers = ranked.iter().map(|&(Reverse(rank), offer)| RankedOffer {

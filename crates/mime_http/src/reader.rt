@@ -1,11 +1,13 @@
 //! Reads a header's value in one pass, according to HTTP's own grammar (RFC 9110, 8.3.1 and 5.6.6), and writes it anew.
 
-ghost use Rattle.std.specs.Prelude.{◌≡◌, ◌<◌, ◌≤◌, ◌+◌, ◌-◌, ◌^◌, ◌++◌, ◌≢◌, true, false, ℕ, List, [], ◌∷◌, codes, drop, length, slice_index, slice_range, MatchResult};
+ghost use Rattle.std.specs.Prelude.{◌≡◌, ◌<◌, ◌≤◌, ◌+◌, ◌-◌, ◌^◌, ◌++◌, ◌≢◌, true, false, ℕ, List, [], ◌∷◌, codes, drop, length};
+ghost use Rattle.std.specs.Prelude.{slice_index, slice_range, MatchResult};
 ghost use Rattle.std.specs.List.{prefix_len};
 ghost use Rattle.mime.specs.Bytes.{is_token_byte, is_quoted_byte, is_quoted_text_byte, equals_byte, quote_byte};
 ghost use Rattle.mime.specs.Grammar.{is_space};
 ghost use Rattle.mime_search.specs.{Classes.IsStart, declared.class.TheConstants.TOKEN_STOPS};
-ghost use Rattle.mime_http.specs.Reader.{Parts, Holds, IsClosedAt, IsEssenceAt, IsFaultFrom, IsParameterAt, IsStringFault, after_semicolon, answer_at, answer_of, before_semicolon, fault_at, in_value, read, rejected, text_of_parts};
+ghost use Rattle.mime_http.specs.Reader.{Parts, Holds, IsClosedAt, IsEssenceAt, IsFaultFrom, IsParameterAt, IsStringFault, after_semicolon};
+ghost use Rattle.mime_http.specs.Reader.{answer_at, answer_of, before_semicolon, fault_at, in_value, read, rejected, text_of_parts};
 
 use crate::list::spaces_end;
 use mime::{ParseError, is_quoted_byte, is_quoted_text_byte, is_token};
@@ -219,7 +221,8 @@ fn last_semicolon(value: &[u8], from: usize) -> usize
     ensures least { from ≤ result }
     ensures within { result ≤ length value.now }
     ensures other { from < result → is_space (slice_index value.now result) ≡ false }
-    ensures same { (parts : Parts) → answer_at value.now (before_semicolon parts) from ≡ answer_at value.now (before_semicolon parts) result }
+    ensures same { (parts : Parts) → answer_at value.now (before_semicolon parts) from
+        ≡ answer_at value.now (before_semicolon parts) result }
 {
     let mut at = from;
     while is_at(value, at, b';') && is_at(value, at + 1, b';') {
@@ -250,7 +253,8 @@ fn put_parameter(room: &mut [u8], len: usize, value: &[u8], name: usize, spans: 
     requires within { spans.last ≤ length value.now }
     requires fits { len + 2 + (spans.last - name) < 2 ^ 64 }
     ensures holds { (text : List ℕ) → Holds room.old len text
-        → Holds room.new result (text ++ (codes "; " ++ (slice_range value.now name spans.first ++ slice_range value.now spans.begin spans.last))) }
+        → Holds room.new result (text ++ (codes "; " ++ (slice_range value.now name spans.first
+        ++ slice_range value.now spans.begin spans.last))) }
     ensures len { result ≤ len + 2 + (spans.last - name) }
     ensures room { length room.new ≡ length room.old }
 {

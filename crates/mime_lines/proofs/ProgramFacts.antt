@@ -4,8 +4,22 @@ use Rattle.std.proofs.Common.{◌≡◌, ℕ, List, [], ◌∷◌, length, refl,
 use Rattle.std.proofs.{Math.Seq.take-length, lemmas.Option.slice_get_within}
 use Rattle.std.specs.Prelude.{Some, None}
 use Rattle.std.specs.Str.{IsUtf8}
-use Rattle.mime.specs.{Bytes.is_token_byte, Grammar.no_list, Values.MediaType, Values.Reads, Values.IsRejected, Faults.IsFault, Faults.IsViable, Printed.error_text, Cut.good, Cut.bad, Laws.OneReading, Laws.OneFault, Laws.CompletedIsRejected, Laws.AcceptedIsViable, CutLaws.OneCut, declared.scan.fault.ParseError.ParseError, declared.scan.fault.ParseError.TheVariants.InvalidToken}
-use Rattle.mime_lines.specs.{declared.mode.Mode.Mode, Program.mode_named, Report.param_rows, Report.value_rows, Report.item_rows, Report.ReportsText, Report.ReportsLine, Report.ReportsLines, Report.IsReportOf, Report.ReportsText.read, Report.ReportsText.rejected, Report.ReportsText.listed, Report.ReportsLine.not_text, Report.ReportsLine.is_text, Report.ReportsLines.no_more, Report.ReportsLines.line_more}
+use Rattle.mime.specs.Bytes.{is_token_byte}
+use Rattle.mime.specs.Grammar.{no_list}
+use Rattle.mime.specs.Values.{MediaType, Reads, IsRejected}
+use Rattle.mime.specs.Faults.{IsFault, IsViable}
+use Rattle.mime.specs.Printed.{error_text}
+use Rattle.mime.specs.Cut.{good, bad}
+use Rattle.mime.specs.Laws.{OneReading, OneFault, CompletedIsRejected, AcceptedIsViable}
+use Rattle.mime.specs.CutLaws.{OneCut}
+use Rattle.mime.specs.declared.scan.fault.ParseError.{ParseError}
+use Rattle.mime.specs.declared.scan.fault.ParseError.TheVariants.{InvalidToken}
+use Rattle.mime_lines.specs.declared.mode.Mode.{Mode}
+use Rattle.mime_lines.specs.Program.{mode_named}
+use Rattle.mime_lines.specs.Report.{param_rows, value_rows, item_rows, ReportsText, ReportsLine, ReportsLines, IsReportOf}
+use Rattle.mime_lines.specs.Report.ReportsText.{read, rejected, listed}
+use Rattle.mime_lines.specs.Report.ReportsLine.{not_text, is_text}
+use Rattle.mime_lines.specs.Report.ReportsLines.{no_more, line_more}
 use Rattle.mime_io.specs.Lines.{row, suffix_row}
 use lib.Utf8.{encode}
 

@@ -1,9 +1,19 @@
 -- The rows of a report, as the code adds them.
-use Rattle.std.proofs.Common.{◌≡◌, ℕ, List, [], ◌∷◌, ◌++◌, refl, ap, sym, subst, ◌∙◌, append_assoc, append-nil, ◌≢◌, codes, Result, Ok, Err, OnOk}
-use Rattle.mime.specs.{Items.Item, Items.items_of, Cut.CutItem, Cut.Cut, Runs.HasNoItem, Runs.IsFirstItem, Faults.IsFault, Faults.Explains, declared.scan.fault.ParseError.ParseError, declared.scan.fault.ParseError.TheVariants.NoMemory}
+use Rattle.std.proofs.Common.{◌≡◌, ℕ, List, [], ◌∷◌, ◌++◌, refl, ap, sym, subst, ◌∙◌, append_assoc, append-nil, ◌≢◌, codes, Result, Ok, Err}
+use Rattle.std.proofs.Common.{OnOk}
+use Rattle.mime.specs.Items.{Item, items_of}
+use Rattle.mime.specs.Cut.{CutItem, Cut}
+use Rattle.mime.specs.Runs.{HasNoItem, IsFirstItem}
+use Rattle.mime.specs.Faults.{IsFault, Explains}
+use Rattle.mime.specs.declared.scan.fault.ParseError.{ParseError}
+use Rattle.mime.specs.declared.scan.fault.ParseError.TheVariants.{NoMemory}
 use Rattle.std.specs.Str.{IsUtf8}
 use Rattle.mime_io.specs.{Lines.lines_of, Lines.row, Inner.Adds}
-use Rattle.mime_lines.specs.{Report.param_rows, Report.item_row, Report.item_rows, Report.ReportsText, Report.ReportsLine, Report.ReportsLines, Report.ReportsText.listed, Report.ReportsLine.is_text, Report.ReportsLines.no_more, Report.ReportsLines.line_more, declared.mode.Mode.Mode}
+use Rattle.mime_lines.specs.Report.{param_rows, item_row, item_rows, ReportsText, ReportsLine, ReportsLines}
+use Rattle.mime_lines.specs.Report.ReportsText.{listed}
+use Rattle.mime_lines.specs.Report.ReportsLine.{is_text}
+use Rattle.mime_lines.specs.Report.ReportsLines.{no_more, line_more}
+use Rattle.mime_lines.specs.declared.mode.Mode.{Mode}
 
 -- These are the rows of what `Params` yields.
 abbrev pub given_rows : List Item → List ℕ

@@ -1,7 +1,11 @@
 -- Where two texts first differ in a block: at the lowest bit of a mask.
-use Rattle.std.proofs.Common.{◌≡◌, ◌≢◌, ℕ, ◌+◌, ◌-◌, ◌%◌, ◌^◌, ◌<◌, ◌≤◌, true, false, not, cond, eqb, List, map, length, sym, ap, ap₂, ◌∙◌, subst, arith, get_or}
+use Rattle.std.proofs.Common.{◌≡◌, ◌≢◌, ℕ, ◌+◌, ◌-◌, ◌%◌, ◌^◌, ◌<◌, ◌≤◌, true, false, not, cond, eqb, List, map, length, sym, ap, ap₂, ◌∙◌}
+use Rattle.std.proofs.Common.{subst, arith, get_or}
 use Rattle.std.specs.{List.prefix_len, Simd.Lanes.chunk, Simd.Lanes.mask_l, Simd.Lanes.top, Simd.Lanes.zip2}
-use Rattle.std.proofs.{lemmas.Bool.Decides.nat_tests, lemmas.List.length-map, lemmas.List.Sums.prefix_len_passes, lemmas.List.Sums.prefix_len_stops, lemmas.List.Sums.prefix_len-le-length, lemmas.Simd.mask_l-mod, lemmas.Simd.length-zip2, lemmas.Simd.length-chunk, lemmas.Simd.get_or-zip2, lemmas.Simd.get_or-chunk, lemmas.Simd.leading_from_mask_l, lemmas.Simd.trailing_mask_l}
+use Rattle.std.proofs.lemmas.Bool.Decides.{nat_tests}
+use Rattle.std.proofs.lemmas.List.{length-map}
+use Rattle.std.proofs.lemmas.List.Sums.{prefix_len_passes, prefix_len_stops, prefix_len-le-length}
+use Rattle.std.proofs.lemmas.Simd.{mask_l-mod, length-zip2, length-chunk, get_or-zip2, get_or-chunk, leading_from_mask_l, trailing_mask_l}
 use lib.Count.{count_trailing_zeros}
 use Rattle.mime_search.specs.Differences.{DifferAt}
 use Rattle.mime_search.proofs.Searches.{all_pass}

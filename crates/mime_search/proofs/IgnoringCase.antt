@@ -1,7 +1,16 @@
 -- Texts that are compared block by block: bits taken together, and blocks that overlap.
-use Rattle.std.proofs.Common.{◌≡◌, ◌↔◌, ℕ, ◌-◌, ◌≤◌, List, ◌++◌, length, zero-add, take, drop, bit_or, sym, ap, ◌∙◌, arith, ◌≢◌, suc, ◌+◌, ◌<◌, Bool, true, false, cond, [], ◌∷◌, set, get_or, refl, subst, length-drop, rules}
+use Rattle.std.proofs.Common.{◌≡◌, ◌↔◌, ℕ, ◌-◌, ◌≤◌, List, ◌++◌, length, zero-add, take, drop, bit_or, sym, ap, ◌∙◌, arith, ◌≢◌, suc, ◌+◌}
+use Rattle.std.proofs.Common.{◌<◌, Bool, true, false, cond, [], ◌∷◌, set, get_or, refl, subst, length-drop, rules}
 use Rattle.std.specs.{List.range_with_len, List.list_all, List.position_or_len, Option.is_some, Char.to_ascii_lowercase, Simd.Lanes.zip2}
-use Rattle.std.proofs.{lemmas.List.FromFn.get_or-range_with_len, lemmas.List.length-map, lemmas.List.take-map, lemmas.List.drop-map, lemmas.List.take-append-drop, lemmas.List.take_rest, lemmas.List.take-take, lemmas.List.take_more, lemmas.List.take_more_set, lemmas.List.length-take-le, lemmas.List.get_or-take, lemmas.List.get_or-drop, lemmas.List.get_or-map, lemmas.Nat.le_or_l, lemmas.Nat.le_or_r, Math.Seq.take-add, lemmas.Bool.eqb-true, lemmas.Bool.eq-eqb, lemmas.Bool.Decides.nat_tests, lemmas.List.Sums.AllPass-from_list_all, lemmas.List.Sums.prefix_len-le-length, lemmas.List.Sums.prefix_len_stops, lemmas.Simd.length-zip2, lemmas.Simd.get_or-zip2}
+use Rattle.std.proofs.lemmas.List.FromFn.{get_or-range_with_len}
+use Rattle.std.proofs.lemmas.List.{length-map, take-map, drop-map, take-append-drop, take_rest, take-take, take_more, take_more_set}
+use Rattle.std.proofs.lemmas.List.{length-take-le, get_or-take, get_or-drop, get_or-map}
+use Rattle.std.proofs.lemmas.Nat.{le_or_l, le_or_r}
+use Rattle.std.proofs.Math.Seq.{take-add}
+use Rattle.std.proofs.lemmas.Bool.{eqb-true, eq-eqb}
+use Rattle.std.proofs.lemmas.Bool.Decides.{nat_tests}
+use Rattle.std.proofs.lemmas.List.Sums.{AllPass-from_list_all, prefix_len-le-length, prefix_len_stops}
+use Rattle.std.proofs.lemmas.Simd.{length-zip2, get_or-zip2}
 use Rattle.std.specs.Prelude.{◌==◌, not, Option, None, Some, IfSome, IsTrue}
 use Rattle.mime_search.specs.Differences.{lowered, difference_bit, DifferFirstAt}
 

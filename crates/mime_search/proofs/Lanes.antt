@@ -1,9 +1,16 @@
 -- The bit mask of a class, lane by lane.
-use Rattle.std.proofs.Common.{rules, ◌≡◌, ℕ, ◌+◌, ◌*◌, ◌-◌, ◌%◌, ◌^◌, suc, Bool, true, false, not, cond, List, [], ◌∷◌, map, length, replicate, refl, ap, ◌∙◌, arith, bit_and}
+use Rattle.std.proofs.Common.{rules, ◌≡◌, ℕ, ◌+◌, ◌*◌, ◌-◌, ◌%◌, ◌^◌, suc, Bool, true, false, not, cond, List, [], ◌∷◌, map, length}
+use Rattle.std.proofs.Common.{replicate, refl, ap, ◌∙◌, arith, bit_and}
 use Rattle.std.specs.Prelude.{◌||◌, ◌&&◌, ◌==◌, nat_lt}
-use Rattle.std.proofs.{lemmas.Bool.Decides.nat_tests, lemmas.List.length-map, lemmas.Simd.map-map, lemmas.Simd.zip2_splat, lemmas.Simd.zip2_splat_left, lemmas.Simd.zip2_of_maps, lemmas.Simd.mask_l-mod, Math.Nat.pow-suc, Math.Nat.mul_comm, lemmas.Grind.common_steps}
+use Rattle.std.proofs.lemmas.Bool.Decides.{nat_tests}
+use Rattle.std.proofs.lemmas.List.{length-map}
+use Rattle.std.proofs.lemmas.Simd.{map-map, zip2_splat, zip2_splat_left, zip2_of_maps, mask_l-mod}
+use Rattle.std.proofs.Math.Nat.{pow-suc, mul_comm}
+use Rattle.std.proofs.lemmas.Grind.{common_steps}
 use Rattle.std.specs.{Simd.Lanes.mask_l, Simd.Lanes.zip2, Simd.Lanes.top, Int.Bits.bit_or, Int.Bits.or_zero_r}
-use Rattle.mime_search.specs.{Classes.is_outside_range, Classes.is_outside, Classes.outside, Classes.stops, declared.class.Class.Class, declared.class.Range.Range}
+use Rattle.mime_search.specs.Classes.{is_outside_range, is_outside, outside, stops}
+use Rattle.mime_search.specs.declared.class.Class.{Class}
+use Rattle.mime_search.specs.declared.class.Range.{Range}
 
 -- a lane of a comparison has all bits, or none
 abbrev lane : Bool → ℕ

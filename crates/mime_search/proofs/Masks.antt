@@ -1,7 +1,11 @@
 -- Bit masks of a text's first bytes: how they are joined, and what they show.
-use Rattle.std.proofs.Common.{◌≡◌, ◌≢◌, ℕ, ◌+◌, ◌*◌, ◌-◌, ◌/◌, ◌%◌, ◌^◌, ◌<◌, ◌≤◌, suc, Bool, not, List, [], ◌∷◌, ◌++◌, map, length, take, drop, sym, ap, ◌∙◌, subst, arith, length-drop, length-append}
+use Rattle.std.proofs.Common.{◌≡◌, ◌≢◌, ℕ, ◌+◌, ◌*◌, ◌-◌, ◌/◌, ◌%◌, ◌^◌, ◌<◌, ◌≤◌, suc, Bool, not, List, [], ◌∷◌, ◌++◌, map, length, take}
+use Rattle.std.proofs.Common.{drop, sym, ap, ◌∙◌, subst, arith, length-drop, length-append}
 use Rattle.std.specs.{List.prefix_len, Simd.Lanes.mask_l}
-use Rattle.std.proofs.{lemmas.List.length-map, lemmas.List.drop-map, lemmas.List.drop-take, lemmas.List.drop-drop, lemmas.List.take-take, lemmas.List.take_all, lemmas.List.take_at, lemmas.List.drop_at, lemmas.List.take-append-drop, lemmas.List.length-take-le, lemmas.List.map-append, lemmas.Simd.mask_l-lt, Math.Nat.pow-suc, Math.Nat.mul_comm, Math.Nat.mul_assoc}
+use Rattle.std.proofs.lemmas.List.{length-map, drop-map, drop-take, drop-drop, take-take, take_all, take_at, drop_at, take-append-drop}
+use Rattle.std.proofs.lemmas.List.{length-take-le, map-append}
+use Rattle.std.proofs.lemmas.Simd.{mask_l-lt}
+use Rattle.std.proofs.Math.Nat.{pow-suc, mul_comm, mul_assoc}
 use lib.Count.{count_trailing_zeros}
 use Rattle.mime_search.proofs.Searches.{mask-drop, no_stop, a_stop, stop_within}
 

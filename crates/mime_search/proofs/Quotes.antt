@@ -1,11 +1,17 @@
 -- The search for the end of quoted content, position by position.
-use Rattle.std.proofs.Common.{⊎_elim, one-add, ◌≡◌, ◌≢◌, ℕ, suc, ◌+◌, ◌++◌, ◌<◌, ◌≤◌, Bool, true, false, cond, List, [], ◌∷◌, length, length-drop, get_or, map, take, drop, refl, sym, ap, ◌∙◌, arith, rules}
+use Rattle.std.proofs.Common.{⊎_elim, one-add, ◌≡◌, ◌≢◌, ℕ, suc, ◌+◌, ◌++◌, ◌<◌, ◌≤◌, Bool, true, false, cond, List, [], ◌∷◌, length}
+use Rattle.std.proofs.Common.{length-drop, get_or, map, take, drop, refl, sym, ap, ◌∙◌, arith, rules}
 use Rattle.std.specs.Prelude.{◌==◌, ◌||◌, not}
 use Rattle.std.specs.{List.prefix_len, Simd.Lanes.mask_l}
-use Rattle.std.proofs.{lemmas.Bool.or_parts, lemmas.Bool.cases_Bool, lemmas.Bool.Decides.nat_tests, lemmas.List.drop_more, lemmas.List.drop-drop, lemmas.List.get_or-drop, lemmas.List.Sums.prefix_len_stops}
+use Rattle.std.proofs.lemmas.Bool.{or_parts, cases_Bool}
+use Rattle.std.proofs.lemmas.Bool.Decides.{nat_tests}
+use Rattle.std.proofs.lemmas.List.{drop_more, drop-drop, get_or-drop}
+use Rattle.std.proofs.lemmas.List.Sums.{prefix_len_stops}
 use Rattle.mime_search.proofs.Searches.{a_stop, no_stop, stop_within}
 use lib.Count.{count_trailing_zeros}
-use Rattle.mime_search.specs.{Classes.is_stop, Classes.end_of_run, declared.class.Class.Class, Quoted.quote, Quoted.backslash, Quoted.len_from, Quoted.meant_from}
+use Rattle.mime_search.specs.Classes.{is_stop, end_of_run}
+use Rattle.mime_search.specs.declared.class.Class.{Class}
+use Rattle.mime_search.specs.Quoted.{quote, backslash, len_from, meant_from}
 
 -- What a position leaves to search for the end of quoted content.
 len_from-at : (text : List ℕ) (position : ℕ) → position < length text → len_from false (drop position text)

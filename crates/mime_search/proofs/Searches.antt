@@ -1,6 +1,14 @@
 -- A search by bit masks: a block without a bit is passed, and the lowest bit is the first stop.
-use Rattle.std.proofs.Common.{◌≡◌, ◌≢◌, ℕ, ◌+◌, ◌-◌, ◌*◌, ◌/◌, ◌^◌, ◌<◌, ◌≤◌, zero, suc, Bool, not, cond, eqb, List, [], ◌∷◌, map, length, take, drop, refl, sym, ap, ◌∙◌, arith, length-drop}
-use Rattle.std.proofs.{lemmas.Simd.leading_from_mask_l, lemmas.Simd.trailing_mask_l, lemmas.List.drop-drop, lemmas.List.drop-map, lemmas.List.take_all, lemmas.List.take-append-drop, lemmas.List.length-take-le, lemmas.List.Folds.prefix_len-append, lemmas.List.Sums.prefix_len-le-length, lemmas.Bool.eq-eqb, lemmas.Bool.ne_eqb, lemmas.Bool.cond-true, lemmas.Bool.cond-false, Math.Nat.div-div-eq-div-mul, Math.Nat.div-one, Math.Nat.zero-div, Math.Nat.pow-suc, Math.Nat.mul_comm, Math.Bool.or_self, lemmas.Grind.common_steps}
+use Rattle.std.proofs.Common.{◌≡◌, ◌≢◌, ℕ, ◌+◌, ◌-◌, ◌*◌, ◌/◌, ◌^◌, ◌<◌, ◌≤◌, zero, suc, Bool, not, cond, eqb, List, [], ◌∷◌, map, length}
+use Rattle.std.proofs.Common.{take, drop, refl, sym, ap, ◌∙◌, arith, length-drop}
+use Rattle.std.proofs.lemmas.Simd.{leading_from_mask_l, trailing_mask_l}
+use Rattle.std.proofs.lemmas.List.{drop-drop, drop-map, take_all, take-append-drop, length-take-le}
+use Rattle.std.proofs.lemmas.List.Folds.{prefix_len-append}
+use Rattle.std.proofs.lemmas.List.Sums.{prefix_len-le-length}
+use Rattle.std.proofs.lemmas.Bool.{eq-eqb, ne_eqb, cond-true, cond-false}
+use Rattle.std.proofs.Math.Nat.{div-div-eq-div-mul, div-one, zero-div, pow-suc, mul_comm}
+use Rattle.std.proofs.Math.Bool.{or_self}
+use Rattle.std.proofs.lemmas.Grind.{common_steps}
 use Rattle.std.specs.{List.prefix_len, List.position_or_len, Simd.Lanes.mask_l}
 use Rattle.std.specs.Prelude.{◌==◌, ◌||◌}
 use Rattle.mime_search.specs.{Classes.is_stop, Classes.end_of_run, Classes.stops, declared.class.Class.Class}

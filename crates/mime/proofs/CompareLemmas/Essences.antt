@@ -1,9 +1,20 @@
 -- A text that begins with a value's essence and a semicolon, ignoring ASCII case: what the scanner says of it, by what it says of
 -- the list after the semicolon.
 use Rattle.std.proofs.Common.{◌≡◌, ℕ, ◌+◌, List, [], ◌∷◌, ◌++◌, length, take, drop, Some, refl, sym, ap, ◌∙◌, subst, arith, append_assoc}
-use Rattle.std.proofs.{lemmas.List.take-append-drop, lemmas.List.drop_more, lemmas.Option.get_or_from_slice_get, lemmas.Option.slice_get_within}
-use Rattle.mime.specs.{Bytes.slash_byte, Bytes.semicolon_byte, Grammar.text_of, Grammar.IsToken, Values.MediaType, Values.Reads, Values.essence_of, Values.lowered, Values.last_plus, Inner.Remaining.Remaining, Inner.Scanning.positions_of, Inner.Scanning.before_list, Inner.Scanning.Judges, Inner.Scanning.ScansList, Inner.ComparedText.StartsWithEssence, Inner.ComparedText.positions_before_list, declared.scan.Positions.Positions, declared.scan.Scanned.Scanned}
-use Rattle.mime.proofs.{LowercaseLemmas.lowered-lowered, LowercaseLemmas.last_plus-lowered, LowercaseLemmas.IsToken-case, ValueLemmas.KeptText.length-before_list, CompareLemmas.OtherCase.case_cut, CompareLemmas.Parts.essence-lowered, CompareLemmas.Parts.length-value_essence}
+use Rattle.std.proofs.lemmas.List.{take-append-drop, drop_more}
+use Rattle.std.proofs.lemmas.Option.{get_or_from_slice_get, slice_get_within}
+use Rattle.mime.specs.Bytes.{slash_byte, semicolon_byte}
+use Rattle.mime.specs.Grammar.{text_of, IsToken}
+use Rattle.mime.specs.Values.{MediaType, Reads, essence_of, lowered, last_plus}
+use Rattle.mime.specs.Inner.Remaining.{Remaining}
+use Rattle.mime.specs.Inner.Scanning.{positions_of, before_list, Judges, ScansList}
+use Rattle.mime.specs.Inner.ComparedText.{StartsWithEssence, positions_before_list}
+use Rattle.mime.specs.declared.scan.Positions.{Positions}
+use Rattle.mime.specs.declared.scan.Scanned.{Scanned}
+use Rattle.mime.proofs.LowercaseLemmas.{lowered-lowered, last_plus-lowered, IsToken-case}
+use Rattle.mime.proofs.ValueLemmas.KeptText.{length-before_list}
+use Rattle.mime.proofs.CompareLemmas.OtherCase.{case_cut}
+use Rattle.mime.proofs.CompareLemmas.Parts.{essence-lowered, length-value_essence}
 use Rattle.mime_search.proofs.IgnoringCase.{length-lowered, lowered-drop}
 
 -- a text up to the semicolon after its essence: a type, a slash and a subtype, with the positions of a value

@@ -1,10 +1,23 @@
 -- Where two texts first differ ignoring ASCII case: a text stripped of spaces, tabs and quotes.
-use Rattle.std.proofs.Common.{◌≡◌, ℕ, ◌+◌, ◌<◌, List, [], ◌∷◌, ◌++◌, take, drop, refl, sym, ap, ◌∙◌, arith, length, append-nil, append_assoc, rules}
+use Rattle.std.proofs.Common.{◌≡◌, ℕ, ◌+◌, ◌<◌, List, [], ◌∷◌, ◌++◌, take, drop, refl, sym, ap, ◌∙◌, arith, length, append-nil}
+use Rattle.std.proofs.Common.{append_assoc, rules}
 use Rattle.std.specs.Prelude.{IsTrue}
 use Rattle.std.specs.{Char.to_ascii_lowercase, List.filter, List.slice_index, List.list_all}
-use Rattle.std.proofs.{lemmas.Bool.and_parts, lemmas.Bool.cond-true, lemmas.Bool.cond-false, lemmas.Bool.Decides.nat_tests, lemmas.List.take-append-drop, lemmas.List.drop_more, lemmas.List.Elements.filter-append}
-use Rattle.mime.specs.{Bytes.semicolon_byte, Bytes.equals_byte, Bytes.quote_byte, Grammar.Parameter, Grammar.plain, Grammar.quoted, Grammar.Parameters, Grammar.blank, Grammar.final, Grammar.more, Grammar.Tail, Grammar.no_list, Grammar.listed, Grammar.text_of_tail, Grammar.text_of_list, Grammar.text_of_parameter, Grammar.is_space, Grammar.AreSpaces, Grammar.AreParameters, Grammar.IsParameter, Grammar.IsTail, Values.MediaType, Values.Reads, Values.lowered, Values.lowered_parameter, Values.lowered_list, Values.lowered_tail, Values.pair_of, Values.pairs_of_list, Values.pairs_of_tail, Comparison.Same, Difference.reaches_value, Difference.DifferInValue}
-use Rattle.mime.proofs.{ValueLemmas.KeptText.text_of-essence, LowercaseLemmas.lowered-append, LowercaseLemmas.lowered-lowered, CompareLemmas.OtherCase.lowered-lowered_value, CompareLemmas.Parts.essence-lowered}
+use Rattle.std.proofs.lemmas.Bool.{and_parts, cond-true, cond-false}
+use Rattle.std.proofs.lemmas.Bool.Decides.{nat_tests}
+use Rattle.std.proofs.lemmas.List.{take-append-drop, drop_more}
+use Rattle.std.proofs.lemmas.List.Elements.{filter-append}
+use Rattle.mime.specs.Bytes.{semicolon_byte, equals_byte, quote_byte}
+use Rattle.mime.specs.Grammar.{Parameter, plain, quoted, Parameters, blank, final, more, Tail, no_list, listed, text_of_tail, text_of_list}
+use Rattle.mime.specs.Grammar.{text_of_parameter, is_space, AreSpaces, AreParameters, IsParameter, IsTail}
+use Rattle.mime.specs.Values.{MediaType, Reads, lowered, lowered_parameter, lowered_list, lowered_tail, pair_of, pairs_of_list}
+use Rattle.mime.specs.Values.{pairs_of_tail}
+use Rattle.mime.specs.Comparison.{Same}
+use Rattle.mime.specs.Difference.{reaches_value, DifferInValue}
+use Rattle.mime.proofs.ValueLemmas.KeptText.{text_of-essence}
+use Rattle.mime.proofs.LowercaseLemmas.{lowered-append, lowered-lowered}
+use Rattle.mime.proofs.CompareLemmas.OtherCase.{lowered-lowered_value}
+use Rattle.mime.proofs.CompareLemmas.Parts.{essence-lowered}
 use Rattle.mime_search.proofs.IgnoringCase.{lowered-drop}
 
 -- a text stripped: its bytes in lowercase, without spaces, tabs and quotes

@@ -2,8 +2,21 @@
 use Rattle.std.proofs.Common.{◌≡◌, ℕ, true, List, [], ◌∷◌, ◌++◌, length, take, drop, map, refl, sym, ap, ◌∙◌, subst, arith, rules}
 use Rattle.std.specs.{Char.to_ascii_lowercase, List.list_all}
 use Rattle.std.proofs.{lemmas.Bool.Decides.nat_tests, lemmas.List.take-append-drop, lemmas.Grind.common_steps}
-use Rattle.mime.specs.{Bytes.slash_byte, Bytes.semicolon_byte, Bytes.equals_byte, Bytes.quote_byte, Grammar.is_space, Grammar.Parameter, Grammar.plain, Grammar.quoted, Grammar.Parameters, Grammar.blank, Grammar.final, Grammar.more, Grammar.Tail, Grammar.no_list, Grammar.listed, Grammar.SyntaxTree, Grammar.text_of, Grammar.text_of_parameter, Grammar.text_of_list, Grammar.text_of_tail, Grammar.AreSpaces, Grammar.IsParameter, Grammar.AreParameters, Grammar.IsTail, Grammar.IsWellFormed, Values.MediaType, Values.Reads, Values.value_of, Values.lowered, Values.lowered_value, Values.lowered_tail, Values.is_charset, Values.pair_of, Values.pairs_of_list, Values.pairs_of_tail, Comparison.Same, Inner.KeptText.AreLowPairs, Inner.KeptText.lowered_pair, Inner.ComparedText.IsLoneCharset}
-use Rattle.mime.proofs.{BytesLemmas.cons_parts, GrammarLemmas.Content.IsContent-case, LowercaseLemmas.lowered-lowered, LowercaseLemmas.lowered_value-either, LowercaseLemmas.low_pair-parts, LowercaseLemmas.list_all-case, LowercaseLemmas.IsToken-case, LowercaseLemmas.pairs_of_tail-lowered, ValueLemmas.Utf8.lowered-parts, ValueLemmas.Utf8.is_no_letter, ValueLemmas.Utf8.stays, ValueLemmas.Parts.read-low_pairs}
+use Rattle.mime.specs.Bytes.{slash_byte, semicolon_byte, equals_byte, quote_byte}
+use Rattle.mime.specs.Grammar.{is_space, Parameter, plain, quoted, Parameters, blank, final, more, Tail, no_list, listed, SyntaxTree}
+use Rattle.mime.specs.Grammar.{text_of, text_of_parameter, text_of_list, text_of_tail, AreSpaces, IsParameter, AreParameters, IsTail}
+use Rattle.mime.specs.Grammar.{IsWellFormed}
+use Rattle.mime.specs.Values.{MediaType, Reads, value_of, lowered, lowered_value, lowered_tail, is_charset, pair_of, pairs_of_list}
+use Rattle.mime.specs.Values.{pairs_of_tail}
+use Rattle.mime.specs.Comparison.{Same}
+use Rattle.mime.specs.Inner.KeptText.{AreLowPairs, lowered_pair}
+use Rattle.mime.specs.Inner.ComparedText.{IsLoneCharset}
+use Rattle.mime.proofs.BytesLemmas.{cons_parts}
+use Rattle.mime.proofs.GrammarLemmas.Content.{IsContent-case}
+use Rattle.mime.proofs.LowercaseLemmas.{lowered-lowered, lowered_value-either, low_pair-parts, list_all-case, IsToken-case}
+use Rattle.mime.proofs.LowercaseLemmas.{pairs_of_tail-lowered}
+use Rattle.mime.proofs.ValueLemmas.Utf8.{lowered-parts, is_no_letter, stays}
+use Rattle.mime.proofs.ValueLemmas.Parts.{read-low_pairs}
 
 -- Lowercasing leaves spaces as they are.
 AreSpaces-case : (bytes other : List ℕ) → lowered other ≡ lowered bytes → AreSpaces bytes → AreSpaces other

@@ -1,10 +1,28 @@
 -- A text against a value: what a text has that is equal to the value, and what suffices.
-use Rattle.std.proofs.{lemmas.Grind.common_steps, lemmas.Bool.Decides.nat_tests, lemmas.List.nil_from_length, lemmas.List.take-append-drop, lemmas.Option.same_Some, lemmas.List.Folds.list_all-append}
+use Rattle.std.proofs.lemmas.Grind.{common_steps}
+use Rattle.std.proofs.lemmas.Bool.Decides.{nat_tests}
+use Rattle.std.proofs.lemmas.List.{nil_from_length, take-append-drop}
+use Rattle.std.proofs.lemmas.Option.{same_Some}
+use Rattle.std.proofs.lemmas.List.Folds.{list_all-append}
 use Rattle.std.proofs.Common.{◌≡◌, ℕ, ◌+◌, arith, List, [], ◌∷◌, ◌++◌, length, take, drop, Some, map, refl, sym, ap, ◌∙◌, subst, ◌↔◌, rules}
 use Rattle.std.specs.Prelude.{◌≢◌, ◌==◌, not, codes}
 use Rattle.std.specs.List.{list_all}
-use Rattle.mime.specs.{Bytes.slash_byte, Bytes.semicolon_byte, Grammar.Tail, Grammar.no_list, Grammar.listed, Grammar.SyntaxTree, Grammar.text_of, Grammar.IsToken, Grammar.IsWellFormed, Values.MediaType, Values.Reads, Values.value_of, Values.essence_of, Values.lowered, Values.lowered_tail, Values.pairs_of_list, Values.pairs_of_tail, Comparison.TextIs, Comparison.HasNoSemicolon, Inner.Pairs.pairs_within, Inner.Scanning.positions_of, Inner.Scanning.semicolon_of, Inner.KeptText.lowered_pair, Inner.ComparedText.StartsWithEssence, Inner.ComparedText.IsAcceptedAt, Inner.ComparedText.IsLoneCharset, Comparison.Same, Laws.KeptTextIs}
-use Rattle.mime.proofs.{BytesLemmas.AreTokenBytes-from_token, BytesLemmas.are_other-token, BytesLemmas.semicolon_is_no_token, ValueLemmas.Pairs.cut_of-name, ValueLemmas.Parts.kept-essence, ValueLemmas.Parts.read-low_essence, ValueLemmas.KeptText.take-essence, ValueLemmas.KeptText.length-essence_of, ValueLemmas.KeptText.slice_get-semicolon, ValueLemmas.KeptText.kept_is_read, ValueLemmas.KeptText.pairs_within-text_of, LowercaseLemmas.lowered-append, LowercaseLemmas.length-tail_lowered, LowercaseLemmas.pairs_of_tail-lowered, LowercaseLemmas.list_all-lowered, GrammarLemmas.Readings.one_reading, CompareLemmas.OtherCase.case_read, CompareLemmas.OtherCase.case_read-count, CompareLemmas.OtherCase.case_read-lone_charset}
+use Rattle.mime.specs.Bytes.{slash_byte, semicolon_byte}
+use Rattle.mime.specs.Grammar.{Tail, no_list, listed, SyntaxTree, text_of, IsToken, IsWellFormed}
+use Rattle.mime.specs.Values.{MediaType, Reads, value_of, essence_of, lowered, lowered_tail, pairs_of_list, pairs_of_tail}
+use Rattle.mime.specs.Comparison.{TextIs, HasNoSemicolon, Same}
+use Rattle.mime.specs.Inner.Pairs.{pairs_within}
+use Rattle.mime.specs.Inner.Scanning.{positions_of, semicolon_of}
+use Rattle.mime.specs.Inner.KeptText.{lowered_pair}
+use Rattle.mime.specs.Inner.ComparedText.{StartsWithEssence, IsAcceptedAt, IsLoneCharset}
+use Rattle.mime.specs.Laws.{KeptTextIs}
+use Rattle.mime.proofs.BytesLemmas.{AreTokenBytes-from_token, are_other-token, semicolon_is_no_token}
+use Rattle.mime.proofs.ValueLemmas.Pairs.{cut_of-name}
+use Rattle.mime.proofs.ValueLemmas.Parts.{kept-essence, read-low_essence}
+use Rattle.mime.proofs.ValueLemmas.KeptText.{take-essence, length-essence_of, slice_get-semicolon, kept_is_read, pairs_within-text_of}
+use Rattle.mime.proofs.LowercaseLemmas.{lowered-append, length-tail_lowered, pairs_of_tail-lowered, list_all-lowered}
+use Rattle.mime.proofs.GrammarLemmas.Readings.{one_reading}
+use Rattle.mime.proofs.CompareLemmas.OtherCase.{case_read, case_read-count, case_read-lone_charset}
 use Rattle.mime_search.proofs.IgnoringCase.{length-lowered}
 
 -- ---- what an accepted text with parameters is read as

@@ -1,10 +1,29 @@
 -- A comma ends whatever precedes it, and leaves what follows it as it is.
-use Rattle.std.proofs.Common.{◌≡◌, ℕ, suc, ◌≤◌, List, [], ◌∷◌, ◌++◌, length, take, drop, Some, None, refl, sym, ap, ◌∙◌, subst, arith, inl, inr, append_assoc, length-append, rules}
-use Rattle.std.proofs.{Math.Seq.take-append_seam, lemmas.List.take-append-le, lemmas.List.take-append-drop, lemmas.List.take-take, lemmas.Bool.and_parts, lemmas.Bool.cond-false, lemmas.Bool.Decides.nat_tests, lemmas.Grind.common_steps}
-use Rattle.mime.proofs.{GrammarLemmas.Begun.Begun, GrammarLemmas.Begun.in_type, GrammarLemmas.Begun.grow, GrammarLemmas.Begun.walk, GrammarLemmas.Characters.following-low, GrammarLemmas.Characters.foreign-from_high, GrammarLemmas.Characters.IsForeign, GrammarLemmas.Characters.IsOpen, GrammarLemmas.Characters.grow-foreign, CutLemmas.Cuts.Following, CutLemmas.Cuts.following_of, CutLemmas.Cuts.split-size, CutLemmas.Cuts.split-from_dead, CutLemmas.Cuts.items-from_rejected, CutLemmas.Cuts.split_inv, CutLemmas.Cuts.empty-rejected, CutLemmas.Cuts.empty-cut, CutLemmas.Cuts.has_cut, CutLemmas.Cuts.cut_unique, CutLemmas.Cuts.takes_unique, ValueLemmas.KeptText.kept_is_read, GrammarLemmas.Viability.empty_is_viable, GrammarLemmas.Viability.walk-from_viable, GrammarLemmas.Viability.lacks-from_walk, GrammarLemmas.Viability.accepted_is_viable, GrammarLemmas.Viability.prefix_of_viable_is_viable, GrammarLemmas.Faults.completed_is_rejected}
+use Rattle.std.proofs.Common.{◌≡◌, ℕ, suc, ◌≤◌, List, [], ◌∷◌, ◌++◌, length, take, drop, Some, None, refl, sym, ap, ◌∙◌, subst, arith, inl}
+use Rattle.std.proofs.Common.{inr, append_assoc, length-append, rules}
+use Rattle.std.proofs.Math.Seq.{take-append_seam}
+use Rattle.std.proofs.lemmas.List.{take-append-le, take-append-drop, take-take}
+use Rattle.std.proofs.lemmas.Bool.{and_parts, cond-false}
+use Rattle.std.proofs.lemmas.Bool.Decides.{nat_tests}
+use Rattle.std.proofs.lemmas.Grind.{common_steps}
+use Rattle.mime.proofs.GrammarLemmas.Begun.{Begun, in_type, grow, walk}
+use Rattle.mime.proofs.GrammarLemmas.Characters.{following-low, foreign-from_high, IsForeign, IsOpen, grow-foreign}
+use Rattle.mime.proofs.CutLemmas.Cuts.{Following, following_of, split-size, split-from_dead, items-from_rejected, split_inv, empty-rejected}
+use Rattle.mime.proofs.CutLemmas.Cuts.{empty-cut, has_cut, cut_unique, takes_unique}
+use Rattle.mime.proofs.ValueLemmas.KeptText.{kept_is_read}
+use Rattle.mime.proofs.GrammarLemmas.Viability.{empty_is_viable, walk-from_viable, lacks-from_walk, accepted_is_viable}
+use Rattle.mime.proofs.GrammarLemmas.Viability.{prefix_of_viable_is_viable}
+use Rattle.mime.proofs.GrammarLemmas.Faults.{completed_is_rejected}
 use Rattle.std.specs.Prelude.{IsTrue, map, MatchOption}
 use Rattle.std.specs.List.{list_all, AllByRecursion}
-use Rattle.mime.specs.{Bytes.is_token_byte, Bytes.comma_byte, Bytes.space_byte, Values.MediaType, Values.IsAccepted, Faults.IsViable, Faults.IsUnclosed, declared.scan.fault.ParseError.TheVariants.MissingQuote, Cut.is_following_byte, Cut.BeginsCharacter, Cut.IsCharacter, Cut.IsSplit, Cut.CutItem, Cut.good, Cut.ItemsOf, Cut.is_read, Cut.is_empty, Cut.Cut, Cut.whole, Cut.unfinished, Cut.goes_on, Cut.last, Cut.next, Cut.steps_of, Cut.TakesSteps, CutLaws.OneCut, CutLaws.CutWritesText, CutLaws.IsItem, CutLaws.CutHasItems, CutLaws.OneCount, CutLaws.items_of_rest, CutLaws.CommaContains, CutLaws.joined, CutLaws.IsRead, CutLaws.kept_item, CutLaws.JoinedComesBack, CutLaws.IsHttpList, CutLaws.no_element, CutLaws.separated, CutLaws.one_element, CutLaws.more_elements, CutLaws.HttpListIsCut}
+use Rattle.mime.specs.Bytes.{is_token_byte, comma_byte, space_byte}
+use Rattle.mime.specs.Values.{MediaType, IsAccepted}
+use Rattle.mime.specs.Faults.{IsViable, IsUnclosed}
+use Rattle.mime.specs.declared.scan.fault.ParseError.TheVariants.{MissingQuote}
+use Rattle.mime.specs.Cut.{is_following_byte, BeginsCharacter, IsCharacter, IsSplit, CutItem, good, ItemsOf, is_read, is_empty, Cut, whole}
+use Rattle.mime.specs.Cut.{unfinished, goes_on, last, next, steps_of, TakesSteps}
+use Rattle.mime.specs.CutLaws.{OneCut, CutWritesText, IsItem, CutHasItems, OneCount, items_of_rest, CommaContains, joined, IsRead}
+use Rattle.mime.specs.CutLaws.{kept_item, JoinedComesBack, IsHttpList, no_element, separated, one_element, more_elements, HttpListIsCut}
 
 -- A text has exactly one cut.
 pub one_cut : OneCut

@@ -1,10 +1,20 @@
 -- A text has one cut, and what a cut makes of its text.
-use Rattle.std.proofs.{lemmas.Grind.common_steps, Math.Seq.take-append_seam, Math.Seq.drop-append_seam, Math.Seq.take-length, lemmas.Bool.and_parts}
-use Rattle.std.proofs.Common.{◌≡◌, ℕ, zero, suc, ◌+◌, ◌<◌, Bool, true, false, List, [], ◌∷◌, ◌++◌, length, take, drop, Some, None, refl, sym, ap, ◌∙◌, subst, arith, ◌⊎◌, inl, inr, ⊎_elim, rules}
+use Rattle.std.proofs.lemmas.Grind.{common_steps}
+use Rattle.std.proofs.Math.Seq.{take-append_seam, drop-append_seam, take-length}
+use Rattle.std.proofs.lemmas.Bool.{and_parts}
+use Rattle.std.proofs.Common.{◌≡◌, ℕ, zero, suc, ◌+◌, ◌<◌, Bool, true, false, List, [], ◌∷◌, ◌++◌, length, take, drop, Some, None, refl}
+use Rattle.std.proofs.Common.{sym, ap, ◌∙◌, subst, arith, ◌⊎◌, inl, inr, ⊎_elim, rules}
 use Rattle.std.specs.Prelude.{IsTrue, ◌&&◌}
 use Rattle.std.specs.List.{list_all, prefix_len}
-use Rattle.mime.specs.{Values.IsAccepted, Values.IsRejected, Faults.IsViable, CutLaws.items_of_rest, Cut.is_following_byte, Cut.BeginsCharacter, Cut.IsCharacter, Cut.IsSplit, Cut.CutItem, Cut.good, Cut.ItemsOf, Cut.is_read, Cut.is_rejected, Cut.is_empty, Cut.Cut, Cut.whole, Cut.unfinished, Cut.goes_on, Cut.Pieces, Cut.last, Cut.next, Cut.TakesSteps}
-use Rattle.mime.proofs.{GrammarLemmas.Begun.Begun, GrammarLemmas.Begun.in_type, GrammarLemmas.Begun.grow, GrammarLemmas.Begun.walk, GrammarLemmas.Begun.tree_of, GrammarLemmas.Readings.one_reading, GrammarLemmas.Readings.rejected-from_walk, GrammarLemmas.Readings.stopped-from_walk, GrammarLemmas.Viability.by_option, GrammarLemmas.Viability.accepted-from_complete, GrammarLemmas.Viability.viable-from_walk, GrammarLemmas.Viability.prefix-from_walk, GrammarLemmas.Viability.prefix_unique, GrammarLemmas.Viability.accepted_is_viable, GrammarLemmas.Viability.empty_is_viable, GrammarLemmas.Viability.stop-from_walk}
+use Rattle.mime.specs.Values.{IsAccepted, IsRejected}
+use Rattle.mime.specs.Faults.{IsViable}
+use Rattle.mime.specs.CutLaws.{items_of_rest}
+use Rattle.mime.specs.Cut.{is_following_byte, BeginsCharacter, IsCharacter, IsSplit, CutItem, good, ItemsOf, is_read, is_rejected, is_empty}
+use Rattle.mime.specs.Cut.{Cut, whole, unfinished, goes_on, Pieces, last, next, TakesSteps}
+use Rattle.mime.proofs.GrammarLemmas.Begun.{Begun, in_type, grow, walk, tree_of}
+use Rattle.mime.proofs.GrammarLemmas.Readings.{one_reading, rejected-from_walk, stopped-from_walk}
+use Rattle.mime.proofs.GrammarLemmas.Viability.{by_option, accepted-from_complete, viable-from_walk, prefix-from_walk, prefix_unique}
+use Rattle.mime.proofs.GrammarLemmas.Viability.{accepted_is_viable, empty_is_viable, stop-from_walk}
 
 -- ---- a character
 

@@ -1,10 +1,34 @@
 -- How a text begins: its first character, and its first piece.
-use Rattle.std.proofs.{lemmas.Grind.common_steps, lemmas.Bool.cases_Bool, lemmas.Bool.cases_lt, lemmas.Bool.and_parts, lemmas.Bool.not-true, lemmas.Bool.cond-false, lemmas.Bool.Decides.nat_tests, lemmas.List.take-append-drop, lemmas.List.length-take-le, lemmas.List.drop-drop, lemmas.List.take_at, lemmas.List.drop_at, lemmas.Option.slice_get_within, lemmas.Str.IsCharBoundary-from_rest, lemmas.Str.IsCharBoundary-from_take, lemmas.Str.IsUtf8-from_ascii}
-use Rattle.std.proofs.Common.{◌≡◌, ◌≢◌, ℕ, zero, suc, ◌+◌, ◌-◌, ◌<◌, ◌≤◌, false, inl, inr, length-append, IsAscii, List, [], ◌∷◌, ◌++◌, length, take, drop, Option, Some, None, MatchOption, refl, sym, ap, ◌∙◌, subst, arith, ⊎_elim, length-drop, rules}
+use Rattle.std.proofs.lemmas.Grind.{common_steps}
+use Rattle.std.proofs.lemmas.Bool.{cases_Bool, cases_lt, and_parts, not-true, cond-false}
+use Rattle.std.proofs.lemmas.Bool.Decides.{nat_tests}
+use Rattle.std.proofs.lemmas.List.{take-append-drop, length-take-le, drop-drop, take_at, drop_at}
+use Rattle.std.proofs.lemmas.Option.{slice_get_within}
+use Rattle.std.proofs.lemmas.Str.{IsCharBoundary-from_rest, IsCharBoundary-from_take, IsUtf8-from_ascii}
+use Rattle.std.proofs.Common.{◌≡◌, ◌≢◌, ℕ, zero, suc, ◌+◌, ◌-◌, ◌<◌, ◌≤◌, false, inl, inr, length-append, IsAscii, List, [], ◌∷◌, ◌++◌}
+use Rattle.std.proofs.Common.{length, take, drop, Option, Some, None, MatchOption, refl, sym, ap, ◌∙◌, subst, arith, ⊎_elim, length-drop}
+use Rattle.std.proofs.Common.{rules}
 use Rattle.std.specs.Prelude.{IsTrue, IsFalse, ◌&&◌, nat_lt}
 use Rattle.std.specs.{List.list_all, Str.IsUtf8, Str.IsCharBoundary}
-use Rattle.mime.specs.{Bytes.is_token_byte, Inner.ByteClasses.is_ascii_not_token, Values.IsAccepted, Values.IsRejected, Faults.IsViable, Faults.IsLongestPrefix, Faults.IsDeadAt, Cut.is_following_byte, Cut.BeginsCharacter, Cut.IsCharacter, Cut.IsSplit, Cut.CutItem, Cut.good, Cut.bad, Cut.ItemsOf, Cut.is_read, Cut.is_rejected, Cut.is_empty, Cut.Cut, Cut.whole, Cut.unfinished, Cut.goes_on, Cut.TakesSteps, Inner.Remaining.Remaining, Inner.Scanning.HasPositions, Inner.Scanning.StopsAt, Inner.Scanning.Judges, Inner.Scanning.Scans, Inner.BetweenCalls.IsUnderWay, Inner.BetweenCalls.IsFirstPiece, Inner.BetweenCalls.ReadsPiece, declared.scan.fault.ParseError.ParseError, declared.scan.Positions.Positions, declared.scan.Scanned.Scanned, declared.scan.Scanned.TheVariants.Accepted, declared.scan.Scanned.TheVariants.Unfinished}
-use Rattle.mime.proofs.{GrammarLemmas.Characters.prefix_ends_between_characters, CutLemmas.Cuts.empty-rejected, CutLemmas.Cuts.empty-cut, CutLemmas.Cuts.split-size, CutLemmas.Cuts.split-from_dead, CutLemmas.Cuts.cut_unique, CutLemmas.Cuts.takes-split, CutLemmas.Cuts.takes-viable, CutLemmas.Cuts.takes_unique, GrammarLemmas.Begun.in_type, ValueLemmas.Reading.accepted-from_positions, ValueLemmas.Reading.rejected-from_fault, GrammarLemmas.Viability.accepted_is_viable, GrammarLemmas.Viability.empty_is_viable}
+use Rattle.mime.specs.Bytes.{is_token_byte}
+use Rattle.mime.specs.Inner.ByteClasses.{is_ascii_not_token}
+use Rattle.mime.specs.Values.{IsAccepted, IsRejected}
+use Rattle.mime.specs.Faults.{IsViable, IsLongestPrefix, IsDeadAt}
+use Rattle.mime.specs.Cut.{is_following_byte, BeginsCharacter, IsCharacter, IsSplit, CutItem, good, bad, ItemsOf, is_read, is_rejected}
+use Rattle.mime.specs.Cut.{is_empty, Cut, whole, unfinished, goes_on, TakesSteps}
+use Rattle.mime.specs.Inner.Remaining.{Remaining}
+use Rattle.mime.specs.Inner.Scanning.{HasPositions, StopsAt, Judges, Scans}
+use Rattle.mime.specs.Inner.BetweenCalls.{IsUnderWay, IsFirstPiece, ReadsPiece}
+use Rattle.mime.specs.declared.scan.fault.ParseError.{ParseError}
+use Rattle.mime.specs.declared.scan.Positions.{Positions}
+use Rattle.mime.specs.declared.scan.Scanned.{Scanned}
+use Rattle.mime.specs.declared.scan.Scanned.TheVariants.{Accepted, Unfinished}
+use Rattle.mime.proofs.GrammarLemmas.Characters.{prefix_ends_between_characters}
+use Rattle.mime.proofs.CutLemmas.Cuts.{empty-rejected, empty-cut, split-size, split-from_dead, cut_unique, takes-split, takes-viable}
+use Rattle.mime.proofs.CutLemmas.Cuts.{takes_unique}
+use Rattle.mime.proofs.GrammarLemmas.Begun.{in_type}
+use Rattle.mime.proofs.ValueLemmas.Reading.{accepted-from_positions, rejected-from_fault}
+use Rattle.mime.proofs.GrammarLemmas.Viability.{accepted_is_viable, empty_is_viable}
 
 -- ---- the first character of a text
 

@@ -1,10 +1,24 @@
 -- Characters: the longest viable prefix ends between two, and what is passed after it is one.
-use Rattle.std.proofs.Common.{◌≡◌, ℕ, List, [], ◌∷◌, ◌++◌, Some, None, sym, ◌∙◌, subst, ◌+◌, ◌<◌, ◌≤◌, true, length, get_or, drop, ap, arith, ◌⊎◌, inl, inr, ⊎_elim, length-drop, take, append-nil, length-append, rules}
-use Rattle.std.proofs.{lemmas.Bool.cases_lt, lemmas.Bool.and_parts, lemmas.Bool.Decides.nat_tests, lemmas.List.drop_more, lemmas.Option.none-some, lemmas.Option.same_Some, lemmas.Option.option_and_then_some, lemmas.Option.MatchOption-at_some, lemmas.Str.IsCharBoundary-start, lemmas.Str.IsCharBoundary-end, lemmas.Str.IsCharBoundary-after_ascii, lemmas.Str.IsUtf8-take, lemmas.Str.IsUtf8-drop, lemmas.Str.IsCharBoundary-past_char, lemmas.Str.length-encode, lemmas.Str.len_utf8_bounds, Math.Seq.take-append_seam, Math.Seq.drop-append_seam, lemmas.Grind.common_steps}
+use Rattle.std.proofs.Common.{◌≡◌, ℕ, List, [], ◌∷◌, ◌++◌, Some, None, sym, ◌∙◌, subst, ◌+◌, ◌<◌, ◌≤◌, true, length, get_or, drop, ap}
+use Rattle.std.proofs.Common.{arith, ◌⊎◌, inl, inr, ⊎_elim, length-drop, take, append-nil, length-append, rules}
+use Rattle.std.proofs.lemmas.Bool.{cases_lt, and_parts}
+use Rattle.std.proofs.lemmas.Bool.Decides.{nat_tests}
+use Rattle.std.proofs.lemmas.List.{drop_more}
+use Rattle.std.proofs.lemmas.Option.{none-some, same_Some, option_and_then_some, MatchOption-at_some}
+use Rattle.std.proofs.lemmas.Str.{IsCharBoundary-start, IsCharBoundary-end, IsCharBoundary-after_ascii, IsUtf8-take, IsUtf8-drop}
+use Rattle.std.proofs.lemmas.Str.{IsCharBoundary-past_char, length-encode, len_utf8_bounds}
+use Rattle.std.proofs.Math.Seq.{take-append_seam, drop-append_seam}
+use Rattle.std.proofs.lemmas.Grind.{common_steps}
 use Rattle.std.specs.Prelude.{IsFalse, MatchOption, ◌==◌, IsTrue, ◌&&◌, ◌||◌, nat_le}
 use Rattle.std.specs.{Str.IsUtf8, Str.IsCharBoundary, Str.encode_utf8_all, List.list_all, Char.IsScalar, Char.encode_utf8, Char.len_utf8}
-use Rattle.mime.specs.{Bytes.is_token_byte, Bytes.slash_byte, Bytes.semicolon_byte, Bytes.equals_byte, Bytes.quote_byte, Bytes.space_byte, Bytes.tab_byte, Grammar.is_space, Laws.PrefixEndsBetweenCharacters, Cut.is_following_byte, Cut.IsCharacter, CutLaws.PassesOneCharacter}
-use Rattle.mime.proofs.{GrammarLemmas.Begun.Closed, GrammarLemmas.Begun.Begun, GrammarLemmas.Begun.in_type, GrammarLemmas.Begun.in_list, GrammarLemmas.Begun.in_quotes, GrammarLemmas.Begun.list_at, GrammarLemmas.Begun.grow, GrammarLemmas.Begun.walk, GrammarLemmas.Begun.walk_from, GrammarLemmas.Content.takes-high, GrammarLemmas.Viability.by_option, GrammarLemmas.Viability.whole_prefix-from_walk, GrammarLemmas.Viability.prefix_unique, GrammarLemmas.Viability.stop-from_walk, GrammarLemmas.Viability.dead-from_stop}
+use Rattle.mime.specs.Bytes.{is_token_byte, slash_byte, semicolon_byte, equals_byte, quote_byte, space_byte, tab_byte}
+use Rattle.mime.specs.Grammar.{is_space}
+use Rattle.mime.specs.Laws.{PrefixEndsBetweenCharacters}
+use Rattle.mime.specs.Cut.{is_following_byte, IsCharacter}
+use Rattle.mime.specs.CutLaws.{PassesOneCharacter}
+use Rattle.mime.proofs.GrammarLemmas.Begun.{Closed, Begun, in_type, in_list, in_quotes, list_at, grow, walk, walk_from}
+use Rattle.mime.proofs.GrammarLemmas.Content.{takes-high}
+use Rattle.mime.proofs.GrammarLemmas.Viability.{by_option, whole_prefix-from_walk, prefix_unique, stop-from_walk, dead-from_stop}
 use lib.Utf8.{scalars, scalar}
 
 -- a foreign byte: no token byte, no space and no delimiter

@@ -2,8 +2,12 @@
 use Rattle.std.proofs.Common.{◌≡◌, ℕ, ◌≤◌, Bool, true, false, List, [], ◌∷◌, ◌++◌, refl, sym, ap, ◌∙◌, subst, arith, rules}
 use Rattle.std.specs.Prelude.{IsTrue, IsFalse, ◌==◌, ◌&&◌, not}
 use Rattle.std.specs.{Char.to_ascii_lowercase, List.list_all}
-use Rattle.std.proofs.{lemmas.Bool.and_parts, lemmas.Bool.and_from, lemmas.Bool.eqb-true, lemmas.Bool.true≢false, lemmas.Bool.Decides.nat_tests}
-use Rattle.mime.specs.{Bytes.is_quoted_byte, Bytes.is_quoted_text_byte, Bytes.quote_byte, Bytes.backslash_byte, Grammar.IsContent, Grammar.no_byte, Grammar.text_byte, Grammar.quoted_pair, Values.lowered, Inner.Quoted.awaits_next, Inner.Quoted.takes, Inner.Quoted.takes_all, Inner.Quoted.awaits_after, Inner.Quoted.IsOpenContent, Inner.Quoted.continues}
+use Rattle.std.proofs.lemmas.Bool.{and_parts, and_from, eqb-true, true≢false}
+use Rattle.std.proofs.lemmas.Bool.Decides.{nat_tests}
+use Rattle.mime.specs.Bytes.{is_quoted_byte, is_quoted_text_byte, quote_byte, backslash_byte}
+use Rattle.mime.specs.Grammar.{IsContent, no_byte, text_byte, quoted_pair}
+use Rattle.mime.specs.Values.{lowered}
+use Rattle.mime.specs.Inner.Quoted.{awaits_next, takes, takes_all, awaits_after, IsOpenContent, continues}
 
 -- ---- one byte
 

@@ -1,10 +1,29 @@
 -- Each rejected text has one fault, and a viable one has one completion.
-use Rattle.std.proofs.Common.{◌≡◌, ℕ, ◌+◌, ◌<◌, ◌≤◌, Bool, false, List, [], ◌∷◌, ◌++◌, length, drop, Some, None, refl, sym, ap, ◌∙◌, arith, append-nil, length-append, codes, rules}
-use Rattle.std.proofs.{Math.Seq.drop-append_seam, lemmas.Bool.false≢true, lemmas.Bool.and_parts, lemmas.List.drop-append-le, lemmas.List.Folds.list_all-append, lemmas.Option.same_Some, lemmas.Option.none-some}
+use Rattle.std.proofs.Common.{◌≡◌, ℕ, ◌+◌, ◌<◌, ◌≤◌, Bool, false, List, [], ◌∷◌, ◌++◌, length, drop, Some, None, refl, sym, ap, ◌∙◌, arith}
+use Rattle.std.proofs.Common.{append-nil, length-append, codes, rules}
+use Rattle.std.proofs.Math.Seq.{drop-append_seam}
+use Rattle.std.proofs.lemmas.Bool.{false≢true, and_parts}
+use Rattle.std.proofs.lemmas.List.{drop-append-le}
+use Rattle.std.proofs.lemmas.List.Folds.{list_all-append}
+use Rattle.std.proofs.lemmas.Option.{same_Some, none-some}
 use Rattle.std.specs.Prelude.{IsTrue, IsFalse, is_some, slice_get, ◌==◌}
 use Rattle.std.specs.{List.list_all, Option.option_and_then}
-use Rattle.mime.specs.{Bytes.is_token_byte, Bytes.is_quoted_byte, Bytes.slash_byte, Bytes.equals_byte, Inner.Quoted.takes_all, Inner.Quoted.awaits_after, Values.IsRejected, Faults.IsLongestPrefix, Faults.EndsIn, Faults.Lacks, Faults.IsDeadAt, Faults.IsFault, Laws.OneCompletion, Laws.CompletedIsRejected, Laws.OneFault, Laws.OneLongestPrefix, declared.scan.fault.ParseError.ParseError, declared.scan.fault.ParseError.TheVariants.MissingSlash, declared.scan.fault.ParseError.TheVariants.MissingSubtype, declared.scan.fault.ParseError.TheVariants.MissingEqual, declared.scan.fault.ParseError.TheVariants.MissingValue, declared.scan.fault.ParseError.TheVariants.MissingQuote, declared.scan.fault.ParseError.TheVariants.InvalidToken}
-use Rattle.mime.proofs.{GrammarLemmas.Content.takes_all-any, GrammarLemmas.Begun.Closed, GrammarLemmas.Begun.Begun, GrammarLemmas.Begun.in_type, GrammarLemmas.Begun.in_subtype, GrammarLemmas.Begun.in_list, GrammarLemmas.Begun.ListState, GrammarLemmas.Begun.in_name, GrammarLemmas.Begun.in_value, GrammarLemmas.Begun.in_quotes, GrammarLemmas.Begun.list_at, GrammarLemmas.Begun.walk, GrammarLemmas.Begun.tree_of, GrammarLemmas.Begun.lacking, GrammarLemmas.Spelling.before_equals, GrammarLemmas.Spelling.begun-from_walk, GrammarLemmas.Spelling.spelled-from_walk, GrammarLemmas.Spelling.text-in_subtype, GrammarLemmas.Spelling.text-in_value, GrammarLemmas.Readings.walk-accepted, GrammarLemmas.Viability.by_option, GrammarLemmas.Viability.accepted-from_complete, GrammarLemmas.Viability.completes, GrammarLemmas.Viability.completes-from_accepted, GrammarLemmas.Viability.walk_from-open, GrammarLemmas.Viability.lacks-from_walk, GrammarLemmas.Viability.viable-from_lacks, GrammarLemmas.Viability.walk-from_viable, GrammarLemmas.Viability.not_viable-at_dead, GrammarLemmas.Viability.whole_prefix-from_walk, GrammarLemmas.Viability.prefix_unique, GrammarLemmas.Viability.stop-from_walk, GrammarLemmas.Viability.dead-from_stop}
+use Rattle.mime.specs.Bytes.{is_token_byte, is_quoted_byte, slash_byte, equals_byte}
+use Rattle.mime.specs.Inner.Quoted.{takes_all, awaits_after}
+use Rattle.mime.specs.Values.{IsRejected}
+use Rattle.mime.specs.Faults.{IsLongestPrefix, EndsIn, Lacks, IsDeadAt, IsFault}
+use Rattle.mime.specs.Laws.{OneCompletion, CompletedIsRejected, OneFault, OneLongestPrefix}
+use Rattle.mime.specs.declared.scan.fault.ParseError.{ParseError}
+use Rattle.mime.specs.declared.scan.fault.ParseError.TheVariants.{MissingSlash, MissingSubtype, MissingEqual, MissingValue, MissingQuote}
+use Rattle.mime.specs.declared.scan.fault.ParseError.TheVariants.{InvalidToken}
+use Rattle.mime.proofs.GrammarLemmas.Content.{takes_all-any}
+use Rattle.mime.proofs.GrammarLemmas.Begun.{Closed, Begun, in_type, in_subtype, in_list, ListState, in_name, in_value, in_quotes, list_at}
+use Rattle.mime.proofs.GrammarLemmas.Begun.{walk, tree_of, lacking}
+use Rattle.mime.proofs.GrammarLemmas.Spelling.{before_equals, begun-from_walk, spelled-from_walk, text-in_subtype, text-in_value}
+use Rattle.mime.proofs.GrammarLemmas.Readings.{walk-accepted}
+use Rattle.mime.proofs.GrammarLemmas.Viability.{by_option, accepted-from_complete, completes, completes-from_accepted, walk_from-open}
+use Rattle.mime.proofs.GrammarLemmas.Viability.{lacks-from_walk, viable-from_lacks, walk-from_viable, not_viable-at_dead}
+use Rattle.mime.proofs.GrammarLemmas.Viability.{whole_prefix-from_walk, prefix_unique, stop-from_walk, dead-from_stop}
 
 -- ---- a begun tree lacks one thing only
 

@@ -2,8 +2,19 @@
 use Rattle.std.proofs.Common.{◌≡◌, ℕ, List, [], ◌∷◌, ◌++◌, Some, None, refl, sym, ap, ◌∙◌, append-nil, rules}
 use Rattle.std.proofs.{lemmas.Bool.cond-false, lemmas.Option.same_Some, lemmas.Option.none-some, lemmas.Option.MatchOption-at_some}
 use Rattle.std.specs.Option.{option_map}
-use Rattle.mime.specs.{Bytes.is_token_byte, Bytes.slash_byte, Bytes.semicolon_byte, Bytes.equals_byte, Bytes.quote_byte, Grammar.Parameter, Grammar.plain, Grammar.quoted, Grammar.Parameters, Grammar.blank, Grammar.final, Grammar.more, Grammar.Tail, Grammar.no_list, Grammar.listed, Grammar.SyntaxTree, Grammar.AreSpaces, Grammar.text_of_parameter, Grammar.text_of_list, Grammar.text_of, Grammar.IsToken, Grammar.IsContent, Grammar.IsParameter, Grammar.AreParameters, Grammar.IsTail, Grammar.IsWellFormed, Values.MediaType, Values.value_of, Values.Reads, Values.IsAccepted, Values.IsRejected, Inner.Quoted.continues}
-use Rattle.mime.proofs.{GrammarLemmas.Content.content-taken, GrammarLemmas.Content.content-closed, GrammarLemmas.Begun.Closed, GrammarLemmas.Begun.Begun, GrammarLemmas.Begun.in_type, GrammarLemmas.Begun.in_subtype, GrammarLemmas.Begun.in_list, GrammarLemmas.Begun.BegunList, GrammarLemmas.Begun.ListState, GrammarLemmas.Begun.in_spaces, GrammarLemmas.Begun.in_name, GrammarLemmas.Begun.in_value, GrammarLemmas.Begun.in_quotes, GrammarLemmas.Begun.after_quotes, GrammarLemmas.Begun.begun_list, GrammarLemmas.Begun.list_at, GrammarLemmas.Begun.at_state, GrammarLemmas.Begun.grow, GrammarLemmas.Begun.grow_list, GrammarLemmas.Begun.walk, GrammarLemmas.Begun.walk_from, GrammarLemmas.Begun.walk_list, GrammarLemmas.Begun.with_closed, GrammarLemmas.Begun.ended_list, GrammarLemmas.Begun.tree_of, GrammarLemmas.Begun.walk_by-step, GrammarLemmas.Begun.walk_by-append_some, GrammarLemmas.Begun.walk_from-in_list, GrammarLemmas.Begun.walk-type, GrammarLemmas.Begun.walk_from-subtype, GrammarLemmas.Begun.walk_list-spaces, GrammarLemmas.Begun.walk_list-name, GrammarLemmas.Begun.walk_list-value, GrammarLemmas.Begun.walk_list-open, GrammarLemmas.Begun.walk_list-after_quotes, GrammarLemmas.Spelling.text_of_begun, GrammarLemmas.Spelling.walk_from-lengthens, GrammarLemmas.Spelling.tree_of-spelled}
+use Rattle.mime.specs.Bytes.{is_token_byte, slash_byte, semicolon_byte, equals_byte, quote_byte}
+use Rattle.mime.specs.Grammar.{Parameter, plain, quoted, Parameters, blank, final, more, Tail, no_list, listed, SyntaxTree, AreSpaces}
+use Rattle.mime.specs.Grammar.{text_of_parameter, text_of_list, text_of, IsToken, IsContent, IsParameter, AreParameters, IsTail}
+use Rattle.mime.specs.Grammar.{IsWellFormed}
+use Rattle.mime.specs.Values.{MediaType, value_of, Reads, IsAccepted, IsRejected}
+use Rattle.mime.specs.Inner.Quoted.{continues}
+use Rattle.mime.proofs.GrammarLemmas.Content.{content-taken, content-closed}
+use Rattle.mime.proofs.GrammarLemmas.Begun.{Closed, Begun, in_type, in_subtype, in_list, BegunList, ListState, in_spaces, in_name, in_value}
+use Rattle.mime.proofs.GrammarLemmas.Begun.{in_quotes, after_quotes, begun_list, list_at, at_state, grow, grow_list, walk, walk_from}
+use Rattle.mime.proofs.GrammarLemmas.Begun.{walk_list, with_closed, ended_list, tree_of, walk_by-step, walk_by-append_some}
+use Rattle.mime.proofs.GrammarLemmas.Begun.{walk_from-in_list, walk-type, walk_from-subtype, walk_list-spaces, walk_list-name}
+use Rattle.mime.proofs.GrammarLemmas.Begun.{walk_list-value, walk_list-open, walk_list-after_quotes}
+use Rattle.mime.proofs.GrammarLemmas.Spelling.{text_of_begun, walk_from-lengthens, tree_of-spelled}
 
 -- A text that is walked to a complete tree is spelled by it.
 pub accepted-from_walk : (text : List ℕ) (begun : Begun) (tree : SyntaxTree)

@@ -1,10 +1,20 @@
 -- A walk spells what it walked: the text of a begun tree, and of the tree of a text that ends there.
-use Rattle.std.proofs.Common.{arith, ◌≡◌, ℕ, Bool, true, List, [], ◌∷◌, ◌++◌, Some, None, refl, sym, ap, ◌∙◌, subst, append_assoc, append-nil, rules}
-use Rattle.std.proofs.{lemmas.Bool.and_from, lemmas.Bool.cond_both, lemmas.List.Folds.list_all-append, lemmas.Option.same_Some, lemmas.Option.option_and_then_some, lemmas.Option.MatchOption-at_some, lemmas.Grind.common_steps}
+use Rattle.std.proofs.Common.{arith, ◌≡◌, ℕ, Bool, true, List, [], ◌∷◌, ◌++◌, Some, None, refl, sym, ap, ◌∙◌, subst, append_assoc}
+use Rattle.std.proofs.Common.{append-nil, rules}
+use Rattle.std.proofs.lemmas.Bool.{and_from, cond_both}
+use Rattle.std.proofs.lemmas.List.Folds.{list_all-append}
+use Rattle.std.proofs.lemmas.Option.{same_Some, option_and_then_some, MatchOption-at_some}
+use Rattle.std.proofs.lemmas.Grind.{common_steps}
 use Rattle.std.specs.Prelude.{IsTrue, IsFalse, MatchOption, if◌then◌else◌, ◌==◌}
 use Rattle.std.specs.{List.list_all, Option.option_map}
-use Rattle.mime.specs.{Bytes.is_token_byte, Bytes.slash_byte, Bytes.semicolon_byte, Bytes.equals_byte, Bytes.quote_byte, Grammar.quoted, Grammar.Parameters, Grammar.more, Grammar.listed, Grammar.is_space, Grammar.AreSpaces, Grammar.text_of_parameter, Grammar.text_of_list, Grammar.text_of, Grammar.AreTokenBytes, Grammar.IsToken, Grammar.IsContent, Grammar.IsParameter, Grammar.AreParameters, Grammar.IsWellFormed, Inner.Quoted.IsOpenContent, Inner.Quoted.continues}
-use Rattle.mime.proofs.{GrammarLemmas.Content.IsOpenContent-push, GrammarLemmas.Content.IsContent-closed, GrammarLemmas.Begun.Closed, GrammarLemmas.Begun.Begun, GrammarLemmas.Begun.in_type, GrammarLemmas.Begun.in_subtype, GrammarLemmas.Begun.in_list, GrammarLemmas.Begun.BegunList, GrammarLemmas.Begun.ListState, GrammarLemmas.Begun.in_spaces, GrammarLemmas.Begun.in_name, GrammarLemmas.Begun.in_value, GrammarLemmas.Begun.in_quotes, GrammarLemmas.Begun.after_quotes, GrammarLemmas.Begun.list_at, GrammarLemmas.Begun.grow, GrammarLemmas.Begun.grow_state, GrammarLemmas.Begun.grow_list, GrammarLemmas.Begun.walk, GrammarLemmas.Begun.walk_from, GrammarLemmas.Begun.with_closed, GrammarLemmas.Begun.list_at_end, GrammarLemmas.Begun.tree_of}
+use Rattle.mime.specs.Bytes.{is_token_byte, slash_byte, semicolon_byte, equals_byte, quote_byte}
+use Rattle.mime.specs.Grammar.{quoted, Parameters, more, listed, is_space, AreSpaces, text_of_parameter, text_of_list, text_of}
+use Rattle.mime.specs.Grammar.{AreTokenBytes, IsToken, IsContent, IsParameter, AreParameters, IsWellFormed}
+use Rattle.mime.specs.Inner.Quoted.{IsOpenContent, continues}
+use Rattle.mime.proofs.GrammarLemmas.Content.{IsOpenContent-push, IsContent-closed}
+use Rattle.mime.proofs.GrammarLemmas.Begun.{Closed, Begun, in_type, in_subtype, in_list, BegunList, ListState, in_spaces, in_name, in_value}
+use Rattle.mime.proofs.GrammarLemmas.Begun.{in_quotes, after_quotes, list_at, grow, grow_state, grow_list, walk, walk_from, with_closed}
+use Rattle.mime.proofs.GrammarLemmas.Begun.{list_at_end, tree_of}
 
 -- ---- begun trees: their texts, and that each part is in its class
 

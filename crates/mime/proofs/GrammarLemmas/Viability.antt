@@ -1,10 +1,26 @@
 -- Which texts may still become a media type, and what such a text lacks, read off the begun tree that it is walked to.
-use Rattle.std.proofs.Common.{◌≡◌, ℕ, false, Bool, suc, ◌+◌, ◌-◌, ◌<◌, List, [], ◌∷◌, ◌++◌, length, take, Option, Some, None, refl, sym, ap, ◌∙◌, subst, arith, append_assoc, append-nil, length-append, codes, rules}
-use Rattle.std.proofs.{Math.Seq.take-append_seam, Math.Seq.take-append-add, Math.Seq.take-length, lemmas.Bool.cond-false, lemmas.Bool.false≢true, lemmas.Option.none-some, lemmas.Option.option_and_then_some, lemmas.Option.slice_get_within}
+use Rattle.std.proofs.Common.{◌≡◌, ℕ, false, Bool, suc, ◌+◌, ◌-◌, ◌<◌, List, [], ◌∷◌, ◌++◌, length, take, Option, Some, None, refl, sym, ap}
+use Rattle.std.proofs.Common.{◌∙◌, subst, arith, append_assoc, append-nil, length-append, codes, rules}
+use Rattle.std.proofs.Math.Seq.{take-append_seam, take-append-add, take-length}
+use Rattle.std.proofs.lemmas.Bool.{cond-false, false≢true}
+use Rattle.std.proofs.lemmas.Option.{none-some, option_and_then_some, slice_get_within}
 use Rattle.std.specs.Prelude.{IsTrue, is_some}
 use Rattle.std.specs.Option.{option_and_then, option_map}
-use Rattle.mime.specs.{Bytes.is_token_byte, Bytes.is_quoted_byte, Bytes.quote_byte, Grammar.SyntaxTree, Values.value_of, Values.IsAccepted, Values.IsRejected, Faults.IsViable, Faults.IsLongest, Faults.IsLongestPrefix, Faults.Lacks, Faults.IsDeadAt, Faults.IsFault, Laws.EmptyIsViable, Laws.PrefixOfViableIsViable, Laws.AcceptedIsViable, declared.scan.fault.ParseError.ParseError, declared.scan.fault.ParseError.TheVariants.InvalidToken, Inner.Quoted.takes_all, Inner.Quoted.awaits_after, Inner.Quoted.continues}
-use Rattle.mime.proofs.{GrammarLemmas.Begun.Closed, GrammarLemmas.Begun.Begun, GrammarLemmas.Begun.in_type, GrammarLemmas.Begun.in_subtype, GrammarLemmas.Begun.in_list, GrammarLemmas.Begun.ListState, GrammarLemmas.Begun.in_name, GrammarLemmas.Begun.in_value, GrammarLemmas.Begun.in_quotes, GrammarLemmas.Begun.list_at, GrammarLemmas.Begun.grow, GrammarLemmas.Begun.walk, GrammarLemmas.Begun.walk_from, GrammarLemmas.Begun.tree_of, GrammarLemmas.Begun.lacking, GrammarLemmas.Begun.lacking_list, GrammarLemmas.Begun.walk_by-step, GrammarLemmas.Begun.walk_by-append, GrammarLemmas.Begun.walk_by-append_some, GrammarLemmas.Begun.walk_from-in_list, GrammarLemmas.Begun.walk_list-open, GrammarLemmas.Content.takes_all-any, GrammarLemmas.Content.closed-letter, GrammarLemmas.Spelling.before_equals, GrammarLemmas.Spelling.spelled-from_walk, GrammarLemmas.Spelling.text-in_value, GrammarLemmas.Readings.accepted-from_walk, GrammarLemmas.Readings.walk-accepted, GrammarLemmas.Readings.stopped-from_walk, BytesLemmas.slice_get-prefix}
+use Rattle.mime.specs.Bytes.{is_token_byte, is_quoted_byte, quote_byte}
+use Rattle.mime.specs.Grammar.{SyntaxTree}
+use Rattle.mime.specs.Values.{value_of, IsAccepted, IsRejected}
+use Rattle.mime.specs.Faults.{IsViable, IsLongest, IsLongestPrefix, Lacks, IsDeadAt, IsFault}
+use Rattle.mime.specs.Laws.{EmptyIsViable, PrefixOfViableIsViable, AcceptedIsViable}
+use Rattle.mime.specs.declared.scan.fault.ParseError.{ParseError}
+use Rattle.mime.specs.declared.scan.fault.ParseError.TheVariants.{InvalidToken}
+use Rattle.mime.specs.Inner.Quoted.{takes_all, awaits_after, continues}
+use Rattle.mime.proofs.GrammarLemmas.Begun.{Closed, Begun, in_type, in_subtype, in_list, ListState, in_name, in_value, in_quotes, list_at}
+use Rattle.mime.proofs.GrammarLemmas.Begun.{grow, walk, walk_from, tree_of, lacking, lacking_list, walk_by-step, walk_by-append}
+use Rattle.mime.proofs.GrammarLemmas.Begun.{walk_by-append_some, walk_from-in_list, walk_list-open}
+use Rattle.mime.proofs.GrammarLemmas.Content.{takes_all-any, closed-letter}
+use Rattle.mime.proofs.GrammarLemmas.Spelling.{before_equals, spelled-from_walk, text-in_value}
+use Rattle.mime.proofs.GrammarLemmas.Readings.{accepted-from_walk, walk-accepted, stopped-from_walk}
+use Rattle.mime.proofs.BytesLemmas.{slice_get-prefix}
 
 -- An option is none or some.
 pub by_option : {X P : Type 0} (o : Option X) → (o ≡ None → P) → ((x : X) → o ≡ Some x → P) → P

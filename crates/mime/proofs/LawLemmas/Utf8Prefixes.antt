@@ -3,8 +3,15 @@ use Rattle.std.proofs.Common.{ℕ, List, [], ◌++◌, take, Some, None, refl, s
 use Rattle.std.proofs.lemmas.Str.{IsUtf8-append, IsUtf8-take}
 use Rattle.std.specs.Prelude.{MatchOption}
 use Rattle.std.specs.Str.{IsUtf8}
-use Rattle.mime.specs.{Values.IsAccepted, Faults.IsViable, Faults.IsLongest, Faults.IsLongestPrefix, Faults.completion_of, Faults.Lacks, Laws.IsViableInUtf8, Laws.PrefixIsInUtf8, declared.scan.fault.ParseError.ParseError, declared.scan.fault.ParseError.TheVariants.MissingSlash, declared.scan.fault.ParseError.TheVariants.MissingSubtype, declared.scan.fault.ParseError.TheVariants.MissingEqual, declared.scan.fault.ParseError.TheVariants.MissingValue, declared.scan.fault.ParseError.TheVariants.MissingQuote}
-use Rattle.mime.proofs.{GrammarLemmas.Characters.prefix_ends_between_characters, CutLemmas.Cuts.accepted_or_rejected, GrammarLemmas.Faults.one_completion, GrammarLemmas.Faults.one_longest_prefix, GrammarLemmas.Viability.prefix_unique}
+use Rattle.mime.specs.Values.{IsAccepted}
+use Rattle.mime.specs.Faults.{IsViable, IsLongest, IsLongestPrefix, completion_of, Lacks}
+use Rattle.mime.specs.Laws.{IsViableInUtf8, PrefixIsInUtf8}
+use Rattle.mime.specs.declared.scan.fault.ParseError.{ParseError}
+use Rattle.mime.specs.declared.scan.fault.ParseError.TheVariants.{MissingSlash, MissingSubtype, MissingEqual, MissingValue, MissingQuote}
+use Rattle.mime.proofs.GrammarLemmas.Characters.{prefix_ends_between_characters}
+use Rattle.mime.proofs.CutLemmas.Cuts.{accepted_or_rejected}
+use Rattle.mime.proofs.GrammarLemmas.Faults.{one_completion, one_longest_prefix}
+use Rattle.mime.proofs.GrammarLemmas.Viability.{prefix_unique}
 use lib.Utf8.{encode}
 
 -- What completes a text is ASCII.

@@ -1,10 +1,31 @@
 -- The essence of a value and its parts, and what is written into a header.
-use Rattle.std.proofs.{lemmas.Grind.common_steps, lemmas.List.take-append-drop, lemmas.List.drop_more, lemmas.List.drop_all, lemmas.List.length-drop, lemmas.List.Folds.drop_split, lemmas.Option.slice_get_within, lemmas.Option.get_or_from_slice_get, lemmas.Option.none-some, lemmas.Option.option_and_then_some, lemmas.Bool.and_from, lemmas.Bool.cond-false, lemmas.Bool.true_from_ne_false, lemmas.Bool.Decides.nat_tests}
-use Rattle.std.proofs.Common.{◌≡◌, ℕ, ◌+◌, List, ◌∷◌, ◌++◌, length, drop, Option, Some, None, sym, ap, ◌∙◌, subst, refl, arith, zero, suc, ◌-◌, ◌<◌, Bool, true, false, [], take, append_assoc, append-nil, rules}
+use Rattle.std.proofs.lemmas.Grind.{common_steps}
+use Rattle.std.proofs.lemmas.List.{take-append-drop, drop_more, drop_all, length-drop}
+use Rattle.std.proofs.lemmas.List.Folds.{drop_split}
+use Rattle.std.proofs.lemmas.Option.{slice_get_within, get_or_from_slice_get, none-some, option_and_then_some}
+use Rattle.std.proofs.lemmas.Bool.{and_from, cond-false, true_from_ne_false}
+use Rattle.std.proofs.lemmas.Bool.Decides.{nat_tests}
+use Rattle.std.proofs.Common.{◌≡◌, ℕ, ◌+◌, List, ◌∷◌, ◌++◌, length, drop, Option, Some, None, sym, ap, ◌∙◌, subst, refl, arith, zero, suc}
+use Rattle.std.proofs.Common.{◌-◌, ◌<◌, Bool, true, false, [], take, append_assoc, append-nil, rules}
 use Rattle.std.specs.Prelude.{slice_get, slice_range, unwrap_or, IsFalse, MatchOption, ◌==◌}
 use Rattle.std.specs.{Option.option_map, Option.IfSome, List.AllByRecursion, List.list_all}
-use Rattle.mime.specs.{Bytes.slash_byte, Bytes.plus_byte, Bytes.is_token_byte, Bytes.is_quoted_byte, Bytes.is_quoted_text_byte, Bytes.quote_byte, Values.MediaType, Values.Reads, Values.lowered, Values.lowered_tree, Values.type_of, Values.subtype_of, Values.suffix_of, Values.lowered_value, Values.lowered_tail, Values.pair_of, Values.pairs_of_list, Values.pairs_of_tail, Laws.without_parameters, Laws.suffix_text, Laws.EssenceIsRead, Laws.EssenceIsParts, Laws.SameEssence, Grammar.Parameter, Grammar.plain, Grammar.quoted, Grammar.Parameters, Grammar.blank, Grammar.final, Grammar.more, Grammar.no_list, Grammar.listed, Grammar.SyntaxTree, Grammar.AreTokenBytes, Grammar.IsToken, Grammar.IsContent, Grammar.IsParameter, Grammar.AreParameters, Grammar.IsTail, HeaderLaws.AreHeaderBytes, HeaderLaws.IsSafePair, HeaderLaws.KeptIsSafe, HeaderLaws.text_with_parameter, HeaderLaws.with_parameter, HeaderLaws.ParameterIsRead, Inner.Quoted.takes, Inner.Quoted.awaits_after, Inner.Quoted.continues}
-use Rattle.mime.proofs.{LowercaseLemmas.lowered-lowered, LowercaseLemmas.IsToken-lowered, LowercaseLemmas.lowered_tree-lowered_tree, LowercaseLemmas.IsWellFormed-lowered_tree, ValueLemmas.ListText.ended, ValueLemmas.ListText.drop_past, ValueLemmas.Parts.slash_in, ValueLemmas.Parts.plus_in, ValueLemmas.Parts.subtype_end, GrammarLemmas.Readings.one_reading, GrammarLemmas.Readings.walk-accepted, GrammarLemmas.Begun.Begun, GrammarLemmas.Begun.in_type, GrammarLemmas.Begun.in_list, GrammarLemmas.Begun.in_quotes, GrammarLemmas.Begun.list_at, GrammarLemmas.Begun.grow, GrammarLemmas.Begun.walk_from, BytesLemmas.list_all-wider, BytesLemmas.list_all-parts, BytesLemmas.AreTokenBytes-from_token, BytesLemmas.token-size, GrammarLemmas.Characters.IsForeign, GrammarLemmas.Characters.IsForeign-outside, GrammarLemmas.Characters.IsOpen, GrammarLemmas.Characters.grow-foreign, ValueLemmas.KeptText.value_of_low, ValueLemmas.KeptText.value_of-lowering, ValueLemmas.KeptText.kept_is_read, GrammarLemmas.Content.IsContent-taken, GrammarLemmas.Content.takes_all-text, GrammarLemmas.Content.awaits_after-text}
+use Rattle.mime.specs.Bytes.{slash_byte, plus_byte, is_token_byte, is_quoted_byte, is_quoted_text_byte, quote_byte}
+use Rattle.mime.specs.Values.{MediaType, Reads, lowered, lowered_tree, type_of, subtype_of, suffix_of, lowered_value, lowered_tail, pair_of}
+use Rattle.mime.specs.Values.{pairs_of_list, pairs_of_tail}
+use Rattle.mime.specs.Laws.{without_parameters, suffix_text, EssenceIsRead, EssenceIsParts, SameEssence}
+use Rattle.mime.specs.Grammar.{Parameter, plain, quoted, Parameters, blank, final, more, no_list, listed, SyntaxTree, AreTokenBytes}
+use Rattle.mime.specs.Grammar.{IsToken, IsContent, IsParameter, AreParameters, IsTail}
+use Rattle.mime.specs.HeaderLaws.{AreHeaderBytes, IsSafePair, KeptIsSafe, text_with_parameter, with_parameter, ParameterIsRead}
+use Rattle.mime.specs.Inner.Quoted.{takes, awaits_after, continues}
+use Rattle.mime.proofs.LowercaseLemmas.{lowered-lowered, IsToken-lowered, lowered_tree-lowered_tree, IsWellFormed-lowered_tree}
+use Rattle.mime.proofs.ValueLemmas.ListText.{ended, drop_past}
+use Rattle.mime.proofs.ValueLemmas.Parts.{slash_in, plus_in, subtype_end}
+use Rattle.mime.proofs.GrammarLemmas.Readings.{one_reading, walk-accepted}
+use Rattle.mime.proofs.GrammarLemmas.Begun.{Begun, in_type, in_list, in_quotes, list_at, grow, walk_from}
+use Rattle.mime.proofs.BytesLemmas.{list_all-wider, list_all-parts, AreTokenBytes-from_token, token-size}
+use Rattle.mime.proofs.GrammarLemmas.Characters.{IsForeign, IsForeign-outside, IsOpen, grow-foreign}
+use Rattle.mime.proofs.ValueLemmas.KeptText.{value_of_low, value_of-lowering, kept_is_read}
+use Rattle.mime.proofs.GrammarLemmas.Content.{IsContent-taken, takes_all-text, awaits_after-text}
 use Rattle.mime_search.proofs.IgnoringCase.{length-lowered}
 
 -- The essence of a value that was read is read as the value without its parameters.

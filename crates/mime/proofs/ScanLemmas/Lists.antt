@@ -1,10 +1,24 @@
 -- A text's type, subtype and parameter list as the scanner passes them: each part leads on from where the last one ended.
-use Rattle.std.proofs.Common.{◌≡◌, ℕ, ◌+◌, true, List, [], ◌∷◌, length, Option, Some, None, MatchOption, refl, sym, subst, ◌≢◌, ◌≤◌, ap, ◌∙◌, arith, eq-eqb, rules}
+use Rattle.std.proofs.Common.{◌≡◌, ℕ, ◌+◌, true, List, [], ◌∷◌, length, Option, Some, None, MatchOption, refl, sym, subst, ◌≢◌, ◌≤◌, ap}
+use Rattle.std.proofs.Common.{◌∙◌, arith, eq-eqb, rules}
 use Rattle.std.specs.Prelude.{IsFalse, Bool, if◌then◌else◌, ◌==◌}
 use Rattle.std.specs.Option.{option_to_list}
 use Rattle.std.proofs.lemmas.Bool.{and_from, cond-true, cond-false}
-use Rattle.mime.specs.{Bytes.is_token_byte, Bytes.quote_byte, Bytes.semicolon_byte, Values.last_plus, Inner.Remaining.Remaining, declared.scan.Positions.Positions, declared.scan.Scanned.Scanned, Inner.Scanning.Given, Inner.Scanning.GivesFirst, Inner.Scanning.Passes, Inner.Scanning.positions_of, Inner.Scanning.before_list, Inner.Scanning.ScansList, Inner.Scanning.Scans, Inner.Scanning.PassesContent, Grammar.is_space, Grammar.Parameter, Grammar.plain, Grammar.quoted, Inner.Quoted.continues}
-use Rattle.mime.proofs.{GrammarLemmas.Begun.in_type, GrammarLemmas.Begun.in_subtype, GrammarLemmas.Begun.in_list, GrammarLemmas.Begun.begun_list, GrammarLemmas.Begun.walk-type, GrammarLemmas.Begun.ListState, GrammarLemmas.Begun.in_spaces, GrammarLemmas.Begun.in_name, GrammarLemmas.Begun.in_value, GrammarLemmas.Begun.in_quotes, GrammarLemmas.Begun.after_quotes, GrammarLemmas.Begun.BegunList, GrammarLemmas.Begun.grow_state, GrammarLemmas.Begun.grow_list, GrammarLemmas.Begun.close, GrammarLemmas.Begun.walk_by-step, GrammarLemmas.Begun.walk_list-spaces, GrammarLemmas.Begun.walk_list-name, GrammarLemmas.Begun.walk_list-value, GrammarLemmas.Begun.walk_list-open, GrammarLemmas.Begun.walk_list-after_quotes, ScanLemmas.Passing.given_then, ScanLemmas.Passing.given_whole, ScanLemmas.Passing.given_sum, GrammarLemmas.Spelling.walk_from-lengthens, ScanLemmas.Verdicts.Leads, ScanLemmas.Verdicts.positions_of_list, ScanLemmas.Verdicts.ListLeads, ScanLemmas.Verdicts.list_run, ScanLemmas.Verdicts.list_byte, BytesLemmas.quote_is_no_token, BytesLemmas.semicolon_is_no_token}
+use Rattle.mime.specs.Bytes.{is_token_byte, quote_byte, semicolon_byte}
+use Rattle.mime.specs.Values.{last_plus}
+use Rattle.mime.specs.Inner.Remaining.{Remaining}
+use Rattle.mime.specs.declared.scan.Positions.{Positions}
+use Rattle.mime.specs.declared.scan.Scanned.{Scanned}
+use Rattle.mime.specs.Inner.Scanning.{Given, GivesFirst, Passes, positions_of, before_list, ScansList, Scans, PassesContent}
+use Rattle.mime.specs.Grammar.{is_space, Parameter, plain, quoted}
+use Rattle.mime.specs.Inner.Quoted.{continues}
+use Rattle.mime.proofs.GrammarLemmas.Begun.{in_type, in_subtype, in_list, begun_list, walk-type, ListState, in_spaces, in_name, in_value}
+use Rattle.mime.proofs.GrammarLemmas.Begun.{in_quotes, after_quotes, BegunList, grow_state, grow_list, close, walk_by-step}
+use Rattle.mime.proofs.GrammarLemmas.Begun.{walk_list-spaces, walk_list-name, walk_list-value, walk_list-open, walk_list-after_quotes}
+use Rattle.mime.proofs.ScanLemmas.Passing.{given_then, given_whole, given_sum}
+use Rattle.mime.proofs.GrammarLemmas.Spelling.{walk_from-lengthens}
+use Rattle.mime.proofs.ScanLemmas.Verdicts.{Leads, positions_of_list, ListLeads, list_run, list_byte}
+use Rattle.mime.proofs.BytesLemmas.{quote_is_no_token, semicolon_is_no_token}
 
 -- Nothing was walked yet.
 pub none_walked : {old new : Remaining} {first : Option ℕ} → GivesFirst old new first → Leads (in_type []) old new first (in_type [])

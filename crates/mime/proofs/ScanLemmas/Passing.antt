@@ -1,10 +1,20 @@
 -- What a pass over a reader's bytes has given so far, one byte or one run more, and at its end.
-use Rattle.std.proofs.{lemmas.Grind.common_steps, lemmas.Bool.and_from, lemmas.List.Folds.list_all-append, lemmas.List.Sums.prefix_len-le-length, lemmas.List.take-append-drop, lemmas.List.drop-drop, lemmas.List.length-take-le}
-use Rattle.std.proofs.Common.{◌≡◌, ℕ, zero, suc, get_or, ◌+◌, ◌-◌, ◌<◌, Bool, true, false, cond, eqb, List, [], ◌∷◌, ◌++◌, length, Option, Some, None, refl, sym, ap, ◌∙◌, subst, arith, append-nil, length-append, take, drop, ◌≤◌, rules}
+use Rattle.std.proofs.lemmas.Grind.{common_steps}
+use Rattle.std.proofs.lemmas.Bool.{and_from}
+use Rattle.std.proofs.lemmas.List.Folds.{list_all-append}
+use Rattle.std.proofs.lemmas.List.Sums.{prefix_len-le-length}
+use Rattle.std.proofs.lemmas.List.{take-append-drop, drop-drop, length-take-le}
+use Rattle.std.proofs.Common.{◌≡◌, ℕ, zero, suc, get_or, ◌+◌, ◌-◌, ◌<◌, Bool, true, false, cond, eqb, List, [], ◌∷◌, ◌++◌, length, Option}
+use Rattle.std.proofs.Common.{Some, None, refl, sym, ap, ◌∙◌, subst, arith, append-nil, length-append, take, drop, ◌≤◌, rules}
 use Rattle.std.specs.Prelude.{IsTrue, IsFalse, ◌&&◌, MatchOption}
 use Rattle.std.specs.{List.list_all, List.prefix_len, Option.option_eq}
-use Rattle.mime.specs.{Bytes.is_quoted_byte, Bytes.is_quoted_text_byte, Bytes.backslash_byte, Inner.Quoted.awaits_next, Inner.Quoted.takes, Inner.Quoted.takes_all, Inner.Quoted.awaits_after, Inner.Quoted.IsOpenContent, Inner.Quoted.continues, Inner.Remaining.Remaining, Inner.Remaining.reader_at, Inner.Scanning.Given, Inner.Scanning.GivesFirst, Inner.Scanning.Reaches, Inner.Scanning.Passing, Inner.Scanning.Passes, Inner.Scanning.PassesContent}
-use Rattle.mime.proofs.{BytesLemmas.list_all-wider, GrammarLemmas.Content.takes-backslash, GrammarLemmas.Content.takes_all-text, GrammarLemmas.Content.awaits_after-text, GrammarLemmas.Content.awaits_after-append, GrammarLemmas.Content.takes_all-append, GrammarLemmas.Content.not_taken}
+use Rattle.mime.specs.Bytes.{is_quoted_byte, is_quoted_text_byte, backslash_byte}
+use Rattle.mime.specs.Inner.Quoted.{awaits_next, takes, takes_all, awaits_after, IsOpenContent, continues}
+use Rattle.mime.specs.Inner.Remaining.{Remaining, reader_at}
+use Rattle.mime.specs.Inner.Scanning.{Given, GivesFirst, Reaches, Passing, Passes, PassesContent}
+use Rattle.mime.proofs.BytesLemmas.{list_all-wider}
+use Rattle.mime.proofs.GrammarLemmas.Content.{takes-backslash, takes_all-text, awaits_after-text, awaits_after-append, takes_all-append}
+use Rattle.mime.proofs.GrammarLemmas.Content.{not_taken}
 
 -- A run, and what was given from where it ended.
 pub given_then : {old mid new : Remaining} {xs ys : List ℕ} {stop : Option ℕ}

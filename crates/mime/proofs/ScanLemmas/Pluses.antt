@@ -1,9 +1,14 @@
 -- A subtype is passed plus by plus, or its last pluses at once.
-use Rattle.std.proofs.Common.{◌≡◌, ◌≢◌, ℕ, ◌+◌, ◌-◌, Bool, true, false, eqb, List, [], ◌∷◌, ◌++◌, length, Option, Some, None, refl, sym, ap, ◌∙◌, subst, arith, append_assoc, length-append, ne_eqb, rules}
+use Rattle.std.proofs.Common.{◌≡◌, ◌≢◌, ℕ, ◌+◌, ◌-◌, Bool, true, false, eqb, List, [], ◌∷◌, ◌++◌, length, Option, Some, None, refl, sym, ap}
+use Rattle.std.proofs.Common.{◌∙◌, subst, arith, append_assoc, length-append, ne_eqb, rules}
 use Rattle.std.specs.Prelude.{IsTrue, IsFalse, not, MatchOption}
 use Rattle.std.specs.{List.list_all, Option.option_eq}
 use Rattle.std.proofs.lemmas.Bool.{and_from, and_parts, true≢false, not-true, false_from_ne_true}
-use Rattle.mime.specs.{Bytes.is_token_byte, Bytes.plus_byte, Values.last_plus, Inner.Remaining.Remaining, Inner.ByteClasses.is_token_except_plus, Inner.ByteClasses.token_bytes, Inner.Scanning.Given, Inner.Scanning.GivesFirst, Inner.Scanning.Passing, Inner.Scanning.Passes, Inner.Scanning.PassesSubtype, Inner.Scanning.PassesPluses}
+use Rattle.mime.specs.Bytes.{is_token_byte, plus_byte}
+use Rattle.mime.specs.Values.{last_plus}
+use Rattle.mime.specs.Inner.Remaining.{Remaining}
+use Rattle.mime.specs.Inner.ByteClasses.{is_token_except_plus, token_bytes}
+use Rattle.mime.specs.Inner.Scanning.{Given, GivesFirst, Passing, Passes, PassesSubtype, PassesPluses}
 use Rattle.mime.proofs.ScanLemmas.Passing.{stopped_by, passing_with, passing_more, passes_to, reached}
 
 -- ---- the last plus

@@ -1,9 +1,23 @@
 -- The scanner's verdict where it stops: what was walked up to there, and what a text is that ends there.
-use Rattle.std.proofs.Common.{◌≡◌, ℕ, ◌+◌, ◌-◌, List, [], ◌∷◌, ◌++◌, length, Option, Some, None, MatchOption, refl, ap, ◌∙◌, arith, append-nil, rules}
+use Rattle.std.proofs.Common.{◌≡◌, ℕ, ◌+◌, ◌-◌, List, [], ◌∷◌, ◌++◌, length, Option, Some, None, MatchOption, refl, ap, ◌∙◌, arith}
+use Rattle.std.proofs.Common.{append-nil, rules}
 use Rattle.std.specs.Option.{option_map}
 use Rattle.std.proofs.lemmas.List.{take_at}
-use Rattle.mime.specs.{Grammar.Parameter, Grammar.Parameters, Grammar.more, Grammar.SyntaxTree, Grammar.text_of, Values.pairs_of_list, Values.IsRejected, Inner.Remaining.Remaining, Inner.Scanning.Given, Inner.Scanning.positions_of, Inner.Scanning.HasPositions, Inner.Scanning.StopsAt, Inner.Scanning.Judges, Inner.Scanning.before_list, Inner.Scanning.ScansList, Inner.Scanning.Scans, declared.scan.Positions.Positions, declared.scan.fault.ParseError.ParseError, declared.scan.Scanned.Scanned, declared.scan.Scanned.TheVariants.Accepted, declared.scan.Scanned.TheVariants.Unfinished, declared.scan.Scanned.TheVariants.Stopped, declared.scan.Scanned.TheVariants.Followed}
-use Rattle.mime.proofs.{GrammarLemmas.Begun.Begun, GrammarLemmas.Begun.in_type, GrammarLemmas.Begun.in_list, GrammarLemmas.Begun.BegunList, GrammarLemmas.Begun.begun_list, GrammarLemmas.Begun.grow, GrammarLemmas.Begun.grow_list, GrammarLemmas.Begun.walk, GrammarLemmas.Begun.walk_from, GrammarLemmas.Begun.walk_list, GrammarLemmas.Begun.with_closed, GrammarLemmas.Begun.list_at_end, GrammarLemmas.Begun.tree_of, GrammarLemmas.Begun.lacking, GrammarLemmas.Begun.lacking_list, GrammarLemmas.Begun.walk_by-append_some, GrammarLemmas.Begun.walk_from-in_list, ScanLemmas.Passing.given_then, ScanLemmas.Passing.given_whole, GrammarLemmas.Readings.accepted-from_walk, GrammarLemmas.Readings.rejected-from_walk, GrammarLemmas.Readings.walk-head, GrammarLemmas.Viability.lacks-from_walk, GrammarLemmas.Viability.viable-from_walk, GrammarLemmas.Viability.dead-from_walk, GrammarLemmas.Faults.fault-from_lacks}
+use Rattle.mime.specs.Grammar.{Parameter, Parameters, more, SyntaxTree, text_of}
+use Rattle.mime.specs.Values.{pairs_of_list, IsRejected}
+use Rattle.mime.specs.Inner.Remaining.{Remaining}
+use Rattle.mime.specs.Inner.Scanning.{Given, positions_of, HasPositions, StopsAt, Judges, before_list, ScansList, Scans}
+use Rattle.mime.specs.declared.scan.Positions.{Positions}
+use Rattle.mime.specs.declared.scan.fault.ParseError.{ParseError}
+use Rattle.mime.specs.declared.scan.Scanned.{Scanned}
+use Rattle.mime.specs.declared.scan.Scanned.TheVariants.{Accepted, Unfinished, Stopped, Followed}
+use Rattle.mime.proofs.GrammarLemmas.Begun.{Begun, in_type, in_list, BegunList, begun_list, grow, grow_list, walk, walk_from, walk_list}
+use Rattle.mime.proofs.GrammarLemmas.Begun.{with_closed, list_at_end, tree_of, lacking, lacking_list, walk_by-append_some}
+use Rattle.mime.proofs.GrammarLemmas.Begun.{walk_from-in_list}
+use Rattle.mime.proofs.ScanLemmas.Passing.{given_then, given_whole}
+use Rattle.mime.proofs.GrammarLemmas.Readings.{accepted-from_walk, rejected-from_walk, walk-head}
+use Rattle.mime.proofs.GrammarLemmas.Viability.{lacks-from_walk, viable-from_walk, dead-from_walk}
+use Rattle.mime.proofs.GrammarLemmas.Faults.{fault-from_lacks}
 
 -- ---- what was walked
 

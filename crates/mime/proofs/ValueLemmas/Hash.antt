@@ -1,10 +1,23 @@
 -- What values feed a hasher is prefix-free: the byte 255 ends each part, and no part has it.
-use Rattle.std.proofs.{lemmas.Grind.common_steps, lemmas.Bool.and_parts, lemmas.Bool.and_from, lemmas.Bool.Decides.nat_tests, lemmas.List.Concat.flat_map-cons, lemmas.List.Folds.concat-append, lemmas.List.Folds.list_all-append, lemmas.Bool.cases_lt, lemmas.Str.encode_ascii}
+use Rattle.std.proofs.lemmas.Grind.{common_steps}
+use Rattle.std.proofs.lemmas.Bool.{and_parts, and_from, cases_lt}
+use Rattle.std.proofs.lemmas.Bool.Decides.{nat_tests}
+use Rattle.std.proofs.lemmas.List.Concat.{flat_map-cons}
+use Rattle.std.proofs.lemmas.List.Folds.{concat-append, list_all-append}
+use Rattle.std.proofs.lemmas.Str.{encode_ascii}
 use Rattle.std.proofs.Common.{◌≡◌, ℕ, List, [], ◌∷◌, ◌++◌, refl, sym, ap, ◌∙◌, arith, true, subst, append-nil, append_assoc, ⊎_elim, rules}
-use Rattle.mime.specs.{Inner.HashInput.pair_input, Inner.HashInput.media_input, Bytes.is_token_byte, Bytes.slash_byte, Grammar.Parameter, Grammar.plain, Grammar.quoted, Grammar.Parameters, Grammar.blank, Grammar.final, Grammar.more, Grammar.no_list, Grammar.listed, Grammar.AreTokenBytes, Grammar.IsParameter, Grammar.AreParameters, Grammar.IsTail, Grammar.text_of_parameter, Grammar.text_of_list, Grammar.text_of_tail, Values.MediaType, Values.lowered, Values.lowered_parameter, Values.lowered_list, Values.lowered_tail, Values.pair_of, Values.pairs_of_list, Values.pairs_of_tail, HashLaws.IsReadInUtf8, HashLaws.IsPrefixFree}
+use Rattle.mime.specs.Inner.HashInput.{pair_input, media_input}
+use Rattle.mime.specs.Bytes.{is_token_byte, slash_byte}
+use Rattle.mime.specs.Grammar.{Parameter, plain, quoted, Parameters, blank, final, more, no_list, listed, AreTokenBytes, IsParameter}
+use Rattle.mime.specs.Grammar.{AreParameters, IsTail, text_of_parameter, text_of_list, text_of_tail}
+use Rattle.mime.specs.Values.{MediaType, lowered, lowered_parameter, lowered_list, lowered_tail, pair_of, pairs_of_list, pairs_of_tail}
+use Rattle.mime.specs.HashLaws.{IsReadInUtf8, IsPrefixFree}
 use Rattle.std.specs.Prelude.{IsUtf8}
 use Rattle.std.specs.List.{list_all, flat_map, concat, AllByRecursion}
-use Rattle.mime.proofs.{BytesLemmas.list_all-parts, BytesLemmas.list_all-wider, BytesLemmas.is_other, BytesLemmas.AreTokenBytes-from_token, BytesLemmas.are_other-token, LowercaseLemmas.IsToken-lowered, LowercaseLemmas.list_all-lowered, LowercaseLemmas.lowered_value-either, ValueLemmas.ListText.ended, ValueLemmas.ListText.before_byte-run, ValueLemmas.ListText.after_byte-run, ValueLemmas.Utf8.high_bytes}
+use Rattle.mime.proofs.BytesLemmas.{list_all-parts, list_all-wider, is_other, AreTokenBytes-from_token, are_other-token}
+use Rattle.mime.proofs.LowercaseLemmas.{IsToken-lowered, list_all-lowered, lowered_value-either}
+use Rattle.mime.proofs.ValueLemmas.ListText.{ended, before_byte-run, after_byte-run}
+use Rattle.mime.proofs.ValueLemmas.Utf8.{high_bytes}
 use Rattle.mime_search.specs.Rests.{before_byte, after_byte}
 use lib.Utf8.{scalars, scalar, encodes, encode}
 

@@ -1,9 +1,23 @@
 -- The kept text of an accepted text, and the value of a kept text.
-use Rattle.std.proofs.Common.{◌≡◌, ◌≢◌, ℕ, zero, suc, ◌+◌, List, ◌∷◌, ◌++◌, length, take, drop, Option, None, Some, refl, sym, ap, ◌∙◌, subst, arith, append-nil, append_assoc, length-append, rules}
+use Rattle.std.proofs.Common.{◌≡◌, ◌≢◌, ℕ, zero, suc, ◌+◌, List, ◌∷◌, ◌++◌, length, take, drop, Option, None, Some, refl, sym, ap, ◌∙◌}
+use Rattle.std.proofs.Common.{subst, arith, append-nil, append_assoc, length-append, rules}
 use Rattle.std.specs.Prelude.{slice_get}
-use Rattle.std.proofs.{lemmas.List.take_at, lemmas.List.drop_at, lemmas.List.take_all, lemmas.List.take-append-drop, lemmas.Grind.common_steps}
-use Rattle.mime.specs.{Bytes.slash_byte, Bytes.semicolon_byte, Grammar.Parameters, Grammar.blank, Grammar.final, Grammar.more, Grammar.Tail, Grammar.no_list, Grammar.listed, Grammar.SyntaxTree, Grammar.text_of, Grammar.text_of_tail, Grammar.text_of_list, Grammar.AreParameters, Grammar.IsTail, Grammar.IsWellFormed, Values.MediaType, Values.Reads, Values.value_of, Values.essence_of, Values.kept_text, Values.lowered, Values.lowered_tree, Values.last_plus, Values.pairs_of_list, Values.pairs_of_tail, Inner.Pairs.pairs_within, Inner.Pairs.lowered_within, Inner.Scanning.HasPositions, Inner.Scanning.positions_of, Inner.Scanning.semicolon_of, Inner.Scanning.before_list, Inner.KeptText.media_of, Inner.KeptText.IsKept, Inner.KeptText.with_pairs_lowered, Inner.KeptText.kept_text_of, Inner.KeptText.kept_positions, declared.scan.Positions.Positions}
-use Rattle.mime.proofs.{BytesLemmas.slice_get-prefix, LowercaseLemmas.lowered-append, LowercaseLemmas.lowered_tree-lowered_tree, LowercaseLemmas.IsWellFormed-lowered_tree, LowercaseLemmas.positions_of-lowered_tree, ValueLemmas.Utf8.IsLoweredInPart, ValueLemmas.Utf8.length-in_part, ValueLemmas.Utf8.lowercase, ValueLemmas.Utf8.in_parts, ValueLemmas.Pairs.lowered_within-in_part, ValueLemmas.ListText.pairs_within-text_of_list, ValueLemmas.ListText.lowered_within-text_of_list}
+use Rattle.std.proofs.lemmas.List.{take_at, drop_at, take_all, take-append-drop}
+use Rattle.std.proofs.lemmas.Grind.{common_steps}
+use Rattle.mime.specs.Bytes.{slash_byte, semicolon_byte}
+use Rattle.mime.specs.Grammar.{Parameters, blank, final, more, Tail, no_list, listed, SyntaxTree, text_of, text_of_tail, text_of_list}
+use Rattle.mime.specs.Grammar.{AreParameters, IsTail, IsWellFormed}
+use Rattle.mime.specs.Values.{MediaType, Reads, value_of, essence_of, kept_text, lowered, lowered_tree, last_plus, pairs_of_list}
+use Rattle.mime.specs.Values.{pairs_of_tail}
+use Rattle.mime.specs.Inner.Pairs.{pairs_within, lowered_within}
+use Rattle.mime.specs.Inner.Scanning.{HasPositions, positions_of, semicolon_of, before_list}
+use Rattle.mime.specs.Inner.KeptText.{media_of, IsKept, with_pairs_lowered, kept_text_of, kept_positions}
+use Rattle.mime.specs.declared.scan.Positions.{Positions}
+use Rattle.mime.proofs.BytesLemmas.{slice_get-prefix}
+use Rattle.mime.proofs.LowercaseLemmas.{lowered-append, lowered_tree-lowered_tree, IsWellFormed-lowered_tree, positions_of-lowered_tree}
+use Rattle.mime.proofs.ValueLemmas.Utf8.{IsLoweredInPart, length-in_part, lowercase, in_parts}
+use Rattle.mime.proofs.ValueLemmas.Pairs.{lowered_within-in_part}
+use Rattle.mime.proofs.ValueLemmas.ListText.{pairs_within-text_of_list, lowered_within-text_of_list}
 use Rattle.mime_search.proofs.IgnoringCase.{length-lowered}
 
 -- a tree by its parts

@@ -1,8 +1,13 @@
 -- The first name of a list, found by its length: no equals sign is in it, and one follows it, or the end of the list.
-use Rattle.std.proofs.Common.{⊎_elim, ◌≡◌, ◌≢◌, ℕ, suc, ◌<◌, ◌≤◌, true, false, List, [], ◌∷◌, length, get_or, refl, sym, ap, ◌∙◌, arith, take, subst, rules}
+use Rattle.std.proofs.Common.{⊎_elim, ◌≡◌, ◌≢◌, ℕ, suc, ◌<◌, ◌≤◌, true, false, List, [], ◌∷◌, length, get_or, refl, sym, ap, ◌∙◌, arith}
+use Rattle.std.proofs.Common.{take, subst, rules}
 use Rattle.std.specs.Prelude.{◌==◌, not}
 use Rattle.std.specs.Char.{to_ascii_lowercase}
-use Rattle.std.proofs.{lemmas.Bool.Decides.nat_tests, lemmas.List.Sums.prefix_len_passes, lemmas.List.Sums.prefix_len_stops, lemmas.List.Folds.length-prefix_len, lemmas.List.Folds.list_any_at, lemmas.List.get_or-take, lemmas.List.length-take, lemmas.Bool.cases_Bool, lemmas.Bool.cases_lt, lemmas.Bool.eqb-true, lemmas.Bool.true≢false}
+use Rattle.std.proofs.lemmas.Bool.Decides.{nat_tests}
+use Rattle.std.proofs.lemmas.List.Sums.{prefix_len_passes, prefix_len_stops}
+use Rattle.std.proofs.lemmas.List.Folds.{length-prefix_len, list_any_at}
+use Rattle.std.proofs.lemmas.List.{get_or-take, length-take}
+use Rattle.std.proofs.lemmas.Bool.{cases_Bool, cases_lt, eqb-true, true≢false}
 use Rattle.mime.specs.{Bytes.equals_byte, Values.lowered, Inner.Pairs.without_spaces, Inner.Pairs.cut_of, Inner.Pairs.has_equals}
 use Rattle.mime_search.specs.Rests.{first_position, before_byte}
 use Rattle.mime.proofs.{LowercaseLemmas.length-lowered, ValueLemmas.Pairs.cut_of-name}

@@ -1,11 +1,27 @@
 -- The pairs cut from the text of a well-formed parameter list are its pairs, and lowercasing them lowercases the list.
-use Rattle.std.proofs.{lemmas.Grind.common_steps, lemmas.Bool.and_parts, lemmas.Bool.cond-true, lemmas.Bool.cond-false, lemmas.Bool.Decides.nat_tests, lemmas.List.take_at, lemmas.List.drop_at, lemmas.List.drop-drop, lemmas.List.take-append-drop}
-use Rattle.std.proofs.Common.{rules, ◌≡◌, ℕ, zero, suc, ◌+◌, ◌-◌, Bool, true, false, List, [], ◌∷◌, ◌++◌, length, take, drop, refl, sym, ap, ◌∙◌, subst, arith, append-nil, append_assoc}
+use Rattle.std.proofs.lemmas.Grind.{common_steps}
+use Rattle.std.proofs.lemmas.Bool.{and_parts, cond-true, cond-false}
+use Rattle.std.proofs.lemmas.Bool.Decides.{nat_tests}
+use Rattle.std.proofs.lemmas.List.{take_at, drop_at, drop-drop, take-append-drop}
+use Rattle.std.proofs.Common.{rules, ◌≡◌, ℕ, zero, suc, ◌+◌, ◌-◌, Bool, true, false, List, [], ◌∷◌, ◌++◌, length, take, drop, refl, sym, ap}
+use Rattle.std.proofs.Common.{◌∙◌, subst, arith, append-nil, append_assoc}
 use Rattle.std.specs.Prelude.{◌==◌}
 use Rattle.std.specs.{List.list_all, List.prefix_len, Char.to_ascii_lowercase}
-use Rattle.mime.specs.{Bytes.is_token_byte, Bytes.semicolon_byte, Bytes.equals_byte, Bytes.quote_byte, Grammar.Parameter, Grammar.plain, Grammar.quoted, Grammar.Parameters, Grammar.blank, Grammar.final, Grammar.more, Grammar.text_of_list, Grammar.text_of_parameter, Grammar.is_space, Grammar.AreSpaces, Grammar.AreTokenBytes, Grammar.IsToken, Grammar.IsContent, Grammar.AreParameters, Grammar.IsParameter, Values.lowered, Values.lowered_value, Values.is_charset, Values.lowered_parameter, Values.lowered_list, Values.pair_of, Values.pairs_of_list, Inner.Quoted.content_len, Inner.Quoted.content_of, Inner.Quoted.after_content, Inner.Pairs.PairCut, Inner.Pairs.cut_after_equals, Inner.Pairs.leading_spaces, Inner.Pairs.without_spaces, Inner.Pairs.cut_of, Inner.Pairs.last_cut, Inner.Pairs.pairs_within, Inner.Pairs.lowered_within, Inner.ComparedText.IsLoneCharset, Inner.KeptText.with_pairs_lowered}
+use Rattle.mime.specs.Bytes.{is_token_byte, semicolon_byte, equals_byte, quote_byte}
+use Rattle.mime.specs.Grammar.{Parameter, plain, quoted, Parameters, blank, final, more, text_of_list, text_of_parameter, is_space}
+use Rattle.mime.specs.Grammar.{AreSpaces, AreTokenBytes, IsToken, IsContent, AreParameters, IsParameter}
+use Rattle.mime.specs.Values.{lowered, lowered_value, is_charset, lowered_parameter, lowered_list, pair_of, pairs_of_list}
+use Rattle.mime.specs.Inner.Quoted.{content_len, content_of, after_content}
+use Rattle.mime.specs.Inner.Pairs.{PairCut, cut_after_equals, leading_spaces, without_spaces, cut_of, last_cut, pairs_within}
+use Rattle.mime.specs.Inner.Pairs.{lowered_within}
+use Rattle.mime.specs.Inner.ComparedText.{IsLoneCharset}
+use Rattle.mime.specs.Inner.KeptText.{with_pairs_lowered}
 use Rattle.mime_search.specs.Rests.{before_byte, after_byte}
-use Rattle.mime.proofs.{GrammarLemmas.Content.content-taken, GrammarLemmas.Content.content-awaits, ValueLemmas.Pairs.len_from-run, ValueLemmas.Pairs.last_cut-lies, ValueLemmas.Pairs.cut_of-name, ValueLemmas.Pairs.lowered_within-first, BytesLemmas.semicolon_is_no_token, BytesLemmas.quote_is_no_token, BytesLemmas.token_byte-not_space, BytesLemmas.is_other, BytesLemmas.are_other-token, BytesLemmas.are_other, BytesLemmas.AreTokenBytes-from_token, LowercaseLemmas.lowered-append}
+use Rattle.mime.proofs.GrammarLemmas.Content.{content-taken, content-awaits}
+use Rattle.mime.proofs.ValueLemmas.Pairs.{len_from-run, last_cut-lies, cut_of-name, lowered_within-first}
+use Rattle.mime.proofs.BytesLemmas.{semicolon_is_no_token, quote_is_no_token, token_byte-not_space, is_other, are_other-token, are_other}
+use Rattle.mime.proofs.BytesLemmas.{AreTokenBytes-from_token}
+use Rattle.mime.proofs.LowercaseLemmas.{lowered-append}
 
 -- what may follow a run: nothing, or the byte and the rest
 pub data IsFollow (byte : ℕ) : List ℕ → List ℕ → Type 0 where

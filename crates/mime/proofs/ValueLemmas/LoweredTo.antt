@@ -1,8 +1,14 @@
 -- A text lowercased from its start on, range by range and pair by pair.
-use Rattle.std.proofs.{lemmas.Grind.common_steps, lemmas.List.take_at, lemmas.List.drop_at, lemmas.List.drop-drop, lemmas.List.drop_all, lemmas.List.take-append-drop, lemmas.List.take_rest, lemmas.List.length-take-le, lemmas.List.take-take, Math.Seq.take-add}
-use Rattle.std.proofs.Common.{◌≡◌, ℕ, suc, ◌+◌, ◌-◌, ◌<◌, ◌≤◌, Bool, true, false, cond, List, [], ◌++◌, length, drop, refl, sym, ap, ◌∙◌, arith, append-nil, append_assoc, length-append, take, slice_range, length-drop, rules}
-use Rattle.mime.specs.{Values.lowered, Values.is_charset, Inner.KeptText.with_pairs_lowered, Inner.Pairs.PairCut, Inner.Pairs.cut_before, Inner.Pairs.lowered_within}
-use Rattle.mime.proofs.{ValueLemmas.Pairs.lowered_within-first, ValueLemmas.Pairs.LiesIn, ValueLemmas.Pairs.cut_before-lies, ValueLemmas.Pairs.first_lowered, LowercaseLemmas.lowered-append, LowercaseLemmas.lowered-lowered}
+use Rattle.std.proofs.lemmas.Grind.{common_steps}
+use Rattle.std.proofs.lemmas.List.{take_at, drop_at, drop-drop, drop_all, take-append-drop, take_rest, length-take-le, take-take}
+use Rattle.std.proofs.Math.Seq.{take-add}
+use Rattle.std.proofs.Common.{◌≡◌, ℕ, suc, ◌+◌, ◌-◌, ◌<◌, ◌≤◌, Bool, true, false, cond, List, [], ◌++◌, length, drop, refl, sym, ap, ◌∙◌}
+use Rattle.std.proofs.Common.{arith, append-nil, append_assoc, length-append, take, slice_range, length-drop, rules}
+use Rattle.mime.specs.Values.{lowered, is_charset}
+use Rattle.mime.specs.Inner.KeptText.{with_pairs_lowered}
+use Rattle.mime.specs.Inner.Pairs.{PairCut, cut_before, lowered_within}
+use Rattle.mime.proofs.ValueLemmas.Pairs.{lowered_within-first, LiesIn, cut_before-lies, first_lowered}
+use Rattle.mime.proofs.LowercaseLemmas.{lowered-append, lowered-lowered}
 use Rattle.mime_search.proofs.IgnoringCase.{length-lowered, lowered-take, lowered-drop}
 use borrow.Rule.Slice.PartMut.{put_mid}
 

@@ -1,11 +1,25 @@
 -- What a cut of a list is, and where its quoted content ends.
-use Rattle.std.proofs.{lemmas.Grind.common_steps, lemmas.Str.IsCharBoundary-start, lemmas.Str.IsCharBoundary-after_ascii, lemmas.Bool.Decides.nat_tests, lemmas.List.Sums.prefix_len_passes, lemmas.List.Sums.prefix_len-le-length, lemmas.List.take_at, lemmas.List.drop_at, lemmas.List.drop-drop, lemmas.List.take-append-drop, lemmas.Bool.and_parts, lemmas.Bool.cases_Bool, lemmas.Bool.cond-false, lemmas.Bool.eqb-true, lemmas.Bool.true≢false, lemmas.Bool.cond_both}
-use Rattle.std.proofs.Common.{⊎_elim, ◌≡◌, ◌≢◌, ℕ, zero, suc, ◌+◌, ◌<◌, ◌≤◌, Bool, true, false, List, [], ◌∷◌, ◌++◌, length, get_or, drop, refl, sym, ap, ◌∙◌, arith, ◌-◌, take, subst, append-nil, append_assoc, length-append, rules}
+use Rattle.std.proofs.lemmas.Grind.{common_steps}
+use Rattle.std.proofs.lemmas.Str.{IsCharBoundary-start, IsCharBoundary-after_ascii}
+use Rattle.std.proofs.lemmas.Bool.Decides.{nat_tests}
+use Rattle.std.proofs.lemmas.List.Sums.{prefix_len_passes, prefix_len-le-length}
+use Rattle.std.proofs.lemmas.List.{take_at, drop_at, drop-drop, take-append-drop}
+use Rattle.std.proofs.lemmas.Bool.{and_parts, cases_Bool, cond-false, eqb-true, true≢false, cond_both}
+use Rattle.std.proofs.Common.{⊎_elim, ◌≡◌, ◌≢◌, ℕ, zero, suc, ◌+◌, ◌<◌, ◌≤◌, Bool, true, false, List, [], ◌∷◌, ◌++◌, length, get_or, drop}
+use Rattle.std.proofs.Common.{refl, sym, ap, ◌∙◌, arith, ◌-◌, take, subst, append-nil, append_assoc, length-append, rules}
 use Rattle.std.specs.Prelude.{IsTrue, ◌==◌, ◌&&◌, not, Option}
 use Rattle.std.specs.{List.position_or_len, Str.IsUtf8, Str.IsCharBoundary}
-use Rattle.mime.specs.{Bytes.quote_byte, Bytes.backslash_byte, Bytes.equals_byte, Grammar.is_space, Inner.Quoted.awaits_next, Inner.Quoted.takes, Inner.Quoted.takes_all, Inner.Quoted.awaits_after, Inner.Quoted.len_from, Inner.Quoted.content_len, Values.lowered, Values.lowered_value, Inner.Pairs.PairCut, Inner.Pairs.cut_after_equals, Inner.Pairs.leading_spaces, Inner.Pairs.without_spaces, Inner.Pairs.cut_of, Inner.Pairs.last_cut, Inner.Pairs.cut_before, Inner.Pairs.pairs_within, Inner.Pairs.lowered_first, Inner.Pairs.lowered_within, Items.items_of, Items.IsFirstAccepted}
+use Rattle.mime.specs.Bytes.{quote_byte, backslash_byte, equals_byte}
+use Rattle.mime.specs.Grammar.{is_space}
+use Rattle.mime.specs.Inner.Quoted.{awaits_next, takes, takes_all, awaits_after, len_from, content_len}
+use Rattle.mime.specs.Values.{lowered, lowered_value}
+use Rattle.mime.specs.Inner.Pairs.{PairCut, cut_after_equals, leading_spaces, without_spaces, cut_of, last_cut, cut_before, pairs_within}
+use Rattle.mime.specs.Inner.Pairs.{lowered_first, lowered_within}
+use Rattle.mime.specs.Items.{items_of, IsFirstAccepted}
 use Rattle.mime_search.specs.Rests.{first_position, before_byte, after_byte}
-use Rattle.mime.proofs.{GrammarLemmas.Content.taken-closes_not, LowercaseLemmas.lowered_value-either, ValueLemmas.Utf8.IsLoweredInPart, ValueLemmas.Utf8.same, ValueLemmas.Utf8.lowercase, ValueLemmas.Utf8.in_parts}
+use Rattle.mime.proofs.GrammarLemmas.Content.{taken-closes_not}
+use Rattle.mime.proofs.LowercaseLemmas.{lowered_value-either}
+use Rattle.mime.proofs.ValueLemmas.Utf8.{IsLoweredInPart, same, lowercase, in_parts}
 
 -- ---- the spaces with which a list begins
 

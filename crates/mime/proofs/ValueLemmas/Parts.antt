@@ -1,10 +1,25 @@
 -- The parts of a value that was read: its plus, where its essence may be cut, what is lowercase, and how many pairs it has.
-use Rattle.std.proofs.Common.{◌≡◌, ◌≢◌, ℕ, Bool, suc, ◌+◌, ◌-◌, ◌<◌, List, map, [], ◌∷◌, ◌++◌, length, drop, Option, Some, None, refl, sym, ap, ◌∙◌, subst, arith, ⊎_elim, zero, ◌≤◌, true, lit<, rules}
+use Rattle.std.proofs.Common.{◌≡◌, ◌≢◌, ℕ, Bool, suc, ◌+◌, ◌-◌, ◌<◌, List, map, [], ◌∷◌, ◌++◌, length, drop, Option, Some, None, refl, sym}
+use Rattle.std.proofs.Common.{ap, ◌∙◌, subst, arith, ⊎_elim, zero, ◌≤◌, true, lit<, rules}
 use Rattle.std.specs.Prelude.{slice_get, MatchOption, if◌then◌else◌, ◌==◌, unwrap_or, IsUtf8, codes}
 use Rattle.std.specs.{Option.option_or, List.AllByRecursion, Str.IsCharBoundary, Str.bytes_eq}
-use Rattle.std.proofs.{lemmas.Bool.cond_both, lemmas.Bool.cases_lt, lemmas.Bool.eqb-true, lemmas.Bool.eqb-false, lemmas.Option.same_Some, lemmas.Option.none-some, lemmas.Option.slice_get_within, lemmas.Option.get_or_from_slice_get, lemmas.Option.MatchOption-at_some, lemmas.Str.IsCharBoundary-end, lemmas.Str.IsCharBoundary-before_ascii}
-use Rattle.mime.specs.{Bytes.slash_byte, Bytes.plus_byte, Bytes.equals_byte, Values.lowered, Values.last_plus, Values.MediaType, Values.Reads, Laws.HasNoPlusFrom, Laws.PlusIsLast, Inner.Pairs.PairCut, Inner.Pairs.cut_of, Inner.Pairs.cut_after_equals, Inner.Pairs.without_spaces, Inner.Pairs.pairs_within, Items.items_of, Items.IsLowItem, Items.IsLowIf, Items.IsFirstAccepted, Inner.KeptText.lowered_pair, Inner.KeptText.AreLowPairs, Inner.KeptText.media_of, Inner.KeptText.IsKept, Comparison.Same, declared.scan.Positions.Positions}
-use Rattle.mime.proofs.{BytesLemmas.slice_get-after, BytesLemmas.slice_get-prefix, BytesLemmas.boundary_after, LowercaseLemmas.lowered-lowered, LowercaseLemmas.lowered-append, LowercaseLemmas.lowered_value-lowered, LowercaseLemmas.low_pair-parts, LowercaseLemmas.length-tail_lowered, LowercaseLemmas.pairs_of_tail-lowered, ValueLemmas.KeptText.media_of-kept, ValueLemmas.KeptText.reads-from_kept, ValueLemmas.Pairs.pairs_within-first, ValueLemmas.Pairs.cut_of-part, ValueLemmas.Pairs.cut_of-name, GrammarLemmas.Readings.one_reading}
+use Rattle.std.proofs.lemmas.Bool.{cond_both, cases_lt, eqb-true, eqb-false}
+use Rattle.std.proofs.lemmas.Option.{same_Some, none-some, slice_get_within, get_or_from_slice_get, MatchOption-at_some}
+use Rattle.std.proofs.lemmas.Str.{IsCharBoundary-end, IsCharBoundary-before_ascii}
+use Rattle.mime.specs.Bytes.{slash_byte, plus_byte, equals_byte}
+use Rattle.mime.specs.Values.{lowered, last_plus, MediaType, Reads}
+use Rattle.mime.specs.Laws.{HasNoPlusFrom, PlusIsLast}
+use Rattle.mime.specs.Inner.Pairs.{PairCut, cut_of, cut_after_equals, without_spaces, pairs_within}
+use Rattle.mime.specs.Items.{items_of, IsLowItem, IsLowIf, IsFirstAccepted}
+use Rattle.mime.specs.Inner.KeptText.{lowered_pair, AreLowPairs, media_of, IsKept}
+use Rattle.mime.specs.Comparison.{Same}
+use Rattle.mime.specs.declared.scan.Positions.{Positions}
+use Rattle.mime.proofs.BytesLemmas.{slice_get-after, slice_get-prefix, boundary_after}
+use Rattle.mime.proofs.LowercaseLemmas.{lowered-lowered, lowered-append, lowered_value-lowered, low_pair-parts, length-tail_lowered}
+use Rattle.mime.proofs.LowercaseLemmas.{pairs_of_tail-lowered}
+use Rattle.mime.proofs.ValueLemmas.KeptText.{media_of-kept, reads-from_kept}
+use Rattle.mime.proofs.ValueLemmas.Pairs.{pairs_within-first, cut_of-part, cut_of-name}
+use Rattle.mime.proofs.GrammarLemmas.Readings.{one_reading}
 use Rattle.mime_search.proofs.IgnoringCase.{length-lowered, lowered-drop}
 use Rattle.mime_search.specs.Rests.{before_byte, after_byte}
 

@@ -2,8 +2,16 @@
 -- exactly if it has a pair. And a text that is read as a value with a parameter has its parts where that value has them.
 use Rattle.std.proofs.Common.{◌≡◌, ℕ, List, [], ◌∷◌, length, Some, refl, ap, sym, ◌∙◌, subst, arith, rules}
 use Rattle.std.specs.Prelude.{◌≢◌}
-use Rattle.mime.specs.{Grammar.Tail, Grammar.no_list, Grammar.listed, Grammar.text_of, Values.MediaType, Values.Reads, Values.kept_text, Values.lowered_tree, Values.pairs_of_tail, Inner.Scanning.positions_of, Inner.KeptText.IsKept, Inner.KeptText.media_of, Inner.KeptText.kept_semicolon, Inner.ComparedText.positions_before_list, declared.scan.Positions.Positions}
-use Rattle.mime.proofs.{LowercaseLemmas.positions_of-lowered_tree, LowercaseLemmas.IsWellFormed-lowered_tree, GrammarLemmas.Readings.one_tree, ValueLemmas.KeptText.value_of_low, ValueLemmas.KeptText.reads-from_kept, ValueLemmas.Parts.plus_in, ValueLemmas.KeptText.value_of-lowering, ValueLemmas.KeptText.length-essence_of}
+use Rattle.mime.specs.Grammar.{Tail, no_list, listed, text_of}
+use Rattle.mime.specs.Values.{MediaType, Reads, kept_text, lowered_tree, pairs_of_tail}
+use Rattle.mime.specs.Inner.Scanning.{positions_of}
+use Rattle.mime.specs.Inner.KeptText.{IsKept, media_of, kept_semicolon}
+use Rattle.mime.specs.Inner.ComparedText.{positions_before_list}
+use Rattle.mime.specs.declared.scan.Positions.{Positions}
+use Rattle.mime.proofs.LowercaseLemmas.{positions_of-lowered_tree, IsWellFormed-lowered_tree}
+use Rattle.mime.proofs.GrammarLemmas.Readings.{one_tree}
+use Rattle.mime.proofs.ValueLemmas.KeptText.{value_of_low, reads-from_kept, value_of-lowering, length-essence_of}
+use Rattle.mime.proofs.ValueLemmas.Parts.{plus_in}
 
 -- The plus of a kept text isn't at position 0.
 pub plus-not_zero : (text : List ℕ) (positions : Positions) → IsKept text positions → positions.plus ≢ Some 0

@@ -1,8 +1,22 @@
 -- What reading a text answers, and that the constant media types are stored with their positions.
 use Rattle.std.proofs.Common.{◌≡◌, ℕ, List, [], ◌∷◌, refl, sym, ap, ◌∙◌, ◌+◌, length, take, drop, Option, Some, None, codes, rules}
 use Rattle.std.specs.Prelude.{codes, unwrap_or}
-use Rattle.mime.specs.{Bytes.is_token_byte, Bytes.space_byte, Grammar.SyntaxTree, Grammar.no_list, Grammar.plain, Grammar.final, Grammar.Tail, Grammar.listed, Grammar.text_of, Grammar.IsToken, Grammar.IsTail, Values.value_of, Values.IsAccepted, Values.IsRejected, Values.lowered_tree, Faults.IsFault, Faults.Explains, Inner.Scanning.HasPositions, Inner.Scanning.positions_of, Inner.KeptText.IsKept, Inner.KeptText.kept_positions, Inner.KeptText.positions_in, declared.scan.fault.ParseError.ParseError, declared.scan.fault.ParseError.TheVariants.InvalidToken, declared.scan.Positions.Positions, Atoms.atom_text, declared.atoms.Atom.Atom, declared.atoms.Atom.TheVariants.STAR_STAR}
-use Rattle.mime.proofs.{GrammarLemmas.Readings.one_tree, ValueLemmas.KeptText.reads_as, GrammarLemmas.Viability.rejected-at_dead, GrammarLemmas.Faults.completed_is_rejected}
+use Rattle.mime.specs.Bytes.{is_token_byte, space_byte}
+use Rattle.mime.specs.Grammar.{SyntaxTree, no_list, plain, final, Tail, listed, text_of, IsToken, IsTail}
+use Rattle.mime.specs.Values.{value_of, IsAccepted, IsRejected, lowered_tree}
+use Rattle.mime.specs.Faults.{IsFault, Explains}
+use Rattle.mime.specs.Inner.Scanning.{HasPositions, positions_of}
+use Rattle.mime.specs.Inner.KeptText.{IsKept, kept_positions, positions_in}
+use Rattle.mime.specs.declared.scan.fault.ParseError.{ParseError}
+use Rattle.mime.specs.declared.scan.fault.ParseError.TheVariants.{InvalidToken}
+use Rattle.mime.specs.declared.scan.Positions.{Positions}
+use Rattle.mime.specs.Atoms.{atom_text}
+use Rattle.mime.specs.declared.atoms.Atom.{Atom}
+use Rattle.mime.specs.declared.atoms.Atom.TheVariants.{STAR_STAR}
+use Rattle.mime.proofs.GrammarLemmas.Readings.{one_tree}
+use Rattle.mime.proofs.ValueLemmas.KeptText.{reads_as}
+use Rattle.mime.proofs.GrammarLemmas.Viability.{rejected-at_dead}
+use Rattle.mime.proofs.GrammarLemmas.Faults.{completed_is_rejected}
 
 -- A text with positions of its parts is accepted.
 pub accepted-from_positions : (text : List ℕ) (positions : Positions) → HasPositions text positions → IsAccepted text

@@ -1,8 +1,21 @@
 -- The order of values, with the laws of `Before` and `Same`, and two iterators that std's `eq` compares.
-use Rattle.std.proofs.{lemmas.Grind.common_steps, lemmas.Map.Lookups.exact_bytes, lemmas.Map.Lookups.exact_pairs, lemmas.Bool.Decides.same_from_decides}
-use Rattle.std.proofs.Common.{arith, length, slice_index, take, zero, suc, ℕ, ◌≡◌, ◌<◌, ◌⊎◌, Bool, true, false, IsTrue, ◌↔◌, List, [], ◌∷◌, refl, sym, ap, ◌∙◌, subst, Option, rules}
-use Rattle.std.specs.{declared.cmp.Ordering.Ordering, declared.cmp.Ordering.TheVariants.Less, declared.cmp.Ordering.TheVariants.Equal, declared.cmp.Ordering.TheVariants.Greater, Cmp.IsTotalOrder, Cmp.tied_itself, Cmp.nat_cmp_total, FinMap.IsAntisymmetric, FinMap.nat_cmp-IsAntisymmetric, Cmp.Lexicographic.slice_cmp, Cmp.Lexicographic.nat_list_cmp_total, Ordering.MatchOrdering, Ordering.nat_cmp, Ordering.ordering_then, Ordering.is_eq, Ordering.eq_by_cmp, Ordering.ordering_reverse, Iterator.YieldsFirstBy, Iterator.YieldsThen, Iterator.ComparesItemsByEq, List.AllZip}
-use Rattle.mime.specs.{Values.MediaType, Comparison.Same, Comparison.IsListBefore, Comparison.IsTextBefore, Comparison.IsPairBefore, Comparison.Before, Comparison.pair_cmp, Comparison.media_cmp, Comparison.IsOrderOf, Laws.OneOrder, Inner.OrderLaws.same_from_cmp, Inner.OrderLaws.media_cmp_total}
+use Rattle.std.proofs.lemmas.Grind.{common_steps}
+use Rattle.std.proofs.lemmas.Map.Lookups.{exact_bytes, exact_pairs}
+use Rattle.std.proofs.lemmas.Bool.Decides.{same_from_decides}
+use Rattle.std.proofs.Common.{arith, length, slice_index, take, zero, suc, ℕ, ◌≡◌, ◌<◌, ◌⊎◌, Bool, true, false, IsTrue, ◌↔◌, List, [], ◌∷◌}
+use Rattle.std.proofs.Common.{refl, sym, ap, ◌∙◌, subst, Option, rules}
+use Rattle.std.specs.declared.cmp.Ordering.{Ordering}
+use Rattle.std.specs.declared.cmp.Ordering.TheVariants.{Less, Equal, Greater}
+use Rattle.std.specs.Cmp.{IsTotalOrder, tied_itself, nat_cmp_total}
+use Rattle.std.specs.FinMap.{IsAntisymmetric, nat_cmp-IsAntisymmetric}
+use Rattle.std.specs.Cmp.Lexicographic.{slice_cmp, nat_list_cmp_total}
+use Rattle.std.specs.Ordering.{MatchOrdering, nat_cmp, ordering_then, is_eq, eq_by_cmp, ordering_reverse}
+use Rattle.std.specs.Iterator.{YieldsFirstBy, YieldsThen, ComparesItemsByEq}
+use Rattle.std.specs.List.{AllZip}
+use Rattle.mime.specs.Values.{MediaType}
+use Rattle.mime.specs.Comparison.{Same, IsListBefore, IsTextBefore, IsPairBefore, Before, pair_cmp, media_cmp, IsOrderOf}
+use Rattle.mime.specs.Laws.{OneOrder}
+use Rattle.mime.specs.Inner.OrderLaws.{same_from_cmp, media_cmp_total}
 use Rattle.std.specs.Prelude.{MatchOption, IfSome}
 use Rattle.mime.proofs.BytesLemmas.{cons_parts}
 use Rattle.mime_search.specs.Differences.{DifferAt}

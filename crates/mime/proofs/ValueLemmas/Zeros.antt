@@ -1,7 +1,9 @@
 -- The zeros that follow a short text.
-use Rattle.std.proofs.Common.{◌≡◌, ℕ, zero, suc, ◌+◌, ◌-◌, ◌≤◌, List, ◌∷◌, ◌++◌, length, map, take, drop, replicate, refl, ap, ap₂, sym, ◌∙◌, rules}
+use Rattle.std.proofs.Common.{◌≡◌, ℕ, zero, suc, ◌+◌, ◌-◌, ◌≤◌, List, ◌∷◌, ◌++◌, length, map, take, drop, replicate, refl, ap, ap₂, sym}
+use Rattle.std.proofs.Common.{◌∙◌, rules}
 use Rattle.std.specs.Char.{to_ascii_lowercase}
-use Rattle.std.proofs.{Math.Nat.add-sub_of_le, lemmas.List.drop_at, lemmas.List.drop-replicate, lemmas.List.drop-take, lemmas.List.length-take-le, lemmas.List.take-append-drop, lemmas.List.take-replicate}
+use Rattle.std.proofs.Math.Nat.{add-sub_of_le}
+use Rattle.std.proofs.lemmas.List.{drop_at, drop-replicate, drop-take, length-take-le, take-append-drop, take-replicate}
 
 -- After a text that is copied over the first of some zeros, zeros are left.
 pub zeros-after : (text copied : List ℕ) (size : ℕ) → copied ≡ text

@@ -1,5 +1,6 @@
 -- The pairs of a parameter list's text, cut from the left.
-use Rattle.std.specs.Prelude.{ℕ, zero, suc, Bool, ◌+◌, ◌-◌, List, [], ◌∷◌, ◌++◌, length, take, drop, Option, None, Some, if◌then◌else◌, ◌==◌}
+use Rattle.std.specs.Prelude.{ℕ, zero, suc, Bool, ◌+◌, ◌-◌, List, [], ◌∷◌, ◌++◌, length, take, drop, Option, None, Some, if◌then◌else◌}
+use Rattle.std.specs.Prelude.{◌==◌}
 use Rattle.std.specs.Borrow.{Bor}
 use Rattle.std.specs.List.{prefix_len, list_any}
 use Rattle.mime_search.specs.Rests.{before_byte, after_byte}
@@ -23,8 +24,18 @@ cut_after_equals size name [] = record { name = name; value_start = size; value 
 cut_after_equals size name (b ∷ back) =
     let text = b ∷ back in
     if b == quote_byte
-    then record { name = name; value_start = size - length back; value = content_of back; rest = after_byte semicolon_byte (after_content back) }
-    else record { name = name; value_start = size - length text; value = before_byte semicolon_byte text; rest = after_byte semicolon_byte text }
+    then record {
+      name = name;
+      value_start = size - length back;
+      value = content_of back;
+      rest = after_byte semicolon_byte (after_content back);
+    }
+    else record {
+      name = name;
+      value_start = size - length text;
+      value = before_byte semicolon_byte text;
+      rest = after_byte semicolon_byte text;
+    }
 
 -- the spaces before the first name, and the list without them
 abbrev pub leading_spaces : List ℕ → ℕ

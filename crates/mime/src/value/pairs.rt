@@ -2,9 +2,11 @@
 
 ghost use Rattle.std.specs.Iterator.{YieldsFirstBy, item_count, UpTo, at_most};
 ghost use Rattle.std.specs.Iterator.SizeHint.{IsWithinCount};
-ghost use Rattle.std.specs.Prelude.{ℕ, List, ◌≡◌, ◌≢◌, ◌↔◌, ◌<◌, ◌≤◌, ◌+◌, [], true, false, IsTrue, length, take, drop, slice_get, IfSome, Some, None, option_map};
+ghost use Rattle.std.specs.Prelude.{ℕ, List, ◌≡◌, ◌≢◌, ◌↔◌, ◌<◌, ◌≤◌, ◌+◌, [], true, false, IsTrue, length, take, drop, slice_get, IfSome};
+ghost use Rattle.std.specs.Prelude.{Some, None, option_map};
 ghost use Rattle.mime_search.specs.Rests.{before_byte, after_byte, first_position};
-ghost use Rattle.mime.specs.Inner.Pairs.{cut_of, cut_before, leading_spaces, without_spaces, cut_after_equals, has_equals, pairs_after, pair_seen};
+ghost use Rattle.mime.specs.Inner.Pairs.{cut_of, cut_before, leading_spaces, without_spaces, cut_after_equals, has_equals, pairs_after};
+ghost use Rattle.mime.specs.Inner.Pairs.{pair_seen};
 ghost use Rattle.mime.specs.Bytes.{quote_byte, semicolon_byte, equals_byte};
 ghost use Rattle.mime.specs.Inner.ComparedText.{IsLoneCharset};
 ghost use Rattle.mime.specs.Inner.Quoted.{content_len, content_of, after_content};

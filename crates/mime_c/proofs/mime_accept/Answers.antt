@@ -3,8 +3,11 @@ use Rattle.std.proofs.Common.{rules, ◌≡◌, ℕ, ◌+◌, ◌<◌, ◌≤◌
 use Rattle.std.proofs.{lemmas.Bool.true≢false, lemmas.List.drop_more, lemmas.List.drop_all}
 use Rattle.mime.specs.Values.{OwnedMedia}
 use Rattle.mime_http.specs.HttpList.{Header}
-use Rattle.mime_c.specs.{Strings.strings, Answers.has_room, Answers.has_no_room, HeaderAnswers.range_texts, HeaderAnswers.ranges_texts, HeaderAnswers.are_ranges, HeaderAnswers.ranges_have_no_memory}
-use Rattle.mime_c.proofs.{Writing.leaves-holds, Writing.leaves-last, Writing.strings_of_ranges, HeaderRoom.ranges_fit, HeaderRoom.ranges_come_back}
+use Rattle.mime_c.specs.Strings.{strings}
+use Rattle.mime_c.specs.Answers.{has_room, has_no_room}
+use Rattle.mime_c.specs.HeaderAnswers.{range_texts, ranges_texts, are_ranges, ranges_have_no_memory}
+use Rattle.mime_c.proofs.Writing.{leaves-holds, leaves-last, strings_of_ranges}
+use Rattle.mime_c.proofs.HeaderRoom.{ranges_fit, ranges_come_back}
 use Rattle.mime_c.proofs.mime_accept.Goals as goal
 
 -- The strings of ranges.

@@ -1,6 +1,9 @@
 -- Each item is written after those before it, and each answer is what it says.
 use Rattle.std.proofs.Common.{◌≡◌, ◌∷◌, refl, ap, ◌∙◌, subst, rules, arith, Result, Some, Err}
-use Rattle.mime.specs.{Values.OwnedMedia, Runs.Iteration, Runs.IsNext, Runs.GivesItem, declared.iter.Bad.Bad, declared.iter.Bad.TheVariants.Piece, declared.iter.Bad.TheVariants.NoMemory}
+use Rattle.mime.specs.Values.{OwnedMedia}
+use Rattle.mime.specs.Runs.{Iteration, IsNext, GivesItem}
+use Rattle.mime.specs.declared.iter.Bad.{Bad}
+use Rattle.mime.specs.declared.iter.Bad.TheVariants.{Piece, NoMemory}
 use Rattle.mime_c.specs.declared.TheConstants.{MIME_GOOD, MIME_BAD}
 use Rattle.mime_c.proofs.Writing.{lists-fits, lists-next, lists-last, lists-no_memory}
 use Rattle.mime_c.proofs.mime_list.Goals as goal

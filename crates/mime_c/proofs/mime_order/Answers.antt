@@ -5,7 +5,9 @@ use Rattle.std.proofs.{lemmas.Bool.Decides.nat_tests, lemmas.Bool.true≢false, 
 use Rattle.mime.specs.Values.{OwnedMedia}
 use Rattle.mime_http.specs.{HttpList.Header, HttpList.IsHeader}
 use Rattle.mime_http.proofs.HandedOut.{one_header}
-use Rattle.mime_c.specs.{Strings.written, Answers.has_room, Answers.has_no_room, Answers.holds, HeaderAnswers.HaveNoEntry, HeaderAnswers.an_offer_is_bad, HeaderAnswers.offers_have_no_memory, HeaderAnswers.OrderIs, HeaderAnswers.order_is, HeaderAnswers.none_is_ordered}
+use Rattle.mime_c.specs.Strings.{written}
+use Rattle.mime_c.specs.Answers.{has_room, has_no_room, holds}
+use Rattle.mime_c.specs.HeaderAnswers.{HaveNoEntry, an_offer_is_bad, offers_have_no_memory, OrderIs, order_is, none_is_ordered}
 use Rattle.mime_c.proofs.HeaderOutcome.{of_good}
 use Rattle.mime_c.proofs.mime_order.Goals as goal
 

@@ -1,7 +1,14 @@
 -- The scanner says of the list what it says of the text, and a text has one of each position.
 use Rattle.std.proofs.Common.{◌≢◌, ℕ, ◌+◌, List, ◌∙◌, refl, sym, ap, length, drop, Some, rules}
-use Rattle.mime.specs.{Values.IsRejected, Inner.Scanning.Judges, declared.scan.Positions.Positions, declared.scan.Scanned.Scanned, declared.scan.Scanned.TheVariants.Accepted, declared.scan.Scanned.TheVariants.Unfinished, declared.scan.Scanned.TheVariants.Stopped, declared.scan.Scanned.TheVariants.Followed}
-use Rattle.mime.proofs.{BytesLemmas.boundary_after, ValueLemmas.Reading.accepted-from_positions, ValueLemmas.Reading.one_positions, ValueLemmas.Reading.rejected-from_fault, GrammarLemmas.Viability.rejected-at_dead, CompareLemmas.Essences.judged-by_list}
+use Rattle.mime.specs.Values.{IsRejected}
+use Rattle.mime.specs.Inner.Scanning.{Judges}
+use Rattle.mime.specs.declared.scan.Positions.{Positions}
+use Rattle.mime.specs.declared.scan.Scanned.{Scanned}
+use Rattle.mime.specs.declared.scan.Scanned.TheVariants.{Accepted, Unfinished, Stopped, Followed}
+use Rattle.mime.proofs.BytesLemmas.{boundary_after}
+use Rattle.mime.proofs.ValueLemmas.Reading.{accepted-from_positions, one_positions, rejected-from_fault}
+use Rattle.mime.proofs.GrammarLemmas.Viability.{rejected-at_dead}
+use Rattle.mime.proofs.CompareLemmas.Essences.{judged-by_list}
 use Rattle.mime.proofs.compare.has_list_of.Goals as goal
 
 -- A text that isn't judged to be accepted is rejected.

@@ -2,7 +2,8 @@
 use Rattle.std.proofs.Common.{◌≡◌, ℕ, ◌+◌, ◌-◌, List, [], ◌∷◌, ◌++◌, None, length, drop, ap, sym, subst, refl, ◌∙◌, arith, rules}
 use Rattle.std.proofs.lemmas.List.{drop_at}
 use Rattle.mime.specs.Inner.BetweenCalls.{ReadsPiece}
-use Rattle.mime.proofs.{CutLemmas.Pieces.separated-piece, CutLemmas.Pieces.passes-nothing, CutLemmas.Pieces.separators-boundary, CutLemmas.Pieces.separators-begins, iter.read_next_piece.Goals.In-Some}
+use Rattle.mime.proofs.CutLemmas.Pieces.{separated-piece, passes-nothing, separators-boundary, separators-begins}
+use Rattle.mime.proofs.iter.read_next_piece.Goals.{In-Some}
 use Rattle.mime.proofs.iter.read_next_piece.Goals as goal
 
 -- the separators, and what follows them

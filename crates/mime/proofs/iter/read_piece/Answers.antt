@@ -2,7 +2,10 @@
 use Rattle.std.proofs.Common.{◌∙◌, ◌-◌, ◌≤◌, ℕ, None, Some, length, take, ap, sym, subst, arith, refl}
 use Rattle.std.proofs.{lemmas.Bool.cond-false, lemmas.Option.slice_get_within}
 use Rattle.mime.specs.{Inner.Remaining.Remaining, Inner.Scanning.GivesFirst, Inner.Scanning.StopsAt}
-use Rattle.mime.proofs.{ScanLemmas.Lists.none_walked, ScanLemmas.Verdicts.scans_at, CutLemmas.Pieces.judged-from_scan, CutLemmas.Pieces.stopped-boundary, CutLemmas.Pieces.passes-whole, CutLemmas.Pieces.passes-unfinished, CutLemmas.Pieces.passes-stopped, iter.read_piece.Goals.Start, iter.read_piece.Goals.Joined-verdict, iter.read_piece.Goals.in-Stopped, iter.read_piece.Goals.in-Followed}
+use Rattle.mime.proofs.ScanLemmas.Lists.{none_walked}
+use Rattle.mime.proofs.ScanLemmas.Verdicts.{scans_at}
+use Rattle.mime.proofs.CutLemmas.Pieces.{judged-from_scan, stopped-boundary, passes-whole, passes-unfinished, passes-stopped}
+use Rattle.mime.proofs.iter.read_piece.Goals.{Start, Joined-verdict, in-Stopped, in-Followed}
 use Rattle.mime.proofs.iter.read_piece.Goals as goal
 
 -- the reader before the text's first byte

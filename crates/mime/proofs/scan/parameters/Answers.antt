@@ -2,7 +2,11 @@
 use Rattle.std.proofs.Common.{ℕ, List, ◌∷◌, [], None, Some, refl, sym, ap, ◌∙◌, arith, ne_eqb, eq-eqb}
 use Rattle.std.proofs.lemmas.Bool.{cond-false, cond-true}
 use Rattle.mime.specs.{Bytes.quote_byte, Bytes.equals_byte, Grammar.Parameter}
-use Rattle.mime.proofs.{GrammarLemmas.Begun.in_value, ScanLemmas.Passing.given_less, ScanLemmas.Verdicts.ListLeads, ScanLemmas.Verdicts.list_run, ScanLemmas.Verdicts.list_byte, ScanLemmas.Verdicts.list_scans_at, ScanLemmas.Lists.one_pair_more, ScanLemmas.Lists.spaces_walked, ScanLemmas.Lists.name_walked, ScanLemmas.Lists.quotes_walked, ScanLemmas.Lists.Valued, ScanLemmas.Lists.valued_token, ScanLemmas.Lists.valued_quotes, scan.parameters.Goals.In-Some-eq61, scan.parameters.Goals.Joined-first-eq34, scan.parameters.Goals.then-first-eq34+in-Some-eq34, scan.parameters.Goals.else-first-eq34+then-is_token}
+use Rattle.mime.proofs.GrammarLemmas.Begun.{in_value}
+use Rattle.mime.proofs.ScanLemmas.Passing.{given_less}
+use Rattle.mime.proofs.ScanLemmas.Verdicts.{ListLeads, list_run, list_byte, list_scans_at}
+use Rattle.mime.proofs.ScanLemmas.Lists.{one_pair_more, spaces_walked, name_walked, quotes_walked, Valued, valued_token, valued_quotes}
+use Rattle.mime.proofs.scan.parameters.Goals.{In-Some-eq61, Joined-first-eq34, then-first-eq34+in-Some-eq34, else-first-eq34+then-is_token}
 use Rattle.mime.proofs.scan.parameters.Goals as goal
 
 pub returns-in_default : goal.returns-in_default

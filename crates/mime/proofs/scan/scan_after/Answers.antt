@@ -1,8 +1,16 @@
 -- Each way out of the scanner, after the first byte.
 use Rattle.std.proofs.Common.{◌≡◌, ℕ, sym, ap, refl, ◌∙◌, ◌∷◌, [], length, Some, None, arith, ne_eqb, eq-eqb}
 use Rattle.std.proofs.lemmas.Bool.{and_from, cond-true, cond-false}
-use Rattle.mime.specs.{Bytes.slash_byte, Bytes.semicolon_byte, Values.last_plus, declared.scan.Positions.Positions, Inner.Remaining.Remaining, Inner.Scanning.positions_of, Inner.Scanning.before_list, Inner.Scanning.GivesFirst}
-use Rattle.mime.proofs.{GrammarLemmas.Begun.walk_from-subtype, ScanLemmas.Passing.given_then, ScanLemmas.Passing.given_whole, GrammarLemmas.Begun.in_type, GrammarLemmas.Begun.in_subtype, ScanLemmas.Verdicts.Leads, ScanLemmas.Verdicts.reaches_run, ScanLemmas.Verdicts.reaches_byte, ScanLemmas.Verdicts.scans_at, ScanLemmas.Lists.none_walked, ScanLemmas.Lists.type_walked, ScanLemmas.Lists.Subtyped, ScanLemmas.Lists.essence_is, ScanLemmas.Lists.scans_list, scan.scan_after.Goals.After-position-slash, scan.scan_after.Goals.After-subtype-plus}
+use Rattle.mime.specs.Bytes.{slash_byte, semicolon_byte}
+use Rattle.mime.specs.Values.{last_plus}
+use Rattle.mime.specs.declared.scan.Positions.{Positions}
+use Rattle.mime.specs.Inner.Remaining.{Remaining}
+use Rattle.mime.specs.Inner.Scanning.{positions_of, before_list, GivesFirst}
+use Rattle.mime.proofs.GrammarLemmas.Begun.{walk_from-subtype, in_type, in_subtype}
+use Rattle.mime.proofs.ScanLemmas.Passing.{given_then, given_whole}
+use Rattle.mime.proofs.ScanLemmas.Verdicts.{Leads, reaches_run, reaches_byte, scans_at}
+use Rattle.mime.proofs.ScanLemmas.Lists.{none_walked, type_walked, Subtyped, essence_is, scans_list}
+use Rattle.mime.proofs.scan.scan_after.Goals.{After-position-slash, After-subtype-plus}
 use Rattle.mime.proofs.scan.scan_after.Goals as goal
 
 pub returns-then-not-is_token : goal.returns-then-not-is_token

@@ -4,7 +4,8 @@ use Rattle.std.specs.Prelude.{◌==◌}
 use Rattle.std.specs.Option.{option_eq, option_to_list}
 use Rattle.std.proofs.lemmas.Bool.{cond-true, cond-false}
 use Rattle.mime.specs.{Bytes.plus_byte, Inner.ByteClasses.is_token_except_plus, Inner.Scanning.Passes}
-use Rattle.mime.proofs.{ScanLemmas.Passing.reaches_then, ScanLemmas.Passing.stopped_by, ScanLemmas.Pluses.passing_plus, ScanLemmas.Pluses.last_plus-run_after, ScanLemmas.Pluses.subtype_at}
+use Rattle.mime.proofs.ScanLemmas.Passing.{reaches_then, stopped_by}
+use Rattle.mime.proofs.ScanLemmas.Pluses.{passing_plus, last_plus-run_after, subtype_at}
 use Rattle.mime.proofs.scan.subtype.Goals as goal
 
 pub loop-stop-init : goal.loop-stop-init

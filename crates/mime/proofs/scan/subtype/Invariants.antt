@@ -2,7 +2,11 @@
 use Rattle.std.proofs.Common.{◌≡◌, ◌+◌, ◌-◌, length, Some, None}
 use Rattle.std.specs.Prelude.{if◌then◌else◌, ◌==◌}
 use Rattle.std.specs.Option.{option_to_list}
-use Rattle.mime.specs.{Bytes.is_token_byte, Inner.Remaining.Remaining, Inner.ByteClasses.is_token_except_plus, Inner.Scanning.Passes, Inner.Scanning.Passing, Values.last_plus}
+use Rattle.mime.specs.Bytes.{is_token_byte}
+use Rattle.mime.specs.Inner.Remaining.{Remaining}
+use Rattle.mime.specs.Inner.ByteClasses.{is_token_except_plus}
+use Rattle.mime.specs.Inner.Scanning.{Passes, Passing}
+use Rattle.mime.specs.Values.{last_plus}
 use Rattle.mime.proofs.scan.subtype.Given as goal
 
 abbrev pub invariant-loop-stop : goal.invariant-loop-stop

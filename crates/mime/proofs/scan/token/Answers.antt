@@ -1,7 +1,9 @@
 -- The bytes so far, those up to a stop that is known or found by a call, and the stop, if it is of the class.
 use Rattle.std.proofs.Common.{sym, ◌∙◌, rules}
 use Rattle.mime.specs.Inner.ByteClasses.{token_bytes}
-use Rattle.mime.proofs.{ScanLemmas.Passing.passing_more, ScanLemmas.Passing.passing_none, ScanLemmas.Passing.passing_with, ScanLemmas.Passing.passes_to, ScanLemmas.Passing.reaches_wider, ScanLemmas.Pluses.token_bytes-wider, scan.token.Goals.in-Some+else-not-is_in_token, scan.token.Goals.in_default}
+use Rattle.mime.proofs.ScanLemmas.Passing.{passing_more, passing_none, passing_with, passes_to, reaches_wider}
+use Rattle.mime.proofs.ScanLemmas.Pluses.{token_bytes-wider}
+use Rattle.mime.proofs.scan.token.Goals.{in-Some+else-not-is_in_token, in_default}
 use Rattle.mime.proofs.scan.token.Goals as goal
 
 pub returns-then-not-is_in_token : goal.returns-then-not-is_in_token

@@ -2,7 +2,8 @@
 use Rattle.std.proofs.Common.{rules, arith, sym, subst}
 use Rattle.std.specs.Vec.{vec_items}
 use Rattle.mime_http.specs.Boundary.{IsBoundaryOf}
-use Rattle.mime_c.specs.{Answers.has_room, Answers.has_no_room, Answers.is_read, Answers.fails, ParameterAnswers.boundary_is, ParameterAnswers.has_no_boundary, ParameterAnswers.boundary_has_no_memory}
+use Rattle.mime_c.specs.Answers.{has_room, has_no_room, is_read, fails}
+use Rattle.mime_c.specs.ParameterAnswers.{boundary_is, has_no_boundary, boundary_has_no_memory}
 use Rattle.mime_c.proofs.ParameterRoom.{boundary_comes_back}
 use Rattle.mime_c.proofs.parameter.mime_boundary.Goals as goal
 

@@ -2,7 +2,9 @@
 use Rattle.std.proofs.Common.{rules, is_some, ◌≡◌, ◌∙◌, ℕ, List, [], ◌∷◌, ap, sym, subst, arith}
 use Rattle.std.proofs.lemmas.Bool.{true≢false}
 use Rattle.mime.specs.{Grammar.IsToken, HeaderLaws.AreHeaderBytes, Values.MediaType, Values.Reads}
-use Rattle.mime_c.specs.{Strings.ComeBack, Answers.has_room, Answers.has_no_room, Answers.is_read, Answers.fails, ParameterAnswers.IsParameter, ParameterAnswers.with_parameter, ParameterAnswers.is_set, ParameterAnswers.isnt_parameter, ParameterAnswers.set_has_no_memory}
+use Rattle.mime_c.specs.Strings.{ComeBack}
+use Rattle.mime_c.specs.Answers.{has_room, has_no_room, is_read, fails}
+use Rattle.mime_c.specs.ParameterAnswers.{IsParameter, with_parameter, is_set, isnt_parameter, set_has_no_memory}
 use Rattle.mime_c.proofs.ParameterRoom.{set_fits, set_comes_back}
 use Rattle.mime_c.proofs.parameter.mime_set_parameter.Goals as goal
 

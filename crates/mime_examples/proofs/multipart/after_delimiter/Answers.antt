@@ -1,7 +1,12 @@
 -- What was stripped stands at the position, if a line begins there.
-use Rattle.std.proofs.Common.{◌≡◌, ◌≢◌, ◌∙◌, ◌-◌, ◌<◌, ◌≤◌, ◌++◌, [], ℕ, List, Bor, Option, Some, None, take, drop, length, get_or, sym, refl, arith}
+use Rattle.std.proofs.Common.{◌≡◌, ◌≢◌, ◌∙◌, ◌-◌, ◌<◌, ◌≤◌, ◌++◌, [], ℕ, List, Bor, Option, Some, None, take, drop, length, get_or, sym}
+use Rattle.std.proofs.Common.{refl, arith}
 use Rattle.std.specs.Prelude.{MatchOption, slice_get}
-use Rattle.std.proofs.{lemmas.Bool.Decides.Decides-eqb, lemmas.Grind.common_steps, lemmas.List.length-take-le, lemmas.List.take_rest, lemmas.Option.slice_get-get_or, lemmas.Slice.Eq.strip_prefix_is}
+use Rattle.std.proofs.lemmas.Bool.Decides.{Decides-eqb}
+use Rattle.std.proofs.lemmas.Grind.{common_steps}
+use Rattle.std.proofs.lemmas.List.{length-take-le, take_rest}
+use Rattle.std.proofs.lemmas.Option.{slice_get-get_or}
+use Rattle.std.proofs.lemmas.Slice.Eq.{strip_prefix_is}
 use Rattle.mime_examples.specs.Multipart.{EndsLine}
 use Rattle.mime_examples.proofs.multipart.after_delimiter.Goals as goal
 use Rattle.mime_examples.proofs.multipart.after_delimiter.Goals.{else-at-gt0-via-then-at-gt0+else-body-at-ne10, else-at-gt0-via-else-at-gt0}

@@ -1,7 +1,12 @@
 -- A part loses the end of its last line, if there is one.
-use Rattle.std.proofs.Common.{rules, ◌≡◌, ◌≢◌, ◌∙◌, ◌<◌, ◌-◌, ◌++◌, ◌∷◌, [], ℕ, suc, List, Bor, Option, Some, None, unwrap_or, append_assoc, take, length, sym, subst, codes, arith}
+use Rattle.std.proofs.Common.{rules, ◌≡◌, ◌≢◌, ◌∙◌, ◌<◌, ◌-◌, ◌++◌, ◌∷◌, [], ℕ, suc, List, Bor, Option, Some, None, unwrap_or, append_assoc}
+use Rattle.std.proofs.Common.{take, length, sym, subst, codes, arith}
 use Rattle.std.specs.Prelude.{MatchOption, slice_get}
-use Rattle.std.proofs.{Math.ListN.drop_of_length-le, Math.Seq.drop-cons, lemmas.Bool.Decides.Decides-eqb, lemmas.Option.get_or_from_slice_get, lemmas.Slice.Eq.strip_suffix_is}
+use Rattle.std.proofs.Math.ListN.{drop_of_length-le}
+use Rattle.std.proofs.Math.Seq.{drop-cons}
+use Rattle.std.proofs.lemmas.Bool.Decides.{Decides-eqb}
+use Rattle.std.proofs.lemmas.Option.{get_or_from_slice_get}
+use Rattle.std.proofs.lemmas.Slice.Eq.{strip_suffix_is}
 use Rattle.mime_examples.specs.Multipart.{EndsLine, IsPart, no_line, with_return, without_return}
 use Rattle.mime_examples.proofs.Places.{divided}
 use Rattle.mime_examples.proofs.multipart.without_end.Goals as goal

@@ -1,7 +1,9 @@
 -- `text/html` has one reading, so what is printed can be computed.
 use Rattle.std.proofs.Common.{◌≡◌, ◌∙◌, ℕ, List, refl, ap, codes}
 use Rattle.std.proofs.{lemmas.Option.IfSome_then, lemmas.Result.IfOk-weaker}
-use Rattle.mime.specs.{Bytes.is_token_byte, Grammar.SyntaxTree, Grammar.no_list, Values.MediaType, Values.OwnedMedia, Values.Reads, Values.lowered, Values.value_of}
+use Rattle.mime.specs.Bytes.{is_token_byte}
+use Rattle.mime.specs.Grammar.{SyntaxTree, no_list}
+use Rattle.mime.specs.Values.{MediaType, OwnedMedia, Reads, lowered, value_of}
 use Rattle.mime_http.specs.Written.{with_pair}
 use Rattle.mime_examples.proofs.reply.page_in.Goals as goal
 

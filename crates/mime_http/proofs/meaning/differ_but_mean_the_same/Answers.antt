@@ -1,6 +1,9 @@
 -- If the longer value has no backslash, it means itself, and the other one means other bytes.
-use Rattle.mime_http.proofs.Common.{arith, bytes_eq-Decides, fails_before_first, false_from_ne_true, is_mark, nat_tests, sym, unescaped, ◌≡◌, ◌≢◌}
-use Rattle.mime_http.proofs.{Contents.longer_differs, Contents.unescaped_same, Cuts.mark_found, meaning.differ_but_mean_the_same.Goals.then-value-other, meaning.differ_but_mean_the_same.Goals.else-value-other}
+use Rattle.mime_http.proofs.Common.{arith, bytes_eq-Decides, fails_before_first, false_from_ne_true, is_mark, nat_tests, sym, unescaped}
+use Rattle.mime_http.proofs.Common.{◌≡◌, ◌≢◌}
+use Rattle.mime_http.proofs.Contents.{longer_differs, unescaped_same}
+use Rattle.mime_http.proofs.Cuts.{mark_found}
+use Rattle.mime_http.proofs.meaning.differ_but_mean_the_same.Goals.{then-value-other, else-value-other}
 use Rattle.mime_http.proofs.meaning.differ_but_mean_the_same.Goals as goal
 
 pub returns-then-first_stop-longer : goal.returns-then-first_stop-longer

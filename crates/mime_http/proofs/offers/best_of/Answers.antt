@@ -1,6 +1,8 @@
 -- The next merit weighs something and is above the highest so far, or the highest stays.
 use Rattle.mime_http.proofs.Common.{arith, length-map, map, merit, nat_tests, sym, ◌∙◌}
-use Rattle.mime_http.proofs.{Highest.value_at, Highest.highest_raised, Highest.highest_stays, Highest.best_is_found, Highest.lowest, offers.best_of.Goals.then-merit-gt0+then-gt, offers.best_of.Goals.else-merit-gt0, offers.best_of.Goals.else-merit-gt0-via-then-merit-gt0+else-gt, offers.best_of.Goals.else-merit-gt0-via-else-merit-gt0}
+use Rattle.mime_http.proofs.Highest.{value_at, highest_raised, highest_stays, best_is_found, lowest}
+use Rattle.mime_http.proofs.offers.best_of.Goals.{then-merit-gt0+then-gt, else-merit-gt0, else-merit-gt0-via-then-merit-gt0+else-gt}
+use Rattle.mime_http.proofs.offers.best_of.Goals.{else-merit-gt0-via-else-merit-gt0}
 use Rattle.mime_http.proofs.offers.best_of.Goals as goal
 
 pub loop-at-preserved : goal.loop-at-preserved

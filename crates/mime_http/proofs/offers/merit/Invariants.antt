@@ -1,5 +1,6 @@
 -- The closest so far, and the ranges that are left, give the closest of all.
-use Rattle.mime_http.proofs.Common.{IfSome, closeness, closest, drop, enumerate_from, fold, length, map, option_cmp, ord_max, rank_cmp, ◌<◌, ◌≡◌}
+use Rattle.mime_http.proofs.Common.{IfSome, closeness, closest, drop, enumerate_from, fold, length, map, option_cmp, ord_max, rank_cmp, ◌<◌}
+use Rattle.mime_http.proofs.Common.{◌≡◌}
 use Rattle.mime_http.proofs.offers.merit.Given as goal
 
 abbrev pub invariant-loop-at : goal.invariant-loop-at

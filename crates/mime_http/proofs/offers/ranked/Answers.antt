@@ -1,6 +1,8 @@
 -- The next offer is put last, or it weighs too little; sorted, they are in order.
 use Rattle.mime_http.proofs.Common.{arith, length-map, map, merit, refl, ◌∙◌}
-use Rattle.mime_http.proofs.{Highest.lowest, Highest.value_at, Order.are_ranked, Order.none_more, Order.one_ranked, offers.ranked.Goals.then-merit-least+in_ok-push, offers.ranked.Goals.else-merit-least}
+use Rattle.mime_http.proofs.Highest.{lowest, value_at}
+use Rattle.mime_http.proofs.Order.{are_ranked, none_more, one_ranked}
+use Rattle.mime_http.proofs.offers.ranked.Goals.{then-merit-least+in_ok-push, else-merit-least}
 use Rattle.mime_http.proofs.offers.ranked.Goals as goal
 
 pub loop-at-preserved : goal.loop-at-preserved

@@ -1,7 +1,9 @@
 -- What is written is known to be read as the media type with the parameter.
 use Rattle.std.proofs.Common.{rules}
 use Rattle.std.proofs.lemmas.Grind.{common_steps}
-use Rattle.mime_http.proofs.Common.{AreHeaderBytes, IfOk-weaker, IsSafe, IsToken, List, MediaType, Reads, [], ap, ap₂, arith, escaped, length, length-append, lowered, lowered-lowered, lowered_value, others, string_bytes, subst, sym, text_of_pairs, with_pair, ℕ, ◌++◌, ◌+◌, ◌∙◌, ◌∷◌, ◌≡◌}
+use Rattle.mime_http.proofs.Common.{AreHeaderBytes, IfOk-weaker, IsSafe, IsToken, List, MediaType, Reads, [], ap, ap₂, arith, escaped}
+use Rattle.mime_http.proofs.Common.{length, length-append, lowered, lowered-lowered, lowered_value, others, string_bytes, subst, sym}
+use Rattle.mime_http.proofs.Common.{text_of_pairs, with_pair, ℕ, ◌++◌, ◌+◌, ◌∙◌, ◌∷◌, ◌≡◌}
 use Rattle.mime_http.proofs.{Contents.content_of_escaped, Written.pairs_within_text, Written.with_pair_is_read}
 use Rattle.mime_http.proofs.parameter.mime_with.Goals as goal
 

@@ -1,7 +1,10 @@
 -- A backslash is added before each byte that needs it, after the run before that byte.
 use Rattle.std.proofs.lemmas.Str.{IsCharBoundary-after_ascii, IsCharBoundary-from_drop}
-use Rattle.mime_http.proofs.Common.{[], append-nil, ap, arith, backslash_byte, get_or, length, nat_tests, refl, rules, slice_range, string_bytes, sym, ◌++◌, ◌+◌, ◌<◌, ◌∷◌, ◌≡◌}
-use Rattle.mime_http.proofs.{Contents.run_found, Contents.special_written, ReadAt.no_part, quoted.push_escaped.Goals.then-from-at+in_ok-push_str, quoted.push_escaped.Goals.else-from-at}
+use Rattle.mime_http.proofs.Common.{[], append-nil, ap, arith, backslash_byte, get_or, length, nat_tests, refl, rules, slice_range}
+use Rattle.mime_http.proofs.Common.{string_bytes, sym, ◌++◌, ◌+◌, ◌<◌, ◌∷◌, ◌≡◌}
+use Rattle.mime_http.proofs.Contents.{run_found, special_written}
+use Rattle.mime_http.proofs.ReadAt.{no_part}
+use Rattle.mime_http.proofs.quoted.push_escaped.Goals.{then-from-at+in_ok-push_str, else-from-at}
 use Rattle.mime_http.proofs.quoted.push_escaped.Goals as goal
 
 pub loop-at-init : goal.loop-at-init

@@ -1,6 +1,7 @@
 -- What is left of an essence is the type exactly if the essence is the type and the end.
 use Rattle.std.proofs.Common.{rules}
-use Rattle.mime_http.proofs.Common.{Bor, List, MatchOption, None, Option, Some, ap, append_cancel_right, bytes_eq, bytes_eq-Decides, codes, option_eq, refl, ℕ, ◌++◌, ◌∙◌, ◌≡◌}
+use Rattle.mime_http.proofs.Common.{Bor, List, MatchOption, None, Option, Some, ap, append_cancel_right, bytes_eq, bytes_eq-Decides, codes}
+use Rattle.mime_http.proofs.Common.{option_eq, refl, ℕ, ◌++◌, ◌∙◌, ◌≡◌}
 use Rattle.std.specs.Str.Pattern.{FindsTextSuffix, StripsSuffix}
 use Rattle.mime_http.proofs.range.is_all_of.Goals as goal
 

@@ -1,6 +1,10 @@
 -- White space, a token, a slash and another token are read one after the other.
-use Rattle.mime_http.proofs.Common.{List, MissingSlash, MissingSubtype, None, Some, answer_at, answer_of, ap, arith, before_type, drop, if◌then◌else◌, in_subtype, in_type, is_space, is_token_byte, length, ne_eqb, next, refl, rejected, slice_index, slice_range, sym, [], ℕ, ◌+◌, ◌++◌, ◌<◌, ◌==◌, ◌∙◌, ◌∷◌, ◌≡◌, ◌≤◌}
-use Rattle.mime_http.proofs.{ReadAt.IsRun, ReadAt.neither, ReadAt.one_part, ReadAt.over, ReadAt.over_byte, ReadAt.over_subtype, ReadAt.over_white_at, ReadAt.parts_joined, ReadAt.run_is, ReadAt.stuck, ReadAt.token_part, Runs.keeps_before, Runs.type_begins}
+use Rattle.mime_http.proofs.Common.{List, MissingSlash, MissingSubtype, None, Some, answer_at, answer_of, ap, arith, before_type, drop}
+use Rattle.mime_http.proofs.Common.{if◌then◌else◌, in_subtype, in_type, is_space, is_token_byte, length, ne_eqb, next, refl, rejected}
+use Rattle.mime_http.proofs.Common.{slice_index, slice_range, sym, [], ℕ, ◌+◌, ◌++◌, ◌<◌, ◌==◌, ◌∙◌, ◌∷◌, ◌≡◌, ◌≤◌}
+use Rattle.mime_http.proofs.ReadAt.{IsRun, neither, one_part, over, over_byte, over_subtype, over_white_at, parts_joined, run_is, stuck}
+use Rattle.mime_http.proofs.ReadAt.{token_part}
+use Rattle.mime_http.proofs.Runs.{keeps_before, type_begins}
 use Rattle.mime_http.proofs.reader.essence.Goals as goal
 
 -- Reading goes on over white space and the type up to the slash.

@@ -1,6 +1,10 @@
 -- A name and an equals sign are read before the value.
-use Rattle.mime_http.proofs.Common.{IsParameterAt, List, drop, drop_more, one-add, prefix_len, MissingEqual, after_semicolon, answer_at, ap, arith, in_name, in_value, is_token_byte, length, ne_eqb, next, refl, rejected, slice_index, slice_range, sym, true, [], ℕ, ◌+◌, ◌++◌, ◌<◌, ◌==◌, ◌∙◌, ◌∷◌, ◌≡◌, MatchResult-weaker}
-use Rattle.mime_http.{specs.Reader.Parts, specs.declared.reader.Spans.Spans, proofs.ReadAt.IsRun, proofs.ReadAt.neither, proofs.ReadAt.one_part, proofs.ReadAt.over_byte, proofs.ReadAt.over_name, proofs.ReadAt.parts_joined, proofs.ReadAt.run_end, proofs.ReadAt.run_is, proofs.ReadAt.stuck}
+use Rattle.mime_http.proofs.Common.{IsParameterAt, List, drop, drop_more, one-add, prefix_len, MissingEqual, after_semicolon, answer_at, ap}
+use Rattle.mime_http.proofs.Common.{arith, in_name, in_value, is_token_byte, length, ne_eqb, next, refl, rejected, slice_index, slice_range}
+use Rattle.mime_http.proofs.Common.{sym, true, [], ℕ, ◌+◌, ◌++◌, ◌<◌, ◌==◌, ◌∙◌, ◌∷◌, ◌≡◌, MatchResult-weaker}
+use Rattle.mime_http.specs.Reader.{Parts}
+use Rattle.mime_http.specs.declared.reader.Spans.{Spans}
+use Rattle.mime_http.proofs.ReadAt.{IsRun, neither, one_part, over_byte, over_name, parts_joined, run_end, run_is, stuck}
 use Rattle.mime_http.proofs.reader.parameter_at.Goals as goal
 
 -- A name begins with a token byte, and ends where the run of them after it does.

@@ -1,7 +1,14 @@
 -- The quote, token bytes and more content are read; without quotes is written what is a token.
 use Rattle.std.proofs.Common.{rules}
-use Rattle.mime_http.proofs.Common.{IsClosedAt, IsContent, List, answer_at, ap, ap₂, append-nil, arith, false, in_string, in_value, is_quoted_text_byte, is_token_byte, is_token_value, length, list_all-wider, refl, slice_index, slice_range, sym, true, [], ℕ, ◌+◌, ◌++◌, ◌<◌, ◌∙◌, ◌∷◌, ◌≡◌}
-use Rattle.mime_http.{specs.Reader.Parts, proofs.Contents.token_byte_text, proofs.ReadAt.IsRun, proofs.ReadAt.content_on, proofs.ReadAt.fault_after, proofs.ReadAt.no_token_value, proofs.ReadAt.one_part, proofs.ReadAt.over_byte, proofs.ReadAt.over_content, proofs.ReadAt.parts_joined, proofs.ReadAt.run_is, proofs.ReadAt.text_content, proofs.ReadAt.token_part, proofs.ReadAt.token_value, proofs.reader.string_at.Goals.else-begin-plain-via-then-begin-plain+else-plain-close, proofs.reader.string_at.Goals.else-begin-plain-via-else-begin-plain}
+use Rattle.mime_http.proofs.Common.{IsClosedAt, IsContent, List, answer_at, ap, ap₂, append-nil, arith, false, in_string, in_value}
+use Rattle.mime_http.proofs.Common.{is_quoted_text_byte, is_token_byte, is_token_value, length, list_all-wider, refl, slice_index}
+use Rattle.mime_http.proofs.Common.{slice_range, sym, true, [], ℕ, ◌+◌, ◌++◌, ◌<◌, ◌∙◌, ◌∷◌, ◌≡◌}
+use Rattle.mime_http.specs.Reader.{Parts}
+use Rattle.mime_http.proofs.Contents.{token_byte_text}
+use Rattle.mime_http.proofs.ReadAt.{IsRun, content_on, fault_after, no_token_value, one_part, over_byte, over_content, parts_joined, run_is}
+use Rattle.mime_http.proofs.ReadAt.{text_content, token_part, token_value}
+use Rattle.mime_http.proofs.reader.string_at.Goals.{else-begin-plain-via-then-begin-plain+else-plain-close}
+use Rattle.mime_http.proofs.reader.string_at.Goals.{else-begin-plain-via-else-begin-plain}
 use Rattle.mime_http.proofs.reader.string_at.Goals as goal
 
 -- The quote opens the string.

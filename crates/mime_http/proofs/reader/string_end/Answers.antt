@@ -1,8 +1,13 @@
 -- Text and pairs go on the content, and another byte, or the end, is the string's fault.
 use Rattle.std.proofs.Common.{rules}
 use Rattle.std.proofs.lemmas.Grind.{common_steps}
-use Rattle.mime_http.proofs.Common.{IsContent, List, MissingQuote, Parts, answer_at, ap, arith, awaits_after, awaits_after-append, false, fault_at, in_string, is_quoted_byte, is_quoted_text_byte, length, list_all, slice_range, nat_tests, next, no_byte, rejected, slice_index, sym, true, ℕ, ◌+◌, ◌<◌, ◌≤◌, ◌∙◌, ◌≡◌}
-use Rattle.mime_http.proofs.{ReadAt.at_byte, ReadAt.at_end, ReadAt.content_on, ReadAt.fault_after, ReadAt.no_part, ReadAt.goes_nowhere, ReadAt.one_part, ReadAt.over_byte, ReadAt.pair_content, ReadAt.stuck, ReadAt.text_after, ReadAt.text_content, reader.string_end.Goals.then-paired-value-via-then-paired-value, reader.string_end.Goals.then-paired-value-via-else-paired-value+then-not-is_quoted_byte}
+use Rattle.mime_http.proofs.Common.{IsContent, List, MissingQuote, Parts, answer_at, ap, arith, awaits_after, awaits_after-append, false}
+use Rattle.mime_http.proofs.Common.{fault_at, in_string, is_quoted_byte, is_quoted_text_byte, length, list_all, slice_range, nat_tests}
+use Rattle.mime_http.proofs.Common.{next, no_byte, rejected, slice_index, sym, true, ℕ, ◌+◌, ◌<◌, ◌≤◌, ◌∙◌, ◌≡◌}
+use Rattle.mime_http.proofs.ReadAt.{at_byte, at_end, content_on, fault_after, no_part, goes_nowhere, one_part, over_byte, pair_content}
+use Rattle.mime_http.proofs.ReadAt.{stuck, text_after, text_content}
+use Rattle.mime_http.proofs.reader.string_end.Goals.{then-paired-value-via-then-paired-value}
+use Rattle.mime_http.proofs.reader.string_end.Goals.{then-paired-value-via-else-paired-value+then-not-is_quoted_byte}
 use Rattle.mime_http.proofs.reader.string_end.Goals as goal
 
 -- A byte that a backslash can't pair is the string's fault, and so is the end.

@@ -1,7 +1,8 @@
 -- The search passes bytes that may occur in a token, and ends there unless another follows.
 use Rattle.std.proofs.Common.{arith, inl, inr, length, ◌≡◌, drop}
 use Rattle.std.specs.List.{prefix_len}
-use Rattle.std.proofs.{lemmas.Bool.cases_lt, lemmas.List.Sums.prefix_len-drop_all, lemmas.List.Sums.prefix_len-drop_no, lemmas.List.Sums.prefix_len-drop_yes}
+use Rattle.std.proofs.lemmas.Bool.{cases_lt}
+use Rattle.std.proofs.lemmas.List.Sums.{prefix_len-drop_all, prefix_len-drop_no, prefix_len-drop_yes}
 use Rattle.mime_http.proofs.Common.{is_token_byte}
 use Rattle.mime_http.proofs.ReadAt.{are_token_bytes, run_goes_on}
 use Rattle.mime_search.specs.declared.class.TheConstants.{TOKEN_STOPS}

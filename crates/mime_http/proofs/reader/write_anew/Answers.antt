@@ -1,6 +1,9 @@
 -- The essence is written, and then each parameter that is read, up to a fault or the end.
-use Rattle.mime_http.proofs.Common.{Holds, IsEssenceAt, List, Parts, after_semicolon, answer_at, answer_of, ap, ap₂, append_assoc, codes, append-nil, arith, before_semicolon, cases_lt, false, is_space, length, next, refl, slice_index, slice_range, subst, sym, text_of_parts, with_parameter, [], ℕ, ◌+◌, ◌++◌, ◌<◌, ◌∙◌, ◌∷◌, ◌≡◌, ◌≤◌}
-use Rattle.mime_http.proofs.{ReadAt.length-part, ReadAt.nothing_between, ReadAt.one_written, ReadAt.over_byte, ReadAt.over_white_at, ReadAt.run_end, ReadAt.run_is, Runs.keeps_after, Runs.keeps_inside}
+use Rattle.mime_http.proofs.Common.{Holds, IsEssenceAt, List, Parts, after_semicolon, answer_at, answer_of, ap, ap₂, append_assoc, codes}
+use Rattle.mime_http.proofs.Common.{append-nil, arith, before_semicolon, cases_lt, false, is_space, length, next, refl, slice_index}
+use Rattle.mime_http.proofs.Common.{slice_range, subst, sym, text_of_parts, with_parameter, [], ℕ, ◌+◌, ◌++◌, ◌<◌, ◌∙◌, ◌∷◌, ◌≡◌, ◌≤◌}
+use Rattle.mime_http.proofs.ReadAt.{length-part, nothing_between, one_written, over_byte, over_white_at, run_end, run_is}
+use Rattle.mime_http.proofs.Runs.{keeps_after, keeps_inside}
 use Rattle.mime_http.proofs.reader.write_anew.Goals as goal
 
 -- Reading goes on up to what follows the white space after a semicolon.

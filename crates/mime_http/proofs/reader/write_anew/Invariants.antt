@@ -1,5 +1,6 @@
 -- What is read so far is written, and at this position nothing but a semicolon or the end goes on.
-use Rattle.mime_http.proofs.Common.{Parts, answer_of, before_semicolon, false, is_space, length, text_of_parts, ◌*◌, ◌-◌, ◌<◌, ◌≡◌, ◌≤◌, slice_index, Holds, answer_at}
+use Rattle.mime_http.proofs.Common.{Parts, answer_of, before_semicolon, false, is_space, length, text_of_parts, ◌*◌, ◌-◌, ◌<◌, ◌≡◌, ◌≤◌}
+use Rattle.mime_http.proofs.Common.{slice_index, Holds, answer_at}
 use Rattle.mime_http.proofs.reader.write_anew.Given as goal
 
 abbrev pub invariant-loop-at : goal.invariant-loop-at

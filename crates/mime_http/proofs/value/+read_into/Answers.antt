@@ -1,6 +1,7 @@
 -- What is written anew of a value is read as its media type, and what a value lacks is its fault.
 use Rattle.mime_http.proofs.Common.{Explains, IsAccepted, IsUtf8, Reads, arith, media_of, rules, subst, sym, trimmed, ◌∙◌}
-use Rattle.mime_http.proofs.{HttpLaws.anew_is, HttpLaws.anew_needs, HttpLaws.reading_needs, HttpLaws.written_is_utf8, HttpLaws.written_reads, ReadFaults.answered_fault}
+use Rattle.mime_http.proofs.HttpLaws.{anew_is, anew_needs, reading_needs, written_is_utf8, written_reads}
+use Rattle.mime_http.proofs.ReadFaults.{answered_fault}
 use Rattle.mime_http.proofs.value.+read_into.Goals as goal
 
 pub returns-in-Err-clause-explained : goal.returns-in-Err-clause-explained

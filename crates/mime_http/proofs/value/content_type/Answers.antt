@@ -1,6 +1,8 @@
 -- What the library reads is what HTTP writes, with the white space around it; and a short value is always read.
-use Rattle.mime_http.proofs.Common.{HttpExplains, HttpReads, IfErr, IsPrinted, List, MediaType, OwnedMedia, Reads, subst, trimmed, ℕ, ◌≡◌, IfErr-weaker}
-use Rattle.mime_http.{proofs.HttpLaws.error_is_memory, proofs.HttpLaws.short_has_none, proofs.HttpLaws.star_has_none, proofs.HttpLaws.stands, specs.declared.value.FieldError.TheVariants.NoMemory}
+use Rattle.mime_http.proofs.Common.{HttpExplains, HttpReads, IfErr, IsPrinted, List, MediaType, OwnedMedia, Reads, subst, trimmed, ℕ, ◌≡◌}
+use Rattle.mime_http.proofs.Common.{IfErr-weaker}
+use Rattle.mime_http.proofs.HttpLaws.{error_is_memory, short_has_none, star_has_none, stands}
+use Rattle.mime_http.specs.declared.value.FieldError.TheVariants.{NoMemory}
 use Rattle.mime_http.proofs.value.content_type.Goals as goal
 
 -- A value that the library reads without the white space around it is read and printed as it stands.

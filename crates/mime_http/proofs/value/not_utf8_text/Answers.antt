@@ -1,7 +1,8 @@
 -- The pieces written one by one are the whole text.
 use Rattle.std.proofs.Common.{rules}
 use Rattle.mime_http.proofs.Common.{FoldsTo, List, [], append-nil, arith, append_assoc, concat, ℕ, ◌++◌, ◌∷◌, ◌≡◌}
-use Rattle.std.specs.{Fmt.InlineText.inline_text, Fmt.InlineText.IsIntact, Fmt.InlineText.AppendsIfIntact, declared.fmt.InlineText.InlineText}
+use Rattle.std.specs.Fmt.InlineText.{inline_text, IsIntact, AppendsIfIntact}
+use Rattle.std.specs.declared.fmt.InlineText.{InlineText}
 use Rattle.mime_http.proofs.value.not_utf8_text.Goals as goal
 
 -- What calls wrote is appended.

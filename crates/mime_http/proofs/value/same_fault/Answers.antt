@@ -1,5 +1,7 @@
 -- Before the text stands white space, and perhaps behind it.
-use Rattle.mime_http.proofs.Common.{MissingQuote, append_assoc, rules, AreSpaces, Explains, List, [], ap, append-nil, arith, length, length-append, nil_from_length, slice_get_within, subst, sym, trim_end, trim_start, trimmed, ℕ, ◌+◌, ◌++◌, ◌-◌, ◌∙◌, ◌≡◌}
+use Rattle.mime_http.proofs.Common.{MissingQuote, append_assoc, rules, AreSpaces, Explains, List, [], ap, append-nil, arith, length}
+use Rattle.mime_http.proofs.Common.{length-append, nil_from_length, slice_get_within, subst, sym, trim_end, trim_start, trimmed, ℕ, ◌+◌}
+use Rattle.mime_http.proofs.Common.{◌++◌, ◌-◌, ◌∙◌, ◌≡◌}
 use Rattle.mime_http.proofs.{ReadFaults.open_after, Around.split_end, PlainIsHttp.same_byte, PlainIsHttp.same_lack, Around.split_white}
 use Rattle.mime_http.proofs.value.same_fault.Goals as goal
 

@@ -2,7 +2,8 @@
 use Rattle.std.proofs.Common.{ap, codes, rules, ◌≡◌, subst, refl, ◌∙◌, Some, Err}
 use Rattle.mime.specs.{declared.iter.Bad.TheVariants.Piece, Runs.GivesItem}
 use Rattle.mime_io.specs.Lines.{row}
-use Rattle.mime_lines.proofs.{Rows.listing-step, Rows.listing-end, report.push_items.Goals.in-Ok, report.push_items.Goals.in-Err-Piece, report.push_items.Goals.in-Err-NoMemory}
+use Rattle.mime_lines.proofs.Rows.{listing-step, listing-end}
+use Rattle.mime_lines.proofs.report.push_items.Goals.{in-Ok, in-Err-Piece, in-Err-NoMemory}
 use Rattle.mime_lines.proofs.report.push_items.Goals as goal
 
 pub loop-item-preserved : goal.loop-item-preserved

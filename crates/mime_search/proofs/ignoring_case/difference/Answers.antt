@@ -4,7 +4,8 @@ use Rattle.std.specs.{Char.is_ascii_lowercase, Int.Bits.bit_xor, List.list_all, 
 use Rattle.std.proofs.lemmas.Bool.{eqb-true, cond-true, cond-false}
 use mir.Val.{bool_byte}
 use Rattle.mime_search.specs.Differences.{difference_bit}
-use Rattle.mime_search.proofs.{IgnoringCase.at_byte, ignoring_case.difference.Goals.then-is_ascii_lowercase, ignoring_case.difference.Goals.else-is_ascii_lowercase}
+use Rattle.mime_search.proofs.IgnoringCase.{at_byte}
+use Rattle.mime_search.proofs.ignoring_case.difference.Goals.{then-is_ascii_lowercase, else-is_ascii_lowercase}
 use Rattle.mime_search.proofs.ignoring_case.difference.Goals as goal
 
 -- The bit that tells a letter's cases, or none.

@@ -2,7 +2,8 @@
 use Rattle.std.proofs.Common.{ℕ, ◌+◌, ◌∙◌, ap, map, take, drop, false}
 use Rattle.std.specs.Simd.Lanes.{mask_l}
 use Rattle.mime_search.specs.Quoted.{len_from}
-use Rattle.mime_search.proofs.{Quotes.search_past_run, Quotes.no_mark, quoted.after_plain.Goals.then-text-ge-BLOCK+else-stops-ne0, quoted.after_plain.Goals.else-text-ge-BLOCK}
+use Rattle.mime_search.proofs.Quotes.{search_past_run, no_mark}
+use Rattle.mime_search.proofs.quoted.after_plain.Goals.{then-text-ge-BLOCK+else-stops-ne0, else-text-ge-BLOCK}
 use Rattle.mime_search.proofs.quoted.after_plain.Goals as goal
 
 pub returns-clause-left : goal.returns-clause-left

@@ -2,7 +2,8 @@
 use Rattle.std.proofs.Common.{◌≡◌, ◌+◌, ◌≤◌, ◌∷◌, ◌++◌, ℕ, List, [], false, length, take, drop, get_or, arith}
 use Rattle.std.proofs.{lemmas.Grind.common_steps, lemmas.Bool.Decides.nat_tests, lemmas.List.drop_more, lemmas.List.drop-drop}
 use Rattle.mime_search.specs.{Classes.is_stop, Quoted.meant_from}
-use Rattle.mime_search.proofs.{Quotes.meant_before, quoted.copy_meant.Goals.then-content-at-eq92+else-at-content, quoted.copy_meant.Goals.else-content-at-eq92}
+use Rattle.mime_search.proofs.Quotes.{meant_before}
+use Rattle.mime_search.proofs.quoted.copy_meant.Goals.{then-content-at-eq92+else-at-content, else-content-at-eq92}
 use Rattle.mime_search.proofs.quoted.copy_meant.Goals as goal
 
 -- All is written if what is left means nothing.

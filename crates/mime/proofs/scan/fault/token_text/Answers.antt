@@ -1,6 +1,8 @@
 -- The pieces that are written make the whole text.
 use Rattle.std.proofs.Common.{◌≡◌, List, [], ◌∷◌, ◌++◌, ℕ, sym, ap, ◌∙◌, codes, append-nil, append_assoc, rules}
-use Rattle.std.specs.{List.FoldsTo, List.concat, Fmt.InlineText.inline_text, Fmt.InlineText.IsIntact, Fmt.InlineText.AppendsIfIntact, declared.fmt.InlineText.InlineText}
+use Rattle.std.specs.List.{FoldsTo, concat}
+use Rattle.std.specs.Fmt.InlineText.{inline_text, IsIntact, AppendsIfIntact}
+use Rattle.std.specs.declared.fmt.InlineText.{InlineText}
 use Rattle.mime.proofs.scan.fault.token_text.Goals as goal
 
 -- What calls wrote is appended.

@@ -1,7 +1,9 @@
 -- A byte more of the token is passed, which may be a plus.
 use Rattle.std.proofs.Common.{◌+◌, arith, sym, ◌∙◌, subst, ℕ, ◌≤◌}
 use Rattle.mime.specs.{Inner.Remaining.reader_at, Inner.Scanning.PassesPluses}
-use Rattle.mime.proofs.{ScanLemmas.Passing.gives_at, ScanLemmas.Pluses.pluses_none, ScanLemmas.Pluses.pluses_plus, ScanLemmas.Pluses.pluses_other, scan.reader.end_and_last_plus.Goals.then-byte-eq43, scan.reader.end_and_last_plus.Goals.else-byte-eq43+else-not-is_token}
+use Rattle.mime.proofs.ScanLemmas.Passing.{gives_at}
+use Rattle.mime.proofs.ScanLemmas.Pluses.{pluses_none, pluses_plus, pluses_other}
+use Rattle.mime.proofs.scan.reader.end_and_last_plus.Goals.{then-byte-eq43, else-byte-eq43+else-not-is_token}
 use Rattle.mime.proofs.scan.reader.end_and_last_plus.Goals as goal
 
 pub loop-at-init : goal.loop-at-init

@@ -1,7 +1,9 @@
 -- The scanner's verdict is what the call answers.
 use Rattle.std.proofs.Common.{◌-◌, sym, inl, inr}
 use Rattle.mime.specs.Faults.{IsDeadAt}
-use Rattle.mime.proofs.{ValueLemmas.Reading.Explains-from_fault, ValueLemmas.Reading.rejected-from_fault, GrammarLemmas.Viability.rejected-at_dead, value.Mime.from_str.Goals.In-Stopped}
+use Rattle.mime.proofs.ValueLemmas.Reading.{Explains-from_fault, rejected-from_fault}
+use Rattle.mime.proofs.GrammarLemmas.Viability.{rejected-at_dead}
+use Rattle.mime.proofs.value.Mime.from_str.Goals.{In-Stopped}
 use Rattle.mime.proofs.value.Mime.from_str.Goals as goal
 
 pub returns-clause-explained : goal.returns-clause-explained

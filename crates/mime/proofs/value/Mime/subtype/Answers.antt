@@ -1,7 +1,9 @@
 -- The subtype lies between characters of the essence, and is in lowercase.
 use Rattle.std.proofs.Common.{refl, ap, sym, ◌∙◌, take, lit<}
 use Rattle.mime_search.proofs.IgnoringCase.{lowered-take}
-use Rattle.mime.proofs.{BytesLemmas.boundary_after, ValueLemmas.KeptText.reads-from_kept, ValueLemmas.Parts.slash_in, ValueLemmas.Parts.subtype_end, ValueLemmas.Parts.read-low_essence, ValueLemmas.Parts.low_drop}
+use Rattle.mime.proofs.BytesLemmas.{boundary_after}
+use Rattle.mime.proofs.ValueLemmas.KeptText.{reads-from_kept}
+use Rattle.mime.proofs.ValueLemmas.Parts.{slash_in, subtype_end, read-low_essence, low_drop}
 use Rattle.mime.proofs.value.Mime.subtype.Goals as goal
 
 pub range-requires-clause-start_le_end : goal.range-requires-clause-start_le_end

@@ -1,6 +1,7 @@
 -- The suffix begins at a character of the essence, and is in lowercase.
 use Rattle.std.proofs.Common.{ap, sym, ◌∙◌, arith}
-use Rattle.mime.proofs.{ValueLemmas.KeptText.reads-from_kept, ValueLemmas.Parts.suffix_start, ValueLemmas.Parts.read-low_essence, ValueLemmas.Parts.low_drop}
+use Rattle.mime.proofs.ValueLemmas.KeptText.{reads-from_kept}
+use Rattle.mime.proofs.ValueLemmas.Parts.{suffix_start, read-low_essence, low_drop}
 use Rattle.mime.proofs.value.Mime.suffix.Goals as goal
 
 pub overflow_add-plus : goal.overflow_add-plus

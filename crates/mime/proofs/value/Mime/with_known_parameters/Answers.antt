@@ -1,6 +1,9 @@
 -- The parts of the essence are those of this one, and the text is kept as it is.
 use Rattle.std.proofs.Common.{◌≡◌, ◌≢◌, refl, ℕ, List, length, string_bytes}
-use Rattle.mime.specs.{Values.MediaType, Values.Reads, Inner.ComparedText.positions_before_list, Inner.KeptText.IsKept, declared.scan.Positions.Positions}
+use Rattle.mime.specs.Values.{MediaType, Reads}
+use Rattle.mime.specs.Inner.ComparedText.{positions_before_list}
+use Rattle.mime.specs.Inner.KeptText.{IsKept}
+use Rattle.mime.specs.declared.scan.Positions.{Positions}
 use Rattle.mime.proofs.{ValueLemmas.KeptText.reads-from_kept, ValueLemmas.Places.read-kept}
 use Rattle.mime.proofs.value.Mime.with_known_parameters.Goals as goal
 

@@ -3,7 +3,10 @@ use Rattle.std.proofs.Common.{◌-◌, length, length-drop, refl, lit<, ap, ◌�
 use Rattle.std.proofs.lemmas.List.{take_all, drop_all, take_rest}
 use borrow.Rule.Slice.PartMut.{put_mid}
 use Rattle.mime.specs.{Inner.KeptText.with_pairs_lowered}
-use Rattle.mime.proofs.{BytesLemmas.boundary_after, ValueLemmas.ListText.lone_charset-text, ValueLemmas.Pairs.cut_before-lies, ValueLemmas.LoweredTo.IsLoweredTo, ValueLemmas.LoweredTo.lowered_to-none, ValueLemmas.LoweredTo.lowered_to-more, ValueLemmas.LoweredTo.lowered_to-sizes, ValueLemmas.LoweredTo.low_within}
+use Rattle.mime.proofs.BytesLemmas.{boundary_after}
+use Rattle.mime.proofs.ValueLemmas.ListText.{lone_charset-text}
+use Rattle.mime.proofs.ValueLemmas.Pairs.{cut_before-lies}
+use Rattle.mime.proofs.ValueLemmas.LoweredTo.{IsLoweredTo, lowered_to-none, lowered_to-more, lowered_to-sizes, low_within}
 use Rattle.mime.proofs.value.kept.lowercase_text.Goals as goal
 
 pub of-left-requires : goal.of-left-requires

@@ -3,7 +3,9 @@ use Rattle.std.proofs.Common.{arith, rules}
 use Rattle.std.specs.Prelude.{◌==◌, not}
 use Rattle.std.proofs.lemmas.List.Sums.{prefix_len-le-length}
 use Rattle.mime.specs.Bytes.{quote_byte}
-use Rattle.mime.proofs.{ValueLemmas.Pairs.content_len-first_quote, value.pairs.content_len.Goals.then-quote-eq0-via-then-quote-eq0, value.pairs.content_len.Goals.then-quote-eq0-via-else-quote-eq0+then-text-quote-ne92}
+use Rattle.mime.proofs.ValueLemmas.Pairs.{content_len-first_quote}
+use Rattle.mime.proofs.value.pairs.content_len.Goals.{then-quote-eq0-via-then-quote-eq0}
+use Rattle.mime.proofs.value.pairs.content_len.Goals.{then-quote-eq0-via-else-quote-eq0+then-text-quote-ne92}
 use Rattle.mime.proofs.value.pairs.content_len.Goals as goal
 
 pub bounds-text-quote : goal.bounds-text-quote

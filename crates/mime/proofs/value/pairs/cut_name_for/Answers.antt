@@ -2,7 +2,10 @@
 use Rattle.std.proofs.Common.{◌≡◌, ℕ, ◌+◌, ◌≤◌, false, List, ◌∙◌, true, sym, ap, subst, true≢false, take, drop, length, rules}
 use Rattle.mime.specs.{Bytes.equals_byte, Inner.Pairs.has_equals, Values.lowered}
 use Rattle.mime_search.specs.Rests.{before_byte, after_byte, first_position}
-use Rattle.mime.proofs.{ValueLemmas.Pairs.cut_of-name, ValueLemmas.KnownNames.first_equals-named, ValueLemmas.KnownNames.has_equals-named, ValueLemmas.KnownNames.first_equals-taken, value.pairs.cut_name_for.Goals.then-not-is_accepted-via-then-not-is_accepted, value.pairs.cut_name_for.Goals.then-not-is_accepted-via-else-not-is_accepted+then-has_equals}
+use Rattle.mime.proofs.ValueLemmas.Pairs.{cut_of-name}
+use Rattle.mime.proofs.ValueLemmas.KnownNames.{first_equals-named, has_equals-named, first_equals-taken}
+use Rattle.mime.proofs.value.pairs.cut_name_for.Goals.{then-not-is_accepted-via-then-not-is_accepted}
+use Rattle.mime.proofs.value.pairs.cut_name_for.Goals.{then-not-is_accepted-via-else-not-is_accepted+then-has_equals}
 use Rattle.mime.proofs.value.pairs.cut_name_for.Goals as goal
 
 -- Bytes that are a text without an equals sign but for case are the name that is cut, and what follows them follows it.

@@ -1,7 +1,8 @@
 -- The texts are the same, or the essences differ where they do.
 use Rattle.std.proofs.Common.{length-take, nat_cmp, slice_index, sym, ap, ap₂, refl, ◌∙◌, rules}
 use Rattle.mime.specs.{Values.OwnedMedia, Inner.KeptBytes.bytes_of}
-use Rattle.mime.proofs.{ValueLemmas.Parts.same_from_kept, ValueLemmas.Traits.equal-media, ValueLemmas.Traits.ordered_by_essence, ValueLemmas.Traits.differ_in_beginnings}
+use Rattle.mime.proofs.ValueLemmas.Parts.{same_from_kept}
+use Rattle.mime.proofs.ValueLemmas.Traits.{equal-media, ordered_by_essence, differ_in_beginnings}
 use Rattle.mime.proofs.value.traits.order_short.Goals as goal
 
 pub returns-in_default : goal.returns-in_default

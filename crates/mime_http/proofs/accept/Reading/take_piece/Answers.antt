@@ -1,7 +1,9 @@
 -- A piece is white space, a media type, or bad.
 use Rattle.std.proofs.Common.{rules}
 use Rattle.mime_http.proofs.Common.{Explains, subst, sym, ap, arith, as_it_stands, common_steps, length, nil_from_length, trimmed, ◌∙◌}
-use Rattle.mime_http.proofs.{Around.blank_from_trimmed, Around.reads_around, Around.utf8_around, Around.utf8_trimmed, PlainIsHttp.plain_is_http, Takes.takes_bad, Takes.takes_blank, Takes.takes_range}
+use Rattle.mime_http.proofs.Around.{blank_from_trimmed, reads_around, utf8_around, utf8_trimmed}
+use Rattle.mime_http.proofs.PlainIsHttp.{plain_is_http}
+use Rattle.mime_http.proofs.Takes.{takes_bad, takes_blank, takes_range}
 use Rattle.mime_http.proofs.accept.Reading.take_piece.Goals as goal
 
 pub returns-then-is_empty-clause-taken : goal.returns-then-is_empty-clause-taken

@@ -1,6 +1,7 @@
 -- An ASCII byte is a character: the text may be cut after it.
 use Rattle.std.proofs.Common.{length, ap, arith, subst, inl, inr}
-use Rattle.std.proofs.{lemmas.Bool.cases_lt, lemmas.Bool.lt-ltb, lemmas.Bool.le-ltb, lemmas.Str.IsCharBoundary-after_ascii, lemmas.Str.IsCharBoundary-end}
+use Rattle.std.proofs.lemmas.Bool.{cases_lt, lt-ltb, le-ltb}
+use Rattle.std.proofs.lemmas.Str.{IsCharBoundary-after_ascii, IsCharBoundary-end}
 use Rattle.std.specs.Str.{IsUtf8, IsCharBoundary}
 use Rattle.mime_search.proofs.rest.Rest.split_around.Goals as goal
 

@@ -3,7 +3,8 @@ use Rattle.std.proofs.Common.{◌+◌, ◌/◌, ◌^◌, not, get_or, Some, subs
 use lib.Count.{count_trailing_zeros}
 use Rattle.mime_search.specs.{Classes.is_stop, declared.class.TheConstants.TOKEN_STOPS}
 use Rattle.mime.specs.{Inner.Scanning.Passing, Inner.Scanning.Reaches, Inner.Remaining.reader_at}
-use Rattle.mime.proofs.{StopsLemmas.are_token_bytes, ScanLemmas.Passing.passing_skip, ScanLemmas.Passing.reaches_then, ScanLemmas.Passing.reaches_next, ScanLemmas.Passing.gives_at, ScanLemmas.Passing.reaches_wider}
+use Rattle.mime.proofs.StopsLemmas.{are_token_bytes}
+use Rattle.mime.proofs.ScanLemmas.Passing.{passing_skip, reaches_then, reaches_next, gives_at, reaches_wider}
 use Rattle.mime_search.proofs.Masks.{known-none, known-few, known-some}
 use Rattle.mime.proofs.scan.reader.ByteReader.known_stop.Goals as goal
 

@@ -1,7 +1,10 @@
 -- The name of the first pair that is left is accepted, or the key finds what it does in the others.
 use Rattle.std.proofs.Common.{◌≡◌, ◌∙◌, ◌-◌, true, sym, subst, true≢false, rules}
-use Rattle.mime.specs.{Inner.Pairs.PairCut, Inner.Pairs.cut_of, Inner.Pairs.pairs_within, Items.items_of, Items.IsFirstAccepted, Inner.KeptText.AreLowPairs}
-use Rattle.mime.proofs.{ValueLemmas.Parts.first_value-found, ValueLemmas.Pairs.cut_of-part, ValueLemmas.Pairs.cut_of-name, ValueLemmas.Pairs.found-next, ValueLemmas.Pairs.pairs_within-first}
+use Rattle.mime.specs.Inner.Pairs.{PairCut, cut_of, pairs_within}
+use Rattle.mime.specs.Items.{items_of, IsFirstAccepted}
+use Rattle.mime.specs.Inner.KeptText.{AreLowPairs}
+use Rattle.mime.proofs.ValueLemmas.Parts.{first_value-found}
+use Rattle.mime.proofs.ValueLemmas.Pairs.{cut_of-part, cut_of-name, found-next, pairs_within-first}
 use Rattle.mime.proofs.value.pairs.Pairs.first_accepted.Goals as goal
 
 pub returns-then-first : goal.returns-then-first

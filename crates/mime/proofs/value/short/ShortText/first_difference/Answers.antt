@@ -1,6 +1,7 @@
 -- Zeros follow both texts, so if these are the same, all bytes are.
 use Rattle.std.proofs.Common.{arith, length, slice_index, ◌≡◌, rules}
-use Rattle.mime.specs.{contracts.value.short.ShortText.the_view, contracts.value.short.ShortText.the_invariant, declared.value.short.ShortText.TheInside.Inside}
+use Rattle.mime.specs.contracts.value.short.ShortText.{the_view, the_invariant}
+use Rattle.mime.specs.declared.value.short.ShortText.TheInside.{Inside}
 use Rattle.mime.proofs.ValueLemmas.Zeros.{zeros-same}
 use Rattle.mime.proofs.value.short.ShortText.first_difference.Goals as goal
 
