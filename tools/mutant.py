@@ -1,4 +1,4 @@
-"""A mutant: a wrong change, as tools/mutants/ or must-fail/ has it, where its texts are, and its twin. tools/mutation_test tries mutants."""
+"""A mutant: a wrong change, as a file of tools/mutants/ or must-fail/ has it. tools/mutation_test tries mutants."""
 
 import os
 import re
@@ -50,10 +50,16 @@ class Mutant:
         self.texts = texts
 
     def needs(self):
-        """The crates that are proved before it is tried, or `rt ci`, if it takes what that builds."""
+        """What has to be there before it is tried: `rt ci` stands for what that builds, `a` for the library a, and `proof of a` for what
+        a check of the crate a keeps, so that a later check proves only what the mutant changes."""
         if self.kind == "tool" and not self.crate:
             return set() if NEEDS_NOTHING.match(self.asked) else {"rt ci"}
-        return {*below(self.crate)[: -1 if self.kind == "fact" else None]} if self.kind in ("clause", "fact", "tool") else set()
+        if self.kind in ("test", "row"):
+            return set()
+        *libraries, own = below(self.crate)
+        changed_crates = {change.path.split("/")[1] for change in self.changes if change.path.startswith("crates/")}
+        proofs = {crate for crate in libraries if self.kind == "tool" and changed_crates & {*below(crate)}}
+        return {*libraries, *(f"proof of {crate}" for crate in proofs | {own} if self.kind != "fact")}
 
     def fits(self, other):
         """Whether it is tried in the same copy as another one, where what is said must tell them apart."""
@@ -179,7 +185,7 @@ def changed(text, changes):
 
 
 def mutants(words):
-    """The mutants with one of the words, and what is wrong with those that can't be read. A file that git has and that is lost is an error."""
+    """The mutants with one of the words, and what is wrong with those that no longer apply. It is an error if a file is lost."""
     files = run_ok("git", "ls-files", "-co", "--exclude-standard", "crates/*/must-fail/*", "tools/mutants").split()
     found, wrong = [], []
     for path, block in ((path, block) for path in sorted(files) for block in re.split(r"\n\n+", text_of(path).strip("\n"))):
