@@ -70,11 +70,18 @@ IMAGES = ", ".join(f"application/vnd.{it}+json" for it in ("docker.distribution.
                                                            "oci.image.manifest.v1", "oci.image.index.v1"))
 
 
+# What jQuery sends for JSON, Chrome with a form's upload, and Java's servlets for a page.
+JQUERY = "application/json, text/javascript, */*; q=0.01"
+UPLOAD = "multipart/form-data; boundary=----WebKitFormBoundary7MA4YWxkTrZu0gW"
+PAGE = "text/html;charset=UTF-8"
+
+
 def strings():
     two = "multipart/form-data; charset=BASE64; boundary=ABCDEFG"
     hundred = "text/plain" + "".join(f"; name{it:05}=value{it:05}" for it in range(100))
     for text in ("text/plain", "text/plain; charset=utf-8", two, "*/*"):
         yield Row(text, "read", text)
+    yield Row(PAGE, "read", PAGE, most=370)
     yield Row("a hundred parameters, 2,110 bytes", "read", hundred)
     yield Row("rejected: text/pl(in", "read", "text/pl(in")
     yield Row("rejected: text( and 59 bytes", "read", f"text({'z' * 59}", most=125)
@@ -93,6 +100,9 @@ URL = "https://example.com/schemas/2024/customers/orders/invoices?version=2&form
 NAME, MARKED = "Quarterly report for the board, third quarter (final v2).pdf", "=_Part_0123456789_abcdefghijklmnopqrstuvwxyz_0123456789_ABCDEFGHIJKLM?"
 
 
+VERSIONED = 'application/json; version=1; charset=utf-8; profile=".."'
+
+
 def profiles(letters):
     """Media types as of JSON-LD, whose long profiles differ only in their last byte."""
     return [f'application/ld+json; profile="https://www.w3.org/ns/activitystream{it}"' for it in letters]
@@ -106,6 +116,9 @@ def others():
               most=340)
     for label, spaces, most in (("a space", 1, 450), ("2 KB of spaces", 2_048, 5_500)):
         yield Row(f"content_type of an open string and {label}", "field", f'text/html; charset="utf-8{" " * spaces}', most=most)
+    yield Row("content_type of a form's upload, 68 bytes", "field", UPLOAD, most=740)
+    yield Row("Accept of jQuery, and the best of four offers", "negotiate", JQUERY, "\n".join(OFFERS), most=2_050)
+    yield Row("covers: another version, and two more parameters", "covers", "application/json; version=2", VERSIONED)
     yield Row("covers: profiles that differ at the end", "covers", *profiles("sz"), most=520)
     yield Row("best of three such ranges and three such offers", "best", ", ".join(profiles("abc")), "\n".join(profiles("xyz")), most=4_700)
     yield Row("equality of text/html; charset=utf-8 and text/html", "eq", *map(sixteen, ("text/html; charset=utf-8", "text/html")), most=16)
