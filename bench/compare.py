@@ -26,8 +26,13 @@ def once(top, crate, words):
     given = words[-1][1:] if words[-1].startswith("<") else os.devnull
     with open(f"{top}/bench/{given}" if given != os.devnull else given, "rb") as file:
         began = time.perf_counter()
-        ended = subprocess.run([f"{top}/crates/{crate}/out/{crate}", *(it for it in words if it[0] != "<")], stdin=file,
-                               stdout=subprocess.PIPE, cwd=f"{top}/bench", check=True)
+        ended = subprocess.run(
+            [f"{top}/crates/{crate}/out/{crate}", *(it for it in words if it[0] != "<")],
+            stdin=file,
+            stdout=subprocess.PIPE,
+            cwd=f"{top}/bench",
+            check=True,
+        )
         return time.perf_counter() - began, ended.stdout
 
 

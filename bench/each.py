@@ -32,18 +32,36 @@ def beside(texts, other=""):
 CALLS = [
     ("Mime::from_str", "read", beside(TEXTS)),
     ("content_type", "field", beside(TEXTS)),
-    *((f"get_param of {it}", f"look_up_{operation}", beside(VALUES)) for it, operation in
-      (('"charset"', "charset_str"), ('"level"', "missing"), ("CHARSET", "charset"), ("BOUNDARY", "boundary"))),
-    *((label, operation, beside(VALUES)) for label, operation in
-      (("params", "walk"), ("type, subtype, suffix", "parts"), ("essence_str, ==", "essence"), ("hash", "hash"), ("clone", "clone"),
-       ("print", "print"), ("boundary", "boundary"), ("with_charset", "write_charset"), ("with_boundary", "write_boundary"),
-       ("with_parameter", "write_name"))),
+    *(
+        (f"get_param of {it}", f"look_up_{operation}", beside(VALUES))
+        for it, operation in (('"charset"', "charset_str"), ('"level"', "missing"), ("CHARSET", "charset"), ("BOUNDARY", "boundary"))
+    ),
+    *(
+        (label, operation, beside(VALUES))
+        for label, operation in (
+            ("params", "walk"),
+            ("type, subtype, suffix", "parts"),
+            ("essence_str, ==", "essence"),
+            ("hash", "hash"),
+            ("clone", "clone"),
+            ("print", "print"),
+            ("boundary", "boundary"),
+            ("with_charset", "write_charset"),
+            ("with_boundary", "write_boundary"),
+            ("with_parameter", "write_name"),
+        )
+    ),
     ("with_parameter of long values", "write_parameter", [(it, mime) for it in (URL, NAME, MARKED) for mime in VALUES]),
     ("covers", "covers", beside(VALUES, VALUES) + beside(VALUES, NEXT) + PROFILES),
-    *((f"{label} {what}", operation, pairs)
-      for label, operation in (("==", "eq"), ("mime_eq_str", "eq_str"), ("cmp", "cmp"), ("mime_equal", "call_equal"))
-      for what, pairs in (("of equal ones", beside(VALUES, VALUES)), ("of each and the next", beside(VALUES, NEXT)),
-                          ("of each and its essence", ESSENCES))),
+    *(
+        (f"{label} {what}", operation, pairs)
+        for label, operation in (("==", "eq"), ("mime_eq_str", "eq_str"), ("cmp", "cmp"), ("mime_equal", "call_equal"))
+        for what, pairs in (
+            ("of equal ones", beside(VALUES, VALUES)),
+            ("of each and the next", beside(VALUES, NEXT)),
+            ("of each and its essence", ESSENCES),
+        )
+    ),
     ("unescape", "unescape", beside(PARAMETERS)),
     ("MimeIter", "items", beside(TEXTS)),
     ("Accept::from_lines", "accept", beside(HEADERS)),
@@ -64,8 +82,13 @@ CALLS = [
 
 
 # The function of mime_bench that makes an operation, if it hasn't its name, or has types in it.
-MADE_BY = {"boundary": "meant_boundary", "weight_of": "weight", "covers": "cover", "hash": "hash::*",
-           **dict.fromkeys("unescape accept best order rank weight write_charset write_boundary write_name".split(), "one")}
+MADE_BY = {
+    "boundary": "meant_boundary",
+    "weight_of": "weight",
+    "covers": "cover",
+    "hash": "hash::*",
+    **dict.fromkeys("unescape accept best order rank weight write_charset write_boundary write_name".split(), "one"),
+}
 
 
 def counted(driver, label, operation, pairs):
@@ -87,8 +110,10 @@ def line(label, found):
     """A line of the table, of the ratios with their counts and strings."""
     ratios, dearer = [it[0] for it in found], sum(here > max(MORE * start, start + LEAST - 1e-6) for _, here, start, _ in found)
     cuts, (worst, here, start, text) = quantiles(ratios, n=10, method="inclusive"), max(found)
-    return (f"{label:<36}{len(found):>7,}{cuts[4]:>8.2f}{cuts[8]:>7.2f}{worst:>7.2f}{here:>9,.1f}{start:>9,.1f}{dearer:>8,}"
-            f"{sum(it > 1.5 for it in ratios):>6,}  {text[:38]}".rstrip())
+    return (
+        f"{label:<36}{len(found):>7,}{cuts[4]:>8.2f}{cuts[8]:>7.2f}{worst:>7.2f}{here:>9,.1f}{start:>9,.1f}{dearer:>8,}"
+        f"{sum(it > 1.5 for it in ratios):>6,}  {text[:38]}".rstrip()
+    )
 
 
 def each(here, start, missing):

@@ -26,9 +26,9 @@ OFFERS = ("text/html; charset=utf-8", "application/json", "image/webp", "text/pl
 
 def values():
     yield Row("read", "read", TEXT, most=450)
-    yield Row("read, then look up \"charset\"", "read_and_look_up", TEXT)
-    yield Row("look up \"charset\"", "look_up_charset_str", TEXT)
-    yield Row("look up \"level\", which none has", "look_up_missing", TEXT)
+    yield Row('read, then look up "charset"', "read_and_look_up", TEXT)
+    yield Row('look up "charset"', "look_up_charset_str", TEXT)
+    yield Row('look up "level", which none has', "look_up_missing", TEXT)
     yield Row("look up CHARSET", "look_up_charset", TEXT)
     yield Row("look up BOUNDARY", "look_up_boundary", TEXT)
     yield Row("walk the parameters", "walk", TEXT)
@@ -66,8 +66,10 @@ def lists():
 
 # What a browser's Accept header and that of a client for images of containers are.
 BROWSER = "text/html,application/xhtml+xml,application/xml;q=0.9,image/avif,image/webp,*/*;q=0.8"
-IMAGES = ", ".join(f"application/vnd.{it}+json" for it in ("docker.distribution.manifest.v2", "docker.distribution.manifest.list.v2",
-                                                           "oci.image.manifest.v1", "oci.image.index.v1"))
+IMAGES = ", ".join(
+    f"application/vnd.{it}+json"
+    for it in ("docker.distribution.manifest.v2", "docker.distribution.manifest.list.v2", "oci.image.manifest.v1", "oci.image.index.v1")
+)
 
 
 # What jQuery sends for JSON, Chrome with a form's upload, and Java's servlets for a page.
@@ -85,8 +87,8 @@ def strings():
     yield Row("a hundred parameters, 2,110 bytes", "read", hundred)
     yield Row("rejected: text/pl(in", "read", "text/pl(in")
     yield Row("rejected: text( and 59 bytes", "read", f"text({'z' * 59}", most=125)
-    yield Row("rejected: a/b;p=\"x\" and 24 bytes", "read", f"a/b;p=\"x\"{'z' * 24}")
-    yield Row("rejected: a/b;p=\"x, which isn't closed", "read", "a/b;p=\"x")
+    yield Row('rejected: a/b;p="x" and 24 bytes', "read", f"a/b;p=\"x\"{'z' * 24}")
+    yield Row("rejected: a/b;p=\"x, which isn't closed", "read", 'a/b;p="x')
     yield Row("rejected: a browser's Accept header", "read", BROWSER, most=215)
 
 
@@ -97,7 +99,10 @@ def sixteen(text):
 
 # Values of parameters that browsers, mail programs and JSON-LD clients send, and that need quotes.
 URL = "https://example.com/schemas/2024/customers/orders/invoices?version=2&format=full"
-NAME, MARKED = "Quarterly report for the board, third quarter (final v2).pdf", "=_Part_0123456789_abcdefghijklmnopqrstuvwxyz_0123456789_ABCDEFGHIJKLM?"
+NAME, MARKED = (
+    "Quarterly report for the board, third quarter (final v2).pdf",
+    "=_Part_0123456789_abcdefghijklmnopqrstuvwxyz_0123456789_ABCDEFGHIJKLM?",
+)
 
 
 VERSIONED = 'application/json; version=1; charset=utf-8; profile=".."'
@@ -112,8 +117,7 @@ def others():
     yield Row("content_type of a space", "field", " ", most=250)
     yield Row("content_type of text", "field", "text", most=225)
     yield Row("content_type of text/html ; charset=utf-8", "field", "text/html ; charset=utf-8", differs=True)
-    yield Row("content_type of application/json, application/json", "field", "application/json, application/json",
-              most=340)
+    yield Row("content_type of application/json, application/json", "field", "application/json, application/json", most=340)
     for label, spaces, most in (("a space", 1, 450), ("2 KB of spaces", 2_048, 5_500)):
         yield Row(f"content_type of an open string and {label}", "field", f'text/html; charset="utf-8{" " * spaces}', most=most)
     yield Row("content_type of a form's upload, 68 bytes", "field", UPLOAD, most=740)
@@ -122,14 +126,18 @@ def others():
     yield Row("covers: profiles that differ at the end", "covers", *profiles("sz"), most=520)
     yield Row("best of three such ranges and three such offers", "best", ", ".join(profiles("abc")), "\n".join(profiles("xyz")), most=4_700)
     yield Row("equality of text/html; charset=utf-8 and text/html", "eq", *map(sixteen, ("text/html; charset=utf-8", "text/html")), most=16)
-    for label, text, most in (("x", "x" * 2_048, 1_600), ("\\\"-", '\\"-' * 683, 12_000)):
+    for label, text, most in (("x", "x" * 2_048, 1_600), ('\\"-', '\\"-' * 683, 12_000)):
         yield Row(f"covers: a/b;p=1 and 2 KB of {label}", "covers", "a/b;p=1", f'a/b;charset="{text}"', most=most)
-    yield Row("equality of charset=utf-8 and \"charset=UTF-8\"", "eq_str", "text/plain; charset=utf-8", "text/plain; charset=UTF-8")
-    yield Row("equality of charset=utf-8 and \"charset=us-ascii\"", "eq_str", "text/plain; charset=utf-8", "text/plain; charset=us-ascii",
-              differs=True)
-    yield Row("equality of a/b; p=x; q=y and \"a/b;p=x;q=y\"", "eq_str", "a/b; p=x; q=y", "a/b;p=x;q=y")
-    yield Row("equality with a string rejected late, 2 KB", "eq_str", "a/b; p=\"x\"", f"a/b;p=\"x\";{'(' * 2_038}",
-              differs=True)
+    yield Row('equality of charset=utf-8 and "charset=UTF-8"', "eq_str", "text/plain; charset=utf-8", "text/plain; charset=UTF-8")
+    yield Row(
+        'equality of charset=utf-8 and "charset=us-ascii"',
+        "eq_str",
+        "text/plain; charset=utf-8",
+        "text/plain; charset=us-ascii",
+        differs=True,
+    )
+    yield Row('equality of a/b; p=x; q=y and "a/b;p=x;q=y"', "eq_str", "a/b; p=x; q=y", "a/b;p=x;q=y")
+    yield Row("equality with a string rejected late, 2 KB", "eq_str", 'a/b; p="x"', f"a/b;p=\"x\";{'(' * 2_038}", differs=True)
     yield Row("hash of text/html", "hash", "text/html")
     yield Row("walk the parameters of text/html", "walk", "text/html")
     yield Row("MimeIter: */*", "items", "*/*")
@@ -137,11 +145,25 @@ def others():
 
 
 # The other side rejects these, or takes them for other things.
-OTHERWISE = ("read: pairs \\\"", "walk: pairs \\\"", "read: pairs \\\"a", "walk: pairs \\\"a", "hash: pairs \\\"a",
-             "order: pairs \\\"a", "order: parameters, a tab before each", "with_parameter: quotes", "with_parameter: quotes \"a",
-             "with_parameter: a token",
-             "mime_list: */ over and over", "mime_list: a type of +", "list: semicolons", "content_type: semicolons", "content_type: spaces",
-             "content_type: tabs at the end", "content_type: parameters ;p=1 after spaces")
+OTHERWISE = (
+    'read: pairs \\"',
+    'walk: pairs \\"',
+    'read: pairs \\"a',
+    'walk: pairs \\"a',
+    'hash: pairs \\"a',
+    'order: pairs \\"a',
+    "order: parameters, a tab before each",
+    "with_parameter: quotes",
+    'with_parameter: quotes "a',
+    "with_parameter: a token",
+    "mime_list: */ over and over",
+    "mime_list: a type of +",
+    "list: semicolons",
+    "content_type: semicolons",
+    "content_type: spaces",
+    "content_type: tabs at the end",
+    "content_type: parameters ;p=1 after spaces",
+)
 
 
 def long(label, operation, make, other="", most=None):
@@ -159,10 +181,14 @@ def single_pairs(length):
 
 def texts():
     """A value that ends, or goes on, only after 64 KB."""
-    kinds = (("pairs \\\"", lambda n: 'a/b;p="' + '\\"' * (n // 2) + '"'), ("pairs \\\\", lambda n: 'a/b;p="' + "\\\\" * (n // 2) + '"'),
-             ("pairs \\\"a", single_pairs), ("spaces", lambda n: "a/b;" + " " * n + "p=x"),
-             ("parameters ;p=x", lambda n: "a/b" + ";p=x" * (n // 4)))
-    for operation, what in (("read", "read"), ("look_up_missing", "look up \"level\""), ("walk", "walk")):
+    kinds = (
+        ('pairs \\"', lambda n: 'a/b;p="' + '\\"' * (n // 2) + '"'),
+        ("pairs \\\\", lambda n: 'a/b;p="' + "\\\\" * (n // 2) + '"'),
+        ('pairs \\"a', single_pairs),
+        ("spaces", lambda n: "a/b;" + " " * n + "p=x"),
+        ("parameters ;p=x", lambda n: "a/b" + ";p=x" * (n // 4)),
+    )
+    for operation, what in (("read", "read"), ("look_up_missing", 'look up "level"'), ("walk", "walk")):
         for label, make in kinds:
             yield long(f"{what}: {label}", operation, make)
     yield long("read: a subtype", "read", lambda n: "a/" + "x" * n)
@@ -171,27 +197,41 @@ def texts():
     yield long("list: a type of +", "items", lambda n: "+" * n + "/b", most=8.5)
     yield long("list: a subtype of +", "items", lambda n: "a/" + "+" * n, most=9)
     yield long("list: a subtype of +a", "items", lambda n: "a/" + "+a" * (n // 2), most=9.5)
-    yield long("hash: pairs \\\"a", "hash", single_pairs, most=6)
-    yield long("order: pairs \\\"a", "cmp", single_pairs, single_pairs(65_536) + "y", most=12)
+    yield long('hash: pairs \\"a', "hash", single_pairs, most=6)
+    yield long('order: pairs \\"a', "cmp", single_pairs, single_pairs(65_536) + "y", most=12)
     yield long("order: parameters, a tab before each", "cmp", with_tabs, with_tabs(65_536) + ";p=x")
-    for label, make, most in (("quotes", lambda n: '"' * n, 56), ("quotes \"a", lambda n: '"a' * (n // 2), 44.5),
-                              ("a token", lambda n: "x" * n, 2), ("a token but for its end", lambda n: "x" * n + "?", 3)):
+    for label, make, most in (
+        ("quotes", lambda n: '"' * n, 56),
+        ('quotes "a', lambda n: '"a' * (n // 2), 44.5),
+        ("a token", lambda n: "x" * n, 2),
+        ("a token but for its end", lambda n: "x" * n + "?", 3),
+    ):
         yield long(f"with_parameter: {label}", "write_parameter", make, "a/b", most=most)
     yield long("unescape: a plain value after a pair", "unescape", lambda n: '\\"' + "x" * n, most=8.3)
     yield long("mime_list: */ over and over", "call_items", lambda n: "*/" * (n // 2))
-    yield long("mime_unescape: pairs \\\"", "call_unescape", lambda n: '\\"' * (n // 2))
+    yield long('mime_unescape: pairs \\"', "call_unescape", lambda n: '\\"' * (n // 2))
     yield long("mime_unescape: a plain value", "call_unescape", lambda n: "x" * n, most=1.5)
     yield long("mime_list: a type of +", "call_items", lambda n: "+" * n + "/b", most=8.5)
     yield long("mime_list: é", "call_items", lambda n: "é" * (n // 2))
     yield long("mime_read: a type of rare token bytes", "call_read", lambda n: "!#$%&'*+^_`|~" * (n // 13) + "/b")
-    for label, make in (("quotes", lambda n: '"' * n), ("commas", lambda n: "," * n), ("semicolons", lambda n: "a/b" + ";" * n),
-                        ("spaces", lambda n: "a/b," + " " * n + "c/d"), ("backslashes", lambda n: 'a/b;p="' + "\\" * n)):
+    for label, make in (
+        ("quotes", lambda n: '"' * n),
+        ("commas", lambda n: "," * n),
+        ("semicolons", lambda n: "a/b" + ";" * n),
+        ("spaces", lambda n: "a/b," + " " * n + "c/d"),
+        ("backslashes", lambda n: 'a/b;p="' + "\\" * n),
+    ):
         yield long(f"list: {label}", "items", make)
         yield long(f"Accept and best: {label}", "negotiate", make, "\n".join(OFFERS))
-    for label, make in (("quotes", lambda n: "a/b" + ';p="x"' * (n // 6)), ("commas", lambda n: 'a/b;p="' + "," * n + '"'),
-                        ("semicolons", lambda n: "a/b" + ";" * n + "p=x"), ("spaces", lambda n: "a/b" + " " * n + ";p=x"),
-                        ("backslashes", lambda n: 'a/b;p="' + "\\" * n + '"'), ("tabs at the end", lambda n: " a/b" + "\t" * n),
-                        ("parameters ;p=1 after spaces", lambda n: "a/b" + " ;p=1" * (n // 5))):
+    for label, make in (
+        ("quotes", lambda n: "a/b" + ';p="x"' * (n // 6)),
+        ("commas", lambda n: 'a/b;p="' + "," * n + '"'),
+        ("semicolons", lambda n: "a/b" + ";" * n + "p=x"),
+        ("spaces", lambda n: "a/b" + " " * n + ";p=x"),
+        ("backslashes", lambda n: 'a/b;p="' + "\\" * n + '"'),
+        ("tabs at the end", lambda n: " a/b" + "\t" * n),
+        ("parameters ;p=1 after spaces", lambda n: "a/b" + " ;p=1" * (n // 5)),
+    ):
         yield long(f"content_type: {label}", "field", make)
 
 
@@ -204,9 +244,12 @@ def calls():
     yield Row("mime_best, of an Accept header and four offers", "call_best", HEADERS, ", ".join(OFFERS))
     yield Row("mime_order, of the same", "call_order", HEADERS, ", ".join(OFFERS), differs=True)
     yield Row("mime_boundary", "call_boundary", TEXT)
-    for label, text, added, most in (("a charset", TEXT, "charset\nutf-8", None), ("a URL", "application/ld+json", f"profile\n{URL}", 1_450),
-                                     ("a file name", "application/pdf", f"name\n{NAME}", 1_290),
-                                     ("a boundary that ends in ?", "multipart/mixed", f"boundary\n{MARKED}", 1_460)):
+    for label, text, added, most in (
+        ("a charset", TEXT, "charset\nutf-8", None),
+        ("a URL", "application/ld+json", f"profile\n{URL}", 1_450),
+        ("a file name", "application/pdf", f"name\n{NAME}", 1_290),
+        ("a boundary that ends in ?", "multipart/mixed", f"boundary\n{MARKED}", 1_460),
+    ):
         yield Row(f"mime_set_parameter, {label}", "call_set_parameter", text, added, most, differs=True)
 
 
@@ -221,7 +264,21 @@ GROUPS = {
 }
 
 # What `bench/run --check` counts: few rows, in one of which a slip of layout or inlining shows.
-CHECKED = (*(it.label for it in values()), "content_type, essence, CHARSET, boundary", "its media types",
-           "Accept, and the best of four offers", "text/plain", "text/plain; charset=utf-8", "*/*", "rejected: text/pl(in",
-           "rejected: a browser's Accept header", "content_type of text", "hash of text/html", "read: a subtype", "with_parameter: quotes",
-           "mime_read", "mime_content_type", "mime_best, of an Accept header and four offers")
+CHECKED = (
+    *(it.label for it in values()),
+    "content_type, essence, CHARSET, boundary",
+    "its media types",
+    "Accept, and the best of four offers",
+    "text/plain",
+    "text/plain; charset=utf-8",
+    "*/*",
+    "rejected: text/pl(in",
+    "rejected: a browser's Accept header",
+    "content_type of text",
+    "hash of text/html",
+    "read: a subtype",
+    "with_parameter: quotes",
+    "mime_read",
+    "mime_content_type",
+    "mime_best, of an Accept header and four offers",
+)

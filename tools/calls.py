@@ -19,9 +19,39 @@ MODEL = SimpleNamespace(**runpy.run_path(f"{TOP}/vectors/http_model"))
 OK, _, MISSING_SUBTYPE, _, _, _, INVALID_BYTE, NO_MEMORY, NOT_UTF8, _, NOT_ACCEPTABLE, BAD_OFFER, NO_BOUNDARY, BAD_PARAMETER = range(14)
 OFFERS = ["text/html", "image/svg+xml;p=x", "a/b", "text/html"]
 # What the texts near the grammar are made of.
-PIECES = ["a", "text", "/", "/", ";", ";", "; ", "=", "=", '"', '"', "\\", "+", ",", "*/*", "a/b", "text/html;q=0.5", " ",
-          "\t", "charset", "UTF-8", "Q", "multipart/mixed;boundary=", "\xc3\xa9", "\xff", "(", "\x7f", 'p="x y"',
-          "image/SVG+xml", "text/of-40-bytes-which-ask-for-no-memory", "text/of-41-bytes-which-do-ask-for-memory1"]
+PIECES = [
+    "a",
+    "text",
+    "/",
+    "/",
+    ";",
+    ";",
+    "; ",
+    "=",
+    "=",
+    '"',
+    '"',
+    "\\",
+    "+",
+    ",",
+    "*/*",
+    "a/b",
+    "text/html;q=0.5",
+    " ",
+    "\t",
+    "charset",
+    "UTF-8",
+    "Q",
+    "multipart/mixed;boundary=",
+    "\xc3\xa9",
+    "\xff",
+    "(",
+    "\x7f",
+    'p="x y"',
+    "image/SVG+xml",
+    "text/of-40-bytes-which-ask-for-no-memory",
+    "text/of-41-bytes-which-do-ask-for-memory1",
+]
 # The numbers that tools/calls.c gives for a call, the last of which counts the bytes that it gives then; and those as strings, too.
 NUMBERS = struct.Struct("14N")
 Given = namedtuple("Given", "answer length params printed slash subtype_end pos byte requests largest blocks held stack written strings")
@@ -68,9 +98,13 @@ def check_read(text):
     is_read = it.answer == OK
     asked = int(is_read and len(it.strings[-1]) > SHORT)
     assert it.answer <= NOT_UTF8 and it.answer != NO_MEMORY and it.requests == asked and it.largest <= len(text)
-    rows = [(text, text, it.answer, is_read, 2 * asked), ("*/*", text, it.answer, it.strings == ["*/*"] * 2, asked),
-            (text, "a/", MISSING_SUBTYPE if is_read else it.answer, 0, asked), ("a/", text, MISSING_SUBTYPE, 0, 0),
-            *((text, printed, OK, 1, 2 * asked) for printed in it.strings[-1:])]
+    rows = [
+        (text, text, it.answer, is_read, 2 * asked),
+        ("*/*", text, it.answer, it.strings == ["*/*"] * 2, asked),
+        (text, "a/", MISSING_SUBTYPE if is_read else it.answer, 0, asked),
+        ("a/", text, MISSING_SUBTYPE, 0, 0),
+        *((text, printed, OK, 1, 2 * asked) for printed in it.strings[-1:]),
+    ]
     for one, other, *wanted in rows:
         equal = yield call("equal", one, other)
         assert [equal.answer, equal.length, equal.requests] == wanted and equal.blocks <= 2 and equal.largest <= len(text)

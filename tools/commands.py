@@ -231,6 +231,7 @@ def link_or_copy(file, copied):
 def copy_built(top, to, crates):
     """Copies what was built of these crates below one folder to another. A file of a proof or a library only gets a second name, if it can,
     since rt replaces such a file and writes into none."""
+
     def copy(file, copied):
         is_replaced = file.endswith(".oantt") or "/out/rlib/" in file
         return link_or_copy(file, copied) if is_replaced else shutil.copy2(file, copied)
@@ -342,8 +343,10 @@ def program(crate, kind=""):
     is_current = lambda: os.path.exists(made) and mark.exists() and mark.read_text("utf-8") == marked()
     if is_current():
         return made
-    say(f"{crate}: `{command}` proves and builds the program, and the libraries {' '.join(below(crate)[:-1])}, as far as they aren't up to "
-        "date. This may take some minutes, 2 GB of disk and 2.4 GB of memory for each of up to four processes.")
+    say(
+        f"{crate}: `{command}` proves and builds the program, and the libraries {' '.join(below(crate)[:-1])}, as far as they aren't up to "
+        "date. This may take some minutes, 2 GB of disk and 2.4 GB of memory for each of up to four processes."
+    )
     if not (version := run_ok("rt", "version").strip()).endswith(LOGIC):
         say(f"{crate}: made for the logic {LOGIC}; the command rt here is of '{version}', and may not be able to build it")
     write(began, "")
