@@ -56,6 +56,40 @@ lowered_first-start list cut lies low =
           (omega (arith, is, lies.value_start)) ∙ simp append_assoc
     ]
 
+-- A text with one pair is lowercased up to its value, and with it under `charset`.
+one_pair : (text : List ℕ) (semicolon low : ℕ) → let list = drop (semicolon + 1) text in let cut = cut_before 0 list in
+    low ≡ cond (is_charset cut.name) (length cut.value) 0 → let k = semicolon + 1 + cut.value_start + low in
+    with_pairs_lowered 1 semicolon text ≡ lowered (take k text) ++ drop k text
+one_pair text semicolon low is =
+    let list = drop (semicolon + 1) text in
+    let cut = cut_before 0 list in
+    let lies = cut_before-lies 0 list in
+    let j = cut.value_start + low in
+    let same : semicolon + 1 + cut.value_start + low ≡ semicolon + 1 + j = omega arith in
+    let start = take (semicolon + 1) text in
+    let first : lowered_within 1 list ≡ lowered (take j list) ++ drop j list =
+    lowered_within-first 0 list lies ∙ sym (lowered_first-start list cut lies low is) in
+    ap (λ x. lowered start ++ x) first ∙ sym (append_assoc (lowered start) _ (drop j list))
+    ∙ ap (λ x. x ++ drop j list) (sym (lowered-append start (take j list)))
+    ∙ sym (ap (λ k. lowered (take k text) ++ drop k text) same
+    ∙ rw (take-add (semicolon + 1) j text, ← drop-drop j (semicolon + 1) text) refl)
+
+-- The same, of a pair that was cut.
+pub one_pair-start : (text list : List ℕ) (semicolon start low : ℕ) → list ≡ drop (semicolon + 1) text
+    → start ≡ (cut_before 0 list).value_start
+    → low ≡ cond (is_charset (cut_before 0 list).name) (length (cut_before 0 list).value) 0
+    → let k = semicolon + 1 + start + low in with_pairs_lowered 1 semicolon text ≡ lowered (take k text) ++ drop k text
+one_pair-start text list semicolon start low lists starts is = grind (arith, common_steps, lists, starts, one_pair text semicolon low)
+
+-- Lowercasing changes nothing before a position if there is no capital before a later one.
+pub low_start : (text : List ℕ) (end capital : ℕ) → end ≤ capital → lowered (take capital text) ≡ take capital text
+    → lowered (take end text) ++ drop end text ≡ text
+low_start text end capital before low =
+    let start : lowered (take end text) ≡ take end text =
+    ap lowered (sym (take-take end capital text before)) ∙ lowered-take end (take capital text) ∙ ap (take end) low
+    ∙ take-take end capital text before in
+    ap (λ x. x ++ drop end text) start ∙ take-append-drop end text
+
 -- the bytes are those that are done, those that are lowercased with the next pair, and the list that is left; with `count`
 -- pairs of the list lowercased they are the whole
 pub record IsLoweredTo (bytes left : List ℕ) (from count : ℕ) (whole : List ℕ) : Type 0 where

@@ -1,6 +1,7 @@
 //! Makes the kept text of an accepted string of more than `SHORT` bytes, with one allocation.
 
-ghost use Rattle.std.specs.Prelude.{◌≡◌, ◌+◌, ◌-◌, ◌++◌, ◌<◌, if◌then◌else◌, ◌≤◌, ◌↔◌, IsFalse, IfOk, take, drop, length, slice_get, slice_range, string_bytes};
+ghost use Rattle.std.specs.Prelude.{◌≡◌, ◌+◌, ◌-◌, ◌++◌, ◌<◌, if◌then◌else◌, ◌≤◌, ◌↔◌, IsFalse, IsTrue, IfOk, take, drop, length};
+ghost use Rattle.std.specs.Prelude.{slice_get, slice_range, string_bytes};
 ghost use Rattle.mime.specs.Bytes.{semicolon_byte};
 ghost use Rattle.mime.specs.Values.{lowered, is_charset};
 ghost use Rattle.mime.specs.Inner.Scanning.{HasPositions};
@@ -114,6 +115,58 @@ pub(crate) fn lowercase_text(bytes: &mut [u8], text: &str, semicolon: usize, cou
     }
 }
 
+/// Returns `true` if the only capitals of a string with one pair, after position `semicolon`, are in a value that keeps them, as in
+/// `multipart/form-data; boundary=X`.
+#[inline(always)]
+fn has_low_start(text: &str, semicolon: usize) -> bool
+    requires { slice_get text.now semicolon ≡ Some semicolon_byte }
+    ensures { IsTrue result → with_pairs_lowered 1 semicolon text.now ≡ text.now }
+{
+    let list = Rest::of(text, semicolon + 1);
+    let pair = cut_before(&list, 0);
+    let start = text.len() - list.len() + pair.value_start;
+    let end = start + low_len(pair.name, pair.value.len());
+    !has_capital(&text.as_bytes()[..end])
+}
+
+/// Returns a copy of a string with `count` pairs after position `semicolon`, with the parts in lowercase that ignore case.
+#[inline(always)]
+fn lowercased(
+    alloc: Global,
+    text: &str,
+    semicolon: usize,
+    count: usize,
+) -> Result<String, AllocError>
+    requires parted { slice_get text.now semicolon ≡ Some semicolon_byte }
+    requires some { 0 < count }
+    ensures { IfOk result (λ kept. string_bytes kept ≡ with_pairs_lowered count semicolon text.now) }
+{
+    let mut bytes = Vec::from_slice(alloc, text.as_bytes())?;
+    lowercase_text(&mut bytes, text, semicolon, count);
+    // SAFETY: these are the bytes of a `str` in which only ASCII capitals were lowercased, so they are valid UTF-8.
+    Ok(unsafe { String::from_utf8_unchecked(bytes) })
+}
+
+/// Returns the same as `keep_pairs`. This function isn't inlined: most strings have no capital.
+#[cold]
+#[inline(never)]
+fn keep_with_capitals(
+    alloc: Global,
+    text: &str,
+    semicolon: usize,
+    count: usize,
+) -> Result<String, AllocError>
+    requires parted { slice_get text.now semicolon ≡ Some semicolon_byte }
+    requires some { 0 < count }
+    ensures { IfOk result (λ kept. string_bytes kept ≡ with_pairs_lowered count semicolon text.now) }
+{
+    if count == 1 && has_low_start(text, semicolon) {
+        String::from_str(alloc, text)
+    } else {
+        lowercased(alloc, text, semicolon, count)
+    }
+}
+
 /// Returns the kept text of a string with `count` pairs after position `semicolon`. Only the parts that ignore case are lowercased.
 #[inline(always)]
 fn keep_pairs(
@@ -129,10 +182,7 @@ fn keep_pairs(
     if !has_capital(text.as_bytes()) {
         return String::from_str(alloc, text);
     }
-    let mut bytes = Vec::from_slice(alloc, text.as_bytes())?;
-    lowercase_text(&mut bytes, text, semicolon, count);
-    // SAFETY: these are the bytes of a `str` in which only ASCII capitals were lowercased, so they are valid UTF-8.
-    Ok(unsafe { String::from_utf8_unchecked(bytes) })
+    keep_with_capitals(alloc, text, semicolon, count)
 }
 
 /// Returns the positions of a string's parts in its kept text, which has no semicolon if there is no parameter.
