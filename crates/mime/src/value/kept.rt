@@ -36,30 +36,15 @@ fn has_capital_far(bytes: &[u8]) -> bool
     found
 }
 
-/// Returns a position before which there is no ASCII capital: the length if there is none at all, and the position of the first capital if
-/// there are at most 128 bytes.
-#[inline(always)]
-fn capital_from(bytes: &[u8]) -> usize
-    ensures within { result ≤ length bytes.now }
-    ensures before { lowered (take result bytes.now) ≡ take result bytes.now }
-    ensures none { lowered bytes.now ≡ bytes.now → result ≡ length bytes.now }
-{
-    if bytes.len() > 8 * BLOCK {
-        return if has_capital_far(bytes) {
-            0
-        } else {
-            bytes.len()
-        };
-    }
-    first_stop(bytes, 0, &CAPITALS)
-}
-
 /// Returns `true` if any of the bytes is an ASCII capital.
 #[inline(always)]
 pub(crate) fn has_capital(bytes: &[u8]) -> bool
     ensures { IsFalse result ↔ (lowered bytes.now ≡ bytes.now) }
 {
-    capital_from(bytes) < bytes.len()
+    if bytes.len() > 8 * BLOCK {
+        return has_capital_far(bytes);
+    }
+    first_stop(bytes, 0, &CAPITALS) < bytes.len()
 }
 
 /// Lowercases `bytes[from..to]`.
@@ -130,28 +115,56 @@ pub(crate) fn lowercase_text(bytes: &mut [u8], text: &str, semicolon: usize, cou
     }
 }
 
-/// Returns how many bytes at the start of a string are lowercased, if the string has one pair, after position `semicolon`. This function
-/// isn't inlined: most strings have no capital.
-#[cold]
-#[inline(never)]
-fn low_end(text: &str, semicolon: usize) -> usize
+/// Returns `true` if the only capitals of a string with one pair, after position `semicolon`, are in a value that keeps them, as in
+/// `multipart/form-data; boundary=X`.
+#[inline(always)]
+fn has_low_start(text: &str, semicolon: usize) -> bool
     requires { slice_get text.now semicolon ≡ Some semicolon_byte }
-    ensures { with_pairs_lowered 1 semicolon text.now ≡ lowered (take result text.now) ++ drop result text.now }
+    ensures { IsTrue result → with_pairs_lowered 1 semicolon text.now ≡ text.now }
 {
     let list = Rest::of(text, semicolon + 1);
     let pair = cut_before(&list, 0);
-    text.len() - list.len() + pair.value_start + low_len(pair.name, pair.value.len())
+    let start = text.len() - list.len() + pair.value_start;
+    let end = start + low_len(pair.name, pair.value.len());
+    !has_capital(&text.as_bytes()[..end])
 }
 
-/// Returns `true` if lowercasing changes no byte of a string with `count` pairs after position `semicolon`, as in
-/// `multipart/form-data; boundary=X`. Returns `false` if this isn't known.
+/// Returns a copy of a string with `count` pairs after position `semicolon`, with the parts in lowercase that ignore case.
 #[inline(always)]
-fn is_low(text: &str, semicolon: usize, count: usize) -> bool
+fn lowercased(
+    alloc: Global,
+    text: &str,
+    semicolon: usize,
+    count: usize,
+) -> Result<String, AllocError>
     requires parted { slice_get text.now semicolon ≡ Some semicolon_byte }
-    ensures { IsTrue result → with_pairs_lowered count semicolon text.now ≡ text.now }
+    requires some { 0 < count }
+    ensures { IfOk result (λ kept. string_bytes kept ≡ with_pairs_lowered count semicolon text.now) }
 {
-    let capital = capital_from(text.as_bytes());
-    capital == text.len() || (count == 1 && low_end(text, semicolon) <= capital)
+    let mut bytes = Vec::from_slice(alloc, text.as_bytes())?;
+    lowercase_text(&mut bytes, text, semicolon, count);
+    // SAFETY: these are the bytes of a `str` in which only ASCII capitals were lowercased, so they are valid UTF-8.
+    Ok(unsafe { String::from_utf8_unchecked(bytes) })
+}
+
+/// Returns the same as `keep_pairs`. This function isn't inlined: most strings have no capital.
+#[cold]
+#[inline(never)]
+fn keep_with_capitals(
+    alloc: Global,
+    text: &str,
+    semicolon: usize,
+    count: usize,
+) -> Result<String, AllocError>
+    requires parted { slice_get text.now semicolon ≡ Some semicolon_byte }
+    requires some { 0 < count }
+    ensures { IfOk result (λ kept. string_bytes kept ≡ with_pairs_lowered count semicolon text.now) }
+{
+    if count == 1 && has_low_start(text, semicolon) {
+        String::from_str(alloc, text)
+    } else {
+        lowercased(alloc, text, semicolon, count)
+    }
 }
 
 /// Returns the kept text of a string with `count` pairs after position `semicolon`. Only the parts that ignore case are lowercased.
@@ -166,13 +179,10 @@ fn keep_pairs(
     requires some { 0 < count }
     ensures { IfOk result (λ kept. string_bytes kept ≡ with_pairs_lowered count semicolon text.now) }
 {
-    if is_low(text, semicolon, count) {
+    if !has_capital(text.as_bytes()) {
         return String::from_str(alloc, text);
     }
-    let mut bytes = Vec::from_slice(alloc, text.as_bytes())?;
-    lowercase_text(&mut bytes, text, semicolon, count);
-    // SAFETY: these are the bytes of a `str` in which only ASCII capitals were lowercased, so they are valid UTF-8.
-    Ok(unsafe { String::from_utf8_unchecked(bytes) })
+    keep_with_capitals(alloc, text, semicolon, count)
 }
 
 /// Returns the positions of a string's parts in its kept text, which has no semicolon if there is no parameter.

@@ -3,10 +3,10 @@ use Rattle.std.proofs.Common.{Bool, false, true, ◌+◌, ◌-◌, ap, arith, dr
 use Rattle.std.proofs.lemmas.List.{drop-drop, length-take-le, take-append-drop, take_rest}
 use Rattle.std.specs.{Str.IsAscii, Bool.MatchBool}
 use Rattle.std.proofs.lemmas.Str.{IsAscii-append, IsAscii-drop}
-use Rattle.mime_search.proofs.text.is_ascii.Goals as goal
+use Rattle.mime_search.proofs.text.is_long_ascii.Goals as goal
 
 pub slice_bounds-is_ascii-end : goal.slice_bounds-is_ascii-end
-slice_bounds-is_ascii-end c = sym (length-take-le 64 c.args.bytes.now (omega (arith, c.if-len-le-QUICK.false)))
+slice_bounds-is_ascii-end c = sym (length-take-le 64 c.args.bytes.now (omega (arith, c.requires)))
 
 -- What a test says if it holds.
 if_true : (test : Bool) (P Q : Type 0) → test ≡ true → MatchBool test P Q → P
@@ -20,7 +20,7 @@ returns c = λ is.
     let first : IsAscii (take 64 bytes) = c.if-not-is_ascii.ensures.cases in
     let last : IsAscii (drop (n - 64) bytes) =
     subst IsAscii (take_rest bytes (n - 64)) (if_true _ _ _ is c.is_ascii-3.ensures.cases) in
-    let at : n - 64 + (128 - n) ≡ 64 = omega (arith, c.if-len-le-QUICK.false, c.if-len.false) in
+    let at : n - 64 + (128 - n) ≡ 64 = omega (arith, c.requires, c.if-len.false) in
     let rest : drop (128 - n) (drop (n - 64) bytes) ≡ drop 64 bytes =
     drop-drop (128 - n) (n - 64) bytes ∙ ap (λ k. drop k bytes) at in
     subst IsAscii (take-append-drop 64 bytes) (IsAscii-append _ _ first (subst IsAscii rest (IsAscii-drop _ (128 - n) last)))
