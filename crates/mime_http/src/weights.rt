@@ -89,12 +89,18 @@ fn first_weight(parameters: &[u8]) -> Option<&[u8]>
     }
 }
 
-/// Returns the weight in thousandths if a range's only parameter is a weight of digits and dots: 500 for `;q=0.5`. `parameters` is the text
-/// of the parameters, with the semicolon before them.
+/// The length of the parameters `; q=0.001`, in bytes. Few parameters that are only a weight are longer.
+const LONGEST: usize = 9;
+
+/// Returns the weight in thousandths if a range's only parameter is a weight of digits and dots: 500 for `;q=0.5`. Returns `None` for
+/// longer parameters. `parameters` is the text of the parameters, with the semicolon before them.
 #[inline(always)]
 pub(crate) fn lone_weight(parameters: &[u8]) -> Option<u16>
     ensures { IfSome result (IsLoneWeight parameters.now) }
 {
+    if parameters.len() > LONGEST {
+        return None;
+    }
     let weight = first_weight(parameters)?;
     // Most weights have one decimal.
     if let [b'0', b'.', digit @ b'0'..=b'9'] = weight {
