@@ -1,5 +1,5 @@
 -- The names that the proofs of this crate cite, passed on from one place. Declares nothing.
-pub use Rattle.mime.specs.{Items.Item, Items.items_of, Values.MediaType, Values.suffix_of}
+pub use Rattle.mime.specs.{Values.MediaType, Values.suffix_of}
 pub use Rattle.mime.specs.declared.scan.fault.ParseError.TheVariants.{MissingSubtype}
 pub use Rattle.mime_headers.specs.Head.{Field, Head, Item, Part, bare, bare_lines, continued, escape_len, field_named, field_of, first_seen}
 pub use Rattle.mime_headers.specs.Head.{goes_on, has_authority, head, heads_of, indent_of, is_alone, is_blank, is_end, is_field, is_sign}
@@ -22,9 +22,9 @@ pub use Rattle.mime_http.specs.{declared.ranking.RankedOffer.RankedOffer, declar
 pub use Rattle.mime_http.specs.declared.value.FieldError.TheVariants.{Invalid, NotUtf8}
 pub use Rattle.mime_io.specs.{Lines.lines_of, Lines.row}
 pub use Rattle.std.proofs.Common.{Bool, Err, List, None, Ok, Option, Result, Some, String, [], ap, append-nil, append_assoc, arith, codes, drop}
-pub use Rattle.std.proofs.Common.{drop_of_length-le, false, filter, flat_map, if◌then◌else◌, is_none, is_some, length, map, option_map, refl, replicate}
+pub use Rattle.std.proofs.Common.{drop_of_length-le, false, filter, flat_map, if◌then◌else◌, is_none, is_some, length, map, option_map, refl, replicate, unwrap_or}
 pub use Rattle.std.proofs.Common.{rules, slice_get, string_bytes, sym, take, true, vec_items, vec_len, nat_lt, ℕ, ◌++◌, ◌+◌, ◌-◌, ◌<◌, ◌==◌, ◌||◌}
-pub use Rattle.std.proofs.Common.{◌∙◌, ◌∷◌, ◌≡◌, ◌≤◌}
+pub use Rattle.std.proofs.Common.{◌&&◌, ◌∙◌, ◌∷◌, ◌≡◌, ◌≤◌}
 pub use Rattle.std.proofs.lemmas.{Fn.FoldsTo-push, List.length-map, List.map-append, List.map_more, List.Folds.flat_map-map, List.nil_from_length}
 pub use Rattle.std.proofs.lemmas.List.{take_all}
 pub use Rattle.std.specs.{Char.is_ascii_digit, Global.Global, List.FoldsTo, List.enumerate_from, List.filter_map, List.list_any, List.position_or_len}

@@ -6,7 +6,8 @@ use Rattle.std.specs.{List.before_first, List.after_first, Option.option_or, Str
 use Rattle.mime.specs.{Bytes.is_token_byte, Grammar.is_space}
 use Rattle.mime_http.specs.{HttpList.trim_start, HttpList.trimmed, Lacks.begins}
 use Rattle.mime_io.specs.Lines.{lines_of}
-use Rattle.mime_headers.specs.declared.{field.Name.Name, start.Kind.Kind}
+use Rattle.mime_headers.specs.declared.field.Name.{Name}
+use Rattle.mime_headers.specs.declared.start.Kind.{Kind}
 use Rattle.mime_headers.specs.declared.field.Name.TheVariants.{ContentType, Accept}
 
 -- ---- lines
@@ -35,19 +36,24 @@ abbrev pub bare_lines : Bool → List ℕ → List (List ℕ)
 bare_lines cut bytes = let lines = map bare (lines_of (if bytes_eq (take 3 bytes) (239 ∷ 187 ∷ 191 ∷ []) then drop 3 bytes else bytes)) in
     if cut then take (length lines - 1) lines else lines
 
--- the sign of a line, which is its first `<` or `>` before a space or at its end, and its signed text, which follows the sign and that space
+-- whether a mark is a sign, and not an indentation
+abbrev pub is_sign : List ℕ → Bool
+is_sign mark = let b = slice_index mark 0 in b == 60 || b == 62
+
+-- whether bytes begin with a sign: `<` or `>`, before a space or at the end
+unfoldable pub begins_sign : List ℕ → Bool
+begins_sign bytes = is_sign bytes && (length bytes == 1 || slice_index bytes 1 == 32)
+
+-- a line's first sign, and its signed text, which follows the sign and that space
 abbrev pub signed : List ℕ → Option (List ℕ × List ℕ)
 signed [] = None
-signed (b ∷ line) = if (b == 60 || b == 62) && (length line == 0 || slice_index line 0 == 32) then Some (b ∷ [], drop 1 line) else signed line
+signed (b ∷ line) = if begins_sign (b ∷ line) then Some (b ∷ [], drop 1 line) else signed line
 
 -- the white space at a line's start
 abbrev pub indent_of : List ℕ → List ℕ
 indent_of line = take (length line - length (trim_start line)) line
 
--- A mark is a sign or an indentation. The text of a line with a mark follows it; other lines have none.
-abbrev pub is_sign : List ℕ → Bool
-is_sign mark = let b = slice_index mark 0 in b == 60 || b == 62
-
+-- the text of a line with a mark, which follows the mark; other lines have none
 abbrev pub text_with : List ℕ → List ℕ → Option (List ℕ)
 text_with mark line =
     if is_sign mark then option_and_then (λ it. if bytes_eq it.0 mark then Some it.1 else None) (signed line) else
@@ -203,11 +209,11 @@ is_end mark line = unwrap_or (option_map (λ text. length text == 0) (text_with 
 -- whether a line has nothing after its indentation but at most a sign
 abbrev pub is_blank : List ℕ → Bool
 is_blank line = let text = trim_start line in
-    length text == 0 || (is_sign text && (length text == 1 || (length text == 2 && slice_index text 1 == 32)))
+    length text == 0 || (begins_sign text && nat_lt (length text) 3)
 
 -- the mark of lines without a start line, if they have one of the two fields: the empty indentation, if that is enough, or that before the
 -- first of the fields
-abbrev pub mark_of_fields : List (List ℕ) → Option (List ℕ)
+unfoldable pub mark_of_fields : List (List ℕ) → Option (List ℕ)
 mark_of_fields lines = if list_any is_field lines then Some [] else slice_get (filter_map (mark_before is_field false) lines) 0
 
 -- lines of an input: a head's first line and those up to its end, and its kind and mark, or others, without a mark

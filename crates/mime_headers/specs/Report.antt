@@ -3,7 +3,7 @@
 use Rattle.std.specs.Prelude.{◌≡◌, ◌≢◌, ◌<◌, ℕ, ◌+◌, ◌-◌, ◌/◌, ◌%◌, Bool, true, false, List, [], ◌∷◌, ◌++◌, ◌==◌, ◌||◌, ◌&&◌, not}
 use Rattle.std.specs.Prelude.{Option, Some, None, Result, Ok, Err, MatchOption, MatchResult, option_and_then, option_map, is_some, unwrap_or}
 use Rattle.std.specs.Prelude.{map, flat_map, drop, length, slice_get, replicate, nat_lt, if◌then◌else◌, codes}
-use Rattle.std.specs.{Char.is_ascii_graphic, Fmt.decimal, Fmt.digits, List.FoldsTo, List.enumerate_from, List.list_any, Option.option_zip, Str.IsUtf8, Str.bytes_eq}
+use Rattle.std.specs.{Char.is_ascii_graphic, Fmt.decimal, Fmt.digits, List.FoldsTo, List.enumerate_from, Option.option_zip, Str.IsUtf8, Str.bytes_eq}
 use Rattle.mime.specs.{Values.MediaType, Values.suffix_of}
 use Rattle.mime_http.specs.{Boundary.IsBoundaryOf, HttpFaults.HttpExplains, HttpFaults.fault_position, HttpMediaType.HttpReads}
 use Rattle.mime_http.specs.HttpList.{trimmed, AreBetweenCommas, IsPrinted, IsPiece, BeginsPiece}
@@ -14,7 +14,8 @@ use Rattle.mime_io.specs.{Lines.row, Stops.limit}
 use Rattle.mime_headers.specs.Head.{Field, Head, Item, head, stray, bare_lines, field_of, heads_of, is_alone, items_in, lines_under}
 use Rattle.mime_headers.specs.Head.{other_words, seen, title_of, values_of, without_escapes, word}
 use Rattle.mime_headers.specs.Shown.{without_controls}
-use Rattle.mime_headers.specs.declared.{start.Kind.Kind, report.Verdict.Verdict}
+use Rattle.mime_headers.specs.declared.report.Verdict.{Verdict}
+use Rattle.mime_headers.specs.declared.start.Kind.{Kind}
 use Rattle.mime_headers.specs.declared.field.Name.TheVariants.{ContentType, Accept}
 
 -- A value of a field is read as this media type, which is printed for the value, or is rejected with this error, which isn't `NoMemory`.
@@ -150,9 +151,12 @@ is_final Kind.Interim = false
 is_final Kind.Final = true
 
 -- whether a value is as a tool prints it: in quotes, or with what shows a carriage return or a line feed at its end
+abbrev pub ends_in : List ℕ → List ℕ → Bool
+ends_in value end = bytes_eq (drop (length value - length end) value) end
+
 abbrev pub is_altered : List ℕ → Bool
-is_altered value = begins (codes "'") value || list_any (λ end. bytes_eq (drop (length value - length end) value) end)
-    (codes "." ∷ codes "$" ∷ codes "^M" ∷ codes "\\r" ∷ codes "\\n" ∷ [])
+is_altered value = begins (codes "'") value || (ends_in value (codes ".") || (ends_in value (codes "$") || (ends_in value (codes "^M")
+    || (ends_in value (codes "\\r") || ends_in value (codes "\\n")))))
 
 -- the row of a line of a head that isn't one of the two fields as it was sent, or may not be, but has one in plain sight
 abbrev pub remark_of : List ℕ → Option Field → List ℕ

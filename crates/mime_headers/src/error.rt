@@ -22,8 +22,6 @@ pub enum HeadError {
 impl fmt::Display for HeadError {
     ghost output = { λ error. Some (error_text error) };
 
-    ghost styled_output = { λ error spec. Some (error_text error) };
-
     fn fmt<W: fmt::Write>(&self, f: &mut fmt::Formatter<W>) -> fmt::Result {
         match self {
             HeadError::Run(error) => write!(f, "{error}"),

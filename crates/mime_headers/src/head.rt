@@ -1,15 +1,15 @@
 //! The heads of an input, and the lines in no head that have one of the two fields in plain sight.
 
-ghost use Rattle.std.specs.Prelude.{◌≡◌, ◌++◌, ◌∷◌, ◌||◌, ℕ, List, false, map, option_map, is_some, vec_items, IfOk, OnOk};
+ghost use Rattle.std.specs.Prelude.{◌≡◌, ◌++◌, ◌∷◌, ◌==◌, ◌&&◌, ◌||◌, ◌<◌, ◌≤◌, ℕ, List, false, length, map, option_and_then, option_map, unwrap_or, is_none, is_some, IfOk, OnOk};
 ghost use Rattle.std.specs.List.{filter_map, position_or_len};
-ghost use Rattle.mime_headers.specs.Head.{is_alone, is_blank, is_end, is_sign, is_start, items_in, items_of, lines_under, mark_before, mark_of_fields, part_from, strays_of};
+ghost use Rattle.mime_headers.specs.Head.{is_alone, is_blank, is_end, is_sign, is_start, kind_of, items_in, items_of, lines_under, mark_before, mark_of_fields, part_from, strays_of};
 ghost use Rattle.mime_headers.specs.Head.{text_with, title_of};
 ghost use Rattle.mime_headers.specs.Inner.{head_now, items_now, lines_now, part_now};
 
 use crate::field::{field_mark, is_field, seen};
 use crate::line::{Made, is_blank, is_sign, text_with};
 use crate::start::{Kind, kind_of, start_mark};
-use std::alloc::{AllocError, Global};
+use std::alloc::Global;
 
 /// A head.
 #[derive(Drop)]
@@ -72,14 +72,21 @@ fn is_end(mark: &[u8], line: &[u8]) -> bool
     }
 }
 
+/// Returns `true` if a line ends the head with a mark, or begins another. `needs_sign` says that only a start line with a sign is one.
+fn ends_before(mark: &[u8], needs_sign: bool, line: &[u8]) -> bool
+    ensures { result ≡ (is_end mark.now line.now || is_some (mark_before is_start (needs_sign || is_sign mark.now) line.now)) }
+{
+    is_end(mark, line) || start_mark(line, needs_sign || is_sign(mark)).is_some()
+}
+
 /// Returns the number of lines before the end of the head with a mark.
 fn head_len(mark: &[u8], needs_sign: bool, lines: &[&[u8]]) -> usize
-    ensures { result ≡ position_or_len (λ it. is_end mark.now it || is_some (mark_before is_start (needs_sign || is_sign mark.now) it))
+    ensures len { result ≡ position_or_len (λ it. is_end mark.now it || is_some (mark_before is_start (needs_sign || is_sign mark.now) it))
         (map (λ line. line.now) lines.now) }
+    ensures within { result ≤ length lines.now }
 {
-    let needs_sign = needs_sign || is_sign(mark);
     for (at, line) in lines.iter().enumerate() {
-        if is_end(mark, line) || start_mark(line, needs_sign).is_some() {
+        if ends_before(mark, needs_sign, line) {
             return at;
         }
     }
@@ -88,7 +95,8 @@ fn head_len(mark: &[u8], needs_sign: bool, lines: &[&[u8]]) -> usize
 
 /// Returns the number of lines before a blank line or a start line.
 fn block_len(lines: &[&[u8]]) -> usize
-    ensures { result ≡ position_or_len (λ it. is_blank it || is_some (mark_before is_start false it)) (map (λ line. line.now) lines.now) }
+    ensures len { result ≡ position_or_len (λ it. is_blank it || is_some (mark_before is_start false it)) (map (λ line. line.now) lines.now) }
+    ensures within { result ≤ length lines.now }
 {
     for (at, line) in lines.iter().enumerate() {
         if is_blank(line) || start_mark(line, false).is_some() {
@@ -99,6 +107,7 @@ fn block_len(lines: &[&[u8]]) -> usize
 }
 
 /// Returns the mark of lines without a start line, or `None` if they have none of the two fields.
+#[tactic(auto, unfolding(crate::specs::Head::mark_of_fields))]
 fn mark_of_fields<'a>(lines: &[&'a [u8]]) -> Option<&'a [u8]>
     ensures { option_map (λ mark. mark.now) result ≡ mark_of_fields (map (λ line. line.now) lines.now) }
 {
@@ -112,15 +121,28 @@ fn mark_of_fields<'a>(lines: &[&'a [u8]]) -> Option<&'a [u8]>
     mark
 }
 
+/// Returns the kind of the head whose start line is in a line, after its mark.
+fn kind_with(mark: &[u8], line: &[u8]) -> Kind
+    ensures { result ≡ unwrap_or (option_and_then kind_of (text_with mark.now line.now)) Kind.Fields }
+{
+    match text_with(mark, line) {
+        Some(text) => kind_of(text).unwrap_or(Kind::Fields),
+        None => Kind::Fields,
+    }
+}
+
 /// Returns the next part of an input. `start` is the mark before the start line in its first line, if that has one.
+#[tactic(auto, using(crate::proofs::LineLists::first_lines))]
 fn part_from<'p, 'a>(
     alone: bool,
     needs_sign: bool,
     lines: &'p [&'a [u8]],
     start: Option<&'a [u8]>,
 ) -> Part<'p, 'a>
-    ensures { (line : List ℕ) (more : List (List ℕ)) → map (λ it. it.now) lines.now ≡ line ∷ more
+    ensures part { (line : List ℕ) (more : List (List ℕ)) → map (λ it. it.now) lines.now ≡ line ∷ more
         → part_now result ≡ part_from alone needs_sign line more (option_map (λ mark. mark.now) start.entry) }
+    ensures some { 0 < length lines.now → 0 < length result.lines.now }
+    ensures within { length result.lines.now ≤ length lines.now }
 {
     let Some((line, rest)) = lines.split_first() else {
         return Part {
@@ -130,9 +152,8 @@ fn part_from<'p, 'a>(
         };
     };
     if let Some(mark) = start {
-        let kind = text_with(mark, line).and_then(kind_of);
         return Part {
-            kind: kind.unwrap_or(Kind::Fields),
+            kind: kind_with(mark, line),
             mark: start,
             lines: &lines[..head_len(mark, needs_sign, rest) + 1],
         };
@@ -197,27 +218,49 @@ fn push_items<'a>(items: &mut Vec<Item<'a>>, is_open: bool, part: Part<'_, 'a>) 
     push_strays(items, part.mark, part.lines)
 }
 
+/// Returns `true` if an input is cut off and all of its lines that are left are in a part.
+fn is_open(is_cut: bool, count: usize, all: usize) -> bool
+    ensures { result ≡ (is_cut && count == all) }
+{
+    is_cut && count == all
+}
+
+/// Returns `true` if no start line has been found. `start` is the mark before that of the last part, if there is one.
+fn is_still_alone(alone: bool, start: Option<&[u8]>) -> bool
+    ensures { result ≡ (alone && is_none (option_map (λ mark. mark.now) start.entry)) }
+{
+    alone && start.is_none()
+}
+
+/// Returns `true` if a later start line needs a sign. `start` is the mark before that of the last part, if there is one.
+fn needs_sign_after(needs_sign: bool, start: Option<&[u8]>) -> bool
+    ensures { result ≡ (needs_sign || unwrap_or (option_map is_sign (option_map (λ mark. mark.now) start.entry)) false) }
+{
+    match start {
+        Some(mark) => needs_sign || is_sign(mark),
+        None => needs_sign,
+    }
+}
+
 /// Returns the items of an input's lines. In an input that is cut off, a head counts only if one of the lines ends it.
+#[tactic(auto, using(crate::proofs::LineLists::next_items))]
 pub(crate) fn items_in<'a>(alloc: Global, lines: &[&'a [u8]], is_cut: bool) -> Made<Vec<Item<'a>>>
     ensures { IfOk result (λ items. items_now items ≡ items_in is_cut (map (λ line. line.now) lines.now)) }
 {
     let mut items = Vec::new(alloc);
-    // The number of lines of the last part that are left, whether no start line has been found, and whether a start line needs a sign.
-    let mut passed = 0;
+    let mut at = 0;
+    // Whether no start line has been found, and whether a start line needs a sign.
     let mut alone = true;
     let mut needs_sign = false;
-    for (at, line) in lines.iter().enumerate() {
-        if passed > 0 {
-            passed -= 1;
-            continue;
-        }
+    while let Some((line, _)) = lines[at..].split_first() {
+        let left = &lines[at..];
         let start = start_mark(line, needs_sign);
-        let part = part_from(alone, needs_sign, &lines[at..], start);
-        let is_open = is_cut && part.lines.len() == lines.len() - at;
-        push_items(&mut items, is_open, part)?;
-        passed = part.lines.len().saturating_sub(1);
-        alone = alone && start.is_none();
-        needs_sign = needs_sign || start.is_some_and(is_sign);
+        let part = part_from(alone, needs_sign, left, start);
+        let count = part.lines.len();
+        push_items(&mut items, is_open(is_cut, count, left.len()), part)?;
+        alone = is_still_alone(alone, start);
+        needs_sign = needs_sign_after(needs_sign, start);
+        at += count;
     }
     Ok(items)
 }

@@ -3,7 +3,7 @@
 ghost use Rattle.std.specs.Prelude.{◌≡◌, ◌≤◌, ◌==◌, ◌||◌, length, option_map, IfOk};
 ghost use Rattle.std.specs.{Char.is_ascii_digit, List.prefix_len, Vec.vec_items};
 ghost use Rattle.mime_http.specs.{HttpList.trim_start, Lacks.begins};
-ghost use Rattle.mime_headers.specs.Head.{bare, bare_lines, escape_len, goes_on, is_blank, is_sign, signed, text_with, without_escapes};
+ghost use Rattle.mime_headers.specs.Head.{bare, bare_lines, begins_sign, escape_len, goes_on, is_blank, is_sign, signed, text_with, without_escapes};
 ghost use Rattle.mime_headers.specs.Inner.{lines_now};
 
 use mime_io::first_line;
@@ -129,15 +129,24 @@ pub(crate) fn is_sign(mark: &[u8]) -> bool
     matches!(mark, [b'<' | b'>', ..])
 }
 
-/// Returns a line's sign, which is its first `<` or `>` before a space or at its end, and what follows the sign and that space.
+/// Returns `true` if bytes begin with a sign: `<` or `>`, before a space or at the end.
+#[tactic(auto, unfolding(crate::specs::Head::begins_sign))]
+fn begins_sign(bytes: &[u8]) -> bool
+    ensures { result ≡ begins_sign bytes.now }
+{
+    matches!(bytes, [b'<' | b'>'] | [b'<' | b'>', b' ', ..])
+}
+
+/// Returns a line's first sign, and what follows the sign and the space after it.
 pub(crate) fn signed(line: &[u8]) -> Option<(&[u8], &[u8])>
     ensures { option_map (λ it. (it.0.now, it.1.now)) result ≡ signed line.now }
 {
-    for at in 0..line.len() {
-        let (sign, rest) = (&line[at..=at], &line[at + 1..]);
-        if is_sign(sign) && (rest.is_empty() || begins(b" ", rest)) {
-            return Some((sign, &rest[rest.len().min(1)..]));
+    let mut rest = line;
+    while let Some((_, more)) = rest.split_first() {
+        if begins_sign(rest) {
+            return Some((&rest[..1], &more[more.len().min(1)..]));
         }
+        rest = more;
     }
     None
 }
@@ -158,6 +167,7 @@ pub(crate) fn text_with<'a>(mark: &[u8], line: &'a [u8]) -> Option<&'a [u8]>
 }
 
 /// Returns `true` if a line has nothing after its indentation but at most a sign.
+#[tactic(auto, unfolding(crate::specs::Head::begins_sign))]
 pub(crate) fn is_blank(line: &[u8]) -> bool
     ensures { result ≡ is_blank line.now }
 {

@@ -95,10 +95,13 @@ pub(crate) fn report_of(alloc: Global, input: Vec<u8>, offers: &[Mime]) -> Made<
 fn head_count(items: &[Item]) -> usize
     ensures { result ≡ length (heads_of (map item_now items.now)) }
 {
-    items
-        .iter()
-        .filter(|item| matches!(item, Item::Head(_)))
-        .count()
+    let mut count = 0;
+    for item in items {
+        if let Item::Head(_) = item {
+            count += 1;
+        }
+    }
+    count
 }
 
 /// Returns the verdict of a report.
@@ -211,7 +214,7 @@ fn push_request(
 {
     push_choice(report, offers, ranges.as_deref())?;
     let is_known = report.waiting == 0;
-    report.waiting += 1;
+    report.waiting = report.waiting.checked_add(1).ok_or(AllocError)?;
     report.asked = ranges.filter(|_| is_known);
     report.sent = only.filter(|_| is_known);
     Ok(())
@@ -358,12 +361,19 @@ fn push_remark(text: &mut Vec<u8>, line: &[u8], field: Option<Field>) -> Made<()
     }
 }
 
-/// Returns `true` if a value is as a tool prints it: in quotes, or with a byte at its end for a carriage return.
+/// Returns `true` if a value ends in these bytes.
+fn ends_in(value: &[u8], end: &[u8]) -> bool
+    ensures { result ≡ Spec.ends_in value.now end.now }
+{
+    &value[value.len().saturating_sub(end.len())..] == end
+}
+
+/// Returns `true` if a value is as a tool prints it: in quotes, or with what shows a carriage return or a line feed at its end.
 fn is_altered(value: &[u8]) -> bool
     ensures { result ≡ Spec.is_altered value.now }
 {
-    let ends: [&[u8]; 5] = [b".", b"$", b"^M", b"\\r", b"\\n"];
-    begins(b"'", value) || ends.iter().any(|end| value.ends_with(end))
+    let is_ended = ends_in(value, b"^M") || ends_in(value, b"\\r") || ends_in(value, b"\\n");
+    begins(b"'", value) || ends_in(value, b".") || ends_in(value, b"$") || is_ended
 }
 
 /// Adds the rows of trimmed values of `Content-Type`, and returns the last media type. Sets `good` to `false` if a value is rejected.

@@ -66,11 +66,18 @@ fn has_authority(bytes: &[u8]) -> bool
     false
 }
 
+/// Returns `true` if all bytes are digits.
+fn are_digits(bytes: &[u8]) -> bool
+    ensures { result ≡ list_all is_ascii_digit bytes.now }
+{
+    bytes.iter().all(|byte| byte.is_ascii_digit())
+}
+
 /// Returns `true` if bytes are a port: digits, and at least one.
 fn is_port(bytes: &[u8]) -> bool
     ensures { result ≡ (not (length bytes.now == 0) && list_all is_ascii_digit bytes.now) }
 {
-    !bytes.is_empty() && bytes.iter().all(u8::is_ascii_digit)
+    !bytes.is_empty() && are_digits(bytes)
 }
 
 /// Returns `true` if bytes are a request-target, such as `/a`, `http://a/b`, `a:80` or `*` (RFC 9112, 3.2).

@@ -1,6 +1,9 @@
 -- No sign is among the bytes so far.
-use Rattle.mime_headers.proofs.Common.{drop, signed, ◌≡◌}
+use Rattle.mime_headers.proofs.Common.{length, signed, ◌≡◌}
 use Rattle.mime_headers.proofs.line.signed.Given as goal
 
-abbrev pub invariant-loop-at : goal.invariant-loop-at
-invariant-loop-at l = signed (drop l.at l.line) ≡ signed l.line
+abbrev pub invariant-loop-more : goal.invariant-loop-more
+invariant-loop-more l = signed l.rest ≡ signed l.line
+
+abbrev pub decreases-loop-more : goal.decreases-loop-more
+decreases-loop-more l = length l.rest

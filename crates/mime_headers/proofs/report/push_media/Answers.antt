@@ -1,5 +1,6 @@
 -- Each part is added after the one before it.
-use Rattle.mime_headers.proofs.Common.{HasBoundary, append-nil, append_assoc, flat_map-map, items_of, option_map, rules, suffix_of, ◌≡◌}
+use Rattle.mime_headers.proofs.Common.{HasBoundary, append-nil, append_assoc, flat_map-map, option_map, rules, suffix_of, ◌≡◌}
+use Rattle.mime.specs.Items.{items_of}
 use Rattle.mime_headers.proofs.report.push_media.Goals as goal
 
 pub returns : goal.returns

@@ -1,5 +1,6 @@
 -- What is added, and what is left to add, make up the rows of the parameters.
-use Rattle.mime_headers.proofs.Common.{Item, List, codes, flat_map, row, unescaped, vec_items, ℕ, ◌++◌, ◌≡◌}
+use Rattle.mime.specs.Items.{Item}
+use Rattle.mime_headers.proofs.Common.{List, codes, flat_map, row, unescaped, vec_items, ℕ, ◌++◌, ◌≡◌}
 use Rattle.mime_headers.proofs.report.push_media.Given as goal
 
 abbrev pub invariant-loop-name : goal.invariant-loop-name
