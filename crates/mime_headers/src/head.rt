@@ -243,7 +243,6 @@ fn needs_sign_after(needs_sign: bool, start: Option<&[u8]>) -> bool
 }
 
 /// Returns the items of an input's lines. In an input that is cut off, a head counts only if one of the lines ends it.
-#[tactic(auto, using(crate::proofs::LineLists::next_items))]
 pub(crate) fn items_in<'a>(alloc: Global, lines: &[&'a [u8]], is_cut: bool) -> Made<Vec<Item<'a>>>
     ensures { IfOk result (λ items. items_now items ≡ items_in is_cut (map (λ line. line.now) lines.now)) }
 {
