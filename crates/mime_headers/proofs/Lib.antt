@@ -1,3 +1,4 @@
 mod Common
+mod Good
 mod LineLists
 mod Words

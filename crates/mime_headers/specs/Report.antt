@@ -182,8 +182,9 @@ expects_type kind title = let code = word (other_words title) in
 
 -- the row which says that an expected `Content-Type` isn't there, or that there is more than one
 abbrev pub count_row : Bool → List (List ℕ) → List ℕ
-count_row is_expected values = row_when (is_expected && length values == 0) (codes "no Content-Type") []
-    ++ row_when (nat_lt 1 (length values)) (codes "several Content-Type lines (HTTP allows one)") []
+count_row is_expected [] = row_when is_expected (codes "no Content-Type") []
+count_row is_expected (value ∷ []) = []
+count_row is_expected (value ∷ other ∷ values) = row (codes "several Content-Type lines (HTTP allows one)") []
 
 -- A head adds its title, its values of `Content-Type`, `count_row`, and the weight of the only media type of a final response by the request
 -- that it answers. `only` is that media type, of any head.
@@ -219,9 +220,9 @@ AddsChoice offers ranges old new = MatchOption ranges (new ≡ old) (λ ranges. 
 -- A request, or a head without a start line, chooses an offer, and waits. If another request waits, no response is known to answer it.
 abbrev pub AddsRequest : List MediaType → Option (List MediaType) → Option MediaType → State → State → Type 0
 AddsRequest offers ranges only old new = (chosen : State) × AddsChoice offers ranges old chosen × (new ≡ record chosen {
-  waiting = old.waiting + 1;
-  asked = if old.waiting == 0 then ranges else None;
-  sent = if old.waiting == 0 then only else None;
+  waiting = chosen.waiting + 1;
+  asked = if chosen.waiting == 0 then ranges else None;
+  sent = if chosen.waiting == 0 then only else None;
 })
 
 -- A final response weighs the media type of the request that it answers (RFC 9110, 12.5.1 and 15.5.16), and ends its wait.

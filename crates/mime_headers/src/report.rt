@@ -1,7 +1,7 @@
 //! The report on heads.
 
 ghost use Rattle.std.specs.Prelude.{◌≡◌, ◌++◌, ℕ, Bool, List, [], Err, Ok, Option, None, Some, map, flat_map, OnOk, IfOk, MatchOption, MatchResult};
-ghost use Rattle.std.specs.Prelude.{option_map, slice_get, unwrap_or, vec_items, ◌&&◌, ◌==◌, if◌then◌else◌, length, codes, ◌≤◌, ◌+◌, ◌<◌};
+ghost use Rattle.std.specs.Prelude.{option_map, slice_get, unwrap_or, vec_items, ◌&&◌, ◌==◌, if◌then◌else◌, length, codes, ◌+◌};
 ghost use Rattle.std.specs.{List.FoldsTo, List.enumerate_from};
 ghost use Rattle.mime.specs.Values.{MediaType};
 ghost use Rattle.mime_http.specs.Ranking.{IsRanking};
@@ -132,7 +132,22 @@ fn push_head(report: &mut Report, offers: &[Mime], many: bool, head: &Head) -> M
     let only = push_title_and_types(report, many, head)?;
     let accepts = values_of(alloc, Name::Accept, head.is_alone(), head.lines())?;
     let ranges = push_accept(&mut report.text, &accepts)?;
-    match head.kind {
+    push_weights(report, offers, head.kind, ranges, only)?;
+    Ok(())
+}
+
+/// Adds the weights by the ranges of a head of this kind, whose only media type is `only`.
+fn push_weights(
+    report: &mut Report,
+    offers: &[Mime],
+    kind: Kind,
+    ranges: Option<Vec<Mime>>,
+    only: Option<Mime>,
+) -> Made<()>
+    ensures { OnOk result (Spec.AddsWeights kind (medias offers.now) (ranges_now ranges) (option_map (λ mime. mime.media) only)
+        (state_now report.old) (state_now report.new)) }
+{
+    match kind {
         Kind::Fields | Kind::Request => push_request(report, offers, ranges, only),
         Kind::Interim => Ok(()),
         Kind::Final => push_response(report, ranges),
@@ -145,32 +160,71 @@ fn push_title_and_types(report: &mut Report, many: bool, head: &Head) -> Made<Op
         (state_now report.new)) }
 {
     let alloc = *report.text.allocator();
-    let (text, title) = (&mut report.text, head.title());
-    push_shown(text, many, b"head ", title)?;
-    push_remarks(text, &head.texts)?;
+    push_title(&mut report.text, many, head)?;
     let types = values_of(alloc, Name::ContentType, head.is_alone(), head.lines())?;
-    let last = push_types(text, &mut report.are_good, &types)?;
-    push_count(text, expects_type(head.kind, title), &types)?;
-    let only = last.filter(|_| types.len() == 1);
-    if matches!(head.kind, Kind::Final) {
-        let asked = report.asked.as_deref();
-        push_weight(text, &mut report.are_good, b"answer ", asked, only.as_ref())?;
-    }
+    let last = push_types(&mut report.text, &mut report.are_good, &types)?;
+    push_count(
+        &mut report.text,
+        expects_type(head.kind, head.title()),
+        &types,
+    )?;
+    let only = only_of(types.len(), last);
+    push_answer(report, head.kind, only.as_ref())?;
     Ok(only)
+}
+
+/// Adds the row of a head's title, if there are several heads, and those of its lines.
+fn push_title(text: &mut Vec<u8>, many: bool, head: &Head) -> Made<()>
+    ensures { OnOk result (vec_items text.new ≡ vec_items text.old ++ Spec.title_rows many (head_now head.now)) }
+{
+    push_shown(text, many, b"head ", head.title())?;
+    push_remarks(text, &head.texts)?;
+    Ok(())
+}
+
+/// Returns the last media type if there is one value.
+fn only_of(count: usize, last: Option<Mime>) -> Option<Mime>
+    ensures { option_map (λ mime. mime.media) result ≡ (if count == 1 then option_map (λ mime. mime.media) last else None) }
+{
+    if count == 1 {
+        return last;
+    }
+    None
+}
+
+/// Adds the weight of a final response's only media type by the request that it answers.
+fn push_answer(report: &mut Report, kind: Kind, only: Option<&Mime>) -> Made<()>
+    ensures { OnOk result ((answer : List ℕ × Bool) × Spec.IsWeighed (codes "answer ")
+        (if Spec.is_final kind then (state_now report.old).asked else None) (option_map (λ mime. mime.now.media) only.entry) answer
+        × (state_now report.new ≡ record (state_now report.old) {
+          text = vec_items report.old.text ++ answer.0;
+          are_good = report.old.are_good && answer.1;
+        })) }
+{
+    if !is_final(kind) {
+        return Ok(());
+    }
+    let (text, good) = (&mut report.text, &mut report.are_good);
+    push_weight(text, good, b"answer ", report.asked.as_deref(), only)?;
+    Ok(())
+}
+
+/// Returns `true` if a head is a response that isn't interim.
+fn is_final(kind: Kind) -> bool
+    ensures { result ≡ Spec.is_final kind }
+{
+    matches!(kind, Kind::Final)
 }
 
 /// Adds the row which says that an expected `Content-Type` isn't there, or that there is more than one.
 fn push_count(text: &mut Vec<u8>, is_expected: bool, types: &[Vec<u8>]) -> Made<()>
     ensures { OnOk result (vec_items text.new ≡ vec_items text.old ++ Spec.count_row is_expected (map vec_items types.now)) }
 {
-    push_shown(
-        text,
-        is_expected && types.is_empty(),
-        b"no Content-Type",
-        b"",
-    )?;
-    let several = b"several Content-Type lines (HTTP allows one)";
-    push_shown(text, types.len() > 1, several, b"")
+    match types {
+        [] => push_shown(text, is_expected, b"no Content-Type", b""),
+        [_] => Ok(()),
+        _ => push(text, &[b"several Content-Type lines (HTTP allows one)\n"]),
+    }
 }
 
 /// Returns `true` if a head is a final response with content, by its status.
@@ -178,7 +232,7 @@ fn expects_type(kind: Kind, title: &[u8]) -> bool
     ensures { result ≡ Spec.expects_type kind title.now }
 {
     let code = split_word(split_word(title).1).0;
-    matches!(kind, Kind::Final) && code != b"204".as_slice() && code != b"304".as_slice()
+    is_final(kind) && code != b"204".as_slice() && code != b"304".as_slice()
 }
 
 /// Adds the row of a media type, weighed like an offer by ranges, and sets `good` to `false` if it weighs 0. Without ranges or a media type,
@@ -194,11 +248,14 @@ fn push_weight(
         × Spec.IsWeighed label.now (option_map (λ ranges. medias ranges.now) ranges.entry) (option_map (λ mime. mime.now.media) media.entry) weighed
         × (vec_items text.new ≡ vec_items text.old ++ weighed.0) × (good.new ≡ (good.old && weighed.1))) }
 {
-    if let (Some(ranges), Some(media)) = (ranges, media) {
-        let offers = std::slice::from_ref(media);
-        let ranking = push_offers(text, label, ranges, offers)?;
-        *good = *good && is_acceptable(&ranking);
-    }
+    let Some(ranges) = ranges else {
+        return Ok(());
+    };
+    let Some(media) = media else {
+        return Ok(());
+    };
+    let ranking = push_offers(text, label, ranges, std::slice::from_ref(media))?;
+    *good &= is_acceptable(&ranking);
     Ok(())
 }
 
@@ -213,10 +270,28 @@ fn push_request(
         (state_now report.old) (state_now report.new)) }
 {
     push_choice(report, offers, ranges.as_deref())?;
-    let is_known = report.waiting == 0;
+    wait(report, ranges, only)?;
+    Ok(())
+}
+
+/// Lets a request with these ranges and this media type wait. It is known only if no other waits.
+fn wait(report: &mut Report, ranges: Option<Vec<Mime>>, only: Option<Mime>) -> Made<()>
+    ensures { OnOk result (state_now report.new ≡ record (state_now report.old) {
+      waiting = report.old.waiting + 1;
+      asked = if report.old.waiting == 0 then ranges_now ranges else None;
+      sent = if report.old.waiting == 0 then option_map (λ mime. mime.media) only else None;
+    }) }
+{
+    let is_first = report.waiting == 0;
+    // There are fewer requests than bytes.
     report.waiting = report.waiting.checked_add(1).ok_or(AllocError)?;
-    report.asked = ranges.filter(|_| is_known);
-    report.sent = only.filter(|_| is_known);
+    if is_first {
+        report.asked = ranges;
+        report.sent = only;
+        return Ok(());
+    }
+    report.asked = None;
+    report.sent = None;
     Ok(())
 }
 
@@ -249,7 +324,8 @@ fn push_missing(report: &mut Report, offers: &[Mime]) -> Made<()>
     push(text, &[b"no Accept\n"])?;
     let mut ranges = Vec::new(*text.allocator());
     push_entry(text, &mut ranges, b"*/*")?;
-    push_choice(report, offers, Some(&ranges))
+    push_choice(report, offers, Some(&ranges))?;
+    Ok(())
 }
 
 /// Adds the rows of the lines of `Accept`, and returns their ranges, or `None` if there are no lines.
