@@ -1,4 +1,6 @@
 mod Common
 mod Good
+mod HeaderFacts
 mod LineLists
+mod ReportFacts
 mod Words

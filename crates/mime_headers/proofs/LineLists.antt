@@ -1,6 +1,8 @@
 -- Lists of lines, as the code reads them one by one.
-use Rattle.mime_headers.proofs.Common.{Bool, Item, List, Option, Part, [], ap, append_assoc, arith, drop, false, is_none, is_sign, is_start, items_after, items_of, length, length-map, map}
-use Rattle.mime_headers.proofs.Common.{mark_before, option_map, part_from, refl, sym, take, unwrap_or, ℕ, ◌++◌, ◌+◌, ◌-◌, ◌<◌, ◌&&◌, ◌==◌, ◌||◌}
+use Rattle.mime_headers.proofs.Common.{Bool, Item, List, Option, Part, [], ap, append_assoc, arith, drop, false, is_none, is_sign, is_start}
+use Rattle.mime_headers.proofs.Common.{items_after, items_of, length, length-map, map}
+use Rattle.mime_headers.proofs.Common.{mark_before, option_map, part_from, refl, sym, take, unwrap_or, ℕ, ◌++◌, ◌+◌, ◌-◌, ◌<◌, ◌&&◌, ◌==◌}
+use Rattle.mime_headers.proofs.Common.{◌||◌}
 use Rattle.mime_headers.proofs.Common.{◌∙◌, ◌∷◌, ◌≡◌}
 use Rattle.std.specs.Borrow.{Bor}
 use Rattle.std.proofs.Common.{add-one, suc, zero}
@@ -57,7 +59,8 @@ pub next_items : (cut alone needs_sign : Bool) (lines : List (Bor (List ℕ))) (
     → after ≡ before ++ items_of ends part.kind part.mark part.lines
     → before ++ items_after cut 0 alone needs_sign (map (λ line. line.now) (drop at lines)) ≡ all
     → after ++ items_after cut 0 still later (map (λ line. line.now) (drop (at + count) lines)) ≡ all
-next_items cut alone needs_sign lines at line more start part count ends still later before after all are begins is counts some opens stays turns adds sum =
+next_items cut alone needs_sign lines at line more start part count ends still later before after all are begins is counts some opens stays
+    turns adds sum =
     let same : part_from alone needs_sign line more (mark_before is_start needs_sign line) ≡ part = cc (is, begins) in
     let first : 0 < length (part_from alone needs_sign line more (mark_before is_start needs_sign line)).lines =
     rw (same, ← counts) some in

@@ -1,5 +1,6 @@
 -- The words of a command line, as the code reads them one by one.
-pub use Rattle.mime_headers.proofs.Common.{AreOffers, FieldError, Global, List, MediaType, Result, String, a_word, bad_word, map, map-append, no_word, string_bytes, take, ℕ, ◌+◌, ◌∷◌, ◌≡◌, rules}
+pub use Rattle.mime_headers.proofs.Common.{AreOffers, FieldError, Global, List, MediaType, Result, String, a_word, bad_word, map}
+pub use Rattle.mime_headers.proofs.Common.{map-append, no_word, string_bytes, take, ℕ, ◌+◌, ◌∷◌, ◌≡◌, rules}
 
 -- The next word is the first of those that are left.
 pub next_word : {offers : List MediaType} {all : Result (List MediaType) (String Global × FieldError)} (n m : ℕ) (word : String Global)

@@ -1,7 +1,9 @@
 -- The heads of an input, and the two fields there (RFC 9110, 5.5, 5.6.2 and 5.6.3; RFC 9112, 2 to 5). docs/RULES.md says the same in words.
-use Rattle.std.specs.Prelude.{ℕ, ◌+◌, ◌-◌, Bool, true, false, List, [], ◌∷◌, ◌++◌, ◌==◌, ◌||◌, ◌&&◌, not, nat_lt, map, filter, take, drop, length}
+use Rattle.std.specs.Prelude.{ℕ, ◌+◌, ◌-◌, Bool, true, false, List, [], ◌∷◌, ◌++◌, ◌==◌, ◌||◌, ◌&&◌, not, nat_lt, map, filter, take, drop}
+use Rattle.std.specs.Prelude.{length}
 use Rattle.std.specs.Prelude.{Option, Some, None, option_and_then, option_map, is_none, is_some, unwrap_or, if◌then◌else◌, codes}
-use Rattle.std.specs.{Char.is_ascii_alphanumeric, Char.is_ascii_digit, List.list_all, List.list_any, List.cons_option, List.filter_map, List.prefix_len, List.suffix_len, List.slice_get, List.slice_index}
+use Rattle.std.specs.Char.{is_ascii_alphanumeric, is_ascii_digit}
+use Rattle.std.specs.List.{list_all, list_any, cons_option, filter_map, prefix_len, suffix_len, slice_get, slice_index}
 use Rattle.std.specs.{List.before_first, List.after_first, Option.option_or, Str.bytes_eq}
 use Rattle.mime.specs.{Bytes.is_token_byte, Grammar.is_space}
 use Rattle.mime_http.specs.{HttpList.trim_start, HttpList.trimmed, Lacks.begins}
@@ -12,8 +14,8 @@ use Rattle.mime_headers.specs.declared.field.Name.TheVariants.{ContentType, Acce
 
 -- ---- lines
 
--- the number of bytes of the escape that bytes begin with, by which a terminal prints colours: `ESC [`, digits and semicolons, and `m` or `K`;
--- 0 if there is none
+-- the number of bytes of the escape that bytes begin with, by which a terminal prints colours: `ESC [`, digits and semicolons, and `m` or
+-- `K`; 0 if there is none
 abbrev pub escape_len : List ℕ → ℕ
 escape_len bytes = let len = 2 + prefix_len (λ b. is_ascii_digit b || b == 59) (drop 2 bytes) in
     if bytes_eq (take 2 bytes) (27 ∷ 91 ∷ []) && (slice_index bytes len == 109 || slice_index bytes len == 75) then len + 1 else 0
@@ -59,8 +61,8 @@ text_with mark line =
     if is_sign mark then option_and_then (λ it. if bytes_eq it.0 mark then Some it.1 else None) (signed line) else
     if begins mark line then Some (drop (length mark) line) else None
 
--- the mark after which a line has a wanted text: its indentation or, if a wanted text doesn't follow that, its sign; `needs_sign` says that an
--- indentation isn't enough
+-- the mark after which a line has a wanted text: its indentation or, if a wanted text doesn't follow that, its sign; `needs_sign` says that
+-- an indentation isn't enough
 abbrev pub mark_before : (List ℕ → Bool) → Bool → List ℕ → Option (List ℕ)
 mark_before is_wanted needs_sign line =
     if is_wanted (trim_start line) then (if needs_sign then None else Some (indent_of line)) else
@@ -162,7 +164,8 @@ values_of name alone [] = []
 values_of name alone (line ∷ lines) = cons_option (option_and_then (λ field. if field.is_spaced then None else
     Some (value_of alone lines field.value)) (field_named name line)) (values_of name alone lines)
 
--- the name of the first of the two fields in plain sight: at the start (`may`), or behind a byte other than a letter, a digit, `-`, `_`, `[`
+-- the name of the first of the two fields in plain sight: at the start (`may`), or behind a byte other than a letter, a digit, `-`, `_`,
+-- `[`
 abbrev pub seen_from : Bool → List ℕ → Option Name
 seen_from may [] = None
 seen_from may (b ∷ bytes) = let hides = is_ascii_alphanumeric b || (b == 45 || (b == 95 || b == 91)) in
@@ -222,8 +225,9 @@ pub record Part : Type 0 where
   pub mark : Option (List ℕ)
   pub lines : List (List ℕ)
 
--- The next part of an input. A start line begins one that ends before a line that ends its head, or another start line. `alone` says that no
--- start line is before this part: then lines up to a blank line or a start line are one. `needs_sign` says that a start line with a sign is.
+-- The next part of an input. A start line begins one that ends before a line that ends its head, or another start line. `alone` says that
+-- no start line is before this part: then lines up to a blank line or a start line are one. `needs_sign` says that a start line with a sign
+-- is.
 abbrev pub part_from : Bool → Bool → List ℕ → List (List ℕ) → Option (List ℕ) → Part
 part_from alone needs_sign line lines None =
     let block = line ∷ before_first (λ it. is_blank it || is_some (mark_before is_start false it)) lines in
@@ -237,7 +241,8 @@ part_from alone needs_sign line lines (Some mark) = record {
 
 -- the lines without a mark that have one of the two fields in plain sight
 abbrev pub strays_of : Option (List ℕ) → List (List ℕ) → List Item
-strays_of mark lines = map (λ line. stray line) (filter (λ line. is_none (option_and_then (λ mark. text_with mark line) mark) && is_some (seen line)) lines)
+strays_of mark lines = map (λ line. stray line)
+    (filter (λ line. is_none (option_and_then (λ mark. text_with mark line) mark) && is_some (seen line)) lines)
 
 -- the items of a part: its head, unless nothing ends it in an input that is cut off, and its strays
 abbrev pub items_of : Bool → Kind → Option (List ℕ) → List (List ℕ) → List Item

@@ -11,7 +11,8 @@ use Rattle.mime_headers.specs.declared.error.HeadError.{HeadError}
 -- word that isn't read, and an error, which explains why that word is rejected or is `NoMemory`.
 pub data AreOffers : List (List ℕ) → List MediaType → Result (List MediaType) (String Global × FieldError) → Type 0 where
   no_word : {offers : List MediaType} → AreOffers [] offers (Ok offers)
-  a_word : {word : List ℕ} {offer : MediaType} {words : List (List ℕ)} {offers : List MediaType} {all : Result (List MediaType) (String Global × FieldError)}
+  a_word : {word : List ℕ} {offer : MediaType} {words : List (List ℕ)} {offers : List MediaType}
+      {all : Result (List MediaType) (String Global × FieldError)}
       → IsRead word (Ok offer) → AreOffers words (offers ++ (offer ∷ [])) all → AreOffers (word ∷ words) offers all
   bad_word : {words : List (List ℕ)} {offers : List MediaType} (word : String Global) (error : FieldError)
       → (error ≢ NoMemory → HttpExplains (string_bytes word) error) → AreOffers (string_bytes word ∷ words) offers (Err (word, error))

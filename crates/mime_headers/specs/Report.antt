@@ -1,9 +1,14 @@
 -- The report on heads and offers: the rows of each `Content-Type`, of `Accept`, and of each offer (RFC 9110, 8.3, 12.5.1 and 15.5.7), and
 -- whether a request and its response accept each other's content (15.5.16). docs/RULES.md says the same in words.
 use Rattle.std.specs.Prelude.{◌≡◌, ◌≢◌, ◌<◌, ℕ, ◌+◌, ◌-◌, ◌/◌, ◌%◌, Bool, true, false, List, [], ◌∷◌, ◌++◌, ◌==◌, ◌||◌, ◌&&◌, not}
-use Rattle.std.specs.Prelude.{Option, Some, None, Result, Ok, Err, MatchOption, MatchResult, option_and_then, option_map, is_some, unwrap_or}
+use Rattle.std.specs.Prelude.{Option, Some, None, Result, Ok, Err, MatchOption, MatchResult, option_and_then, option_map, is_some}
+use Rattle.std.specs.Prelude.{unwrap_or}
 use Rattle.std.specs.Prelude.{map, flat_map, drop, length, slice_get, replicate, nat_lt, if◌then◌else◌, codes}
-use Rattle.std.specs.{Char.is_ascii_graphic, Fmt.decimal, Fmt.digits, List.FoldsTo, List.enumerate_from, Option.option_zip, Str.IsUtf8, Str.bytes_eq}
+use Rattle.std.specs.Char.{is_ascii_graphic}
+use Rattle.std.specs.Fmt.{decimal, digits}
+use Rattle.std.specs.List.{FoldsTo, enumerate_from}
+use Rattle.std.specs.Option.{option_zip}
+use Rattle.std.specs.Str.{IsUtf8, bytes_eq}
 use Rattle.mime.specs.{Values.MediaType, Values.suffix_of}
 use Rattle.mime_http.specs.{Boundary.IsBoundaryOf, HttpFaults.HttpExplains, HttpFaults.fault_position, HttpMediaType.HttpReads}
 use Rattle.mime_http.specs.HttpList.{trimmed, AreBetweenCommas, IsPrinted, IsPiece, BeginsPiece}
@@ -23,9 +28,9 @@ abbrev pub IsRead : List ℕ → Result MediaType FieldError → Type 0
 IsRead value (Ok media) = IsUtf8 value × HttpReads value media × IsPrinted value media
 IsRead value (Err error) = (error ≢ NoMemory) × HttpExplains value error
 
--- What is known after some items: the report, whether all is good so far (each `Content-Type` is accepted, and each weight in an exchange is
--- above 0), the last choice, if a request has an `Accept`, and how many requests wait for a response. If one alone waits, its ranges and its
--- media type. A choice is `true` if an offer is acceptable or there are no offers.
+-- What is known after some items: the report, whether all is good so far (each `Content-Type` is accepted, and each weight in an exchange
+-- is above 0), the last choice, if a request has an `Accept`, and how many requests wait for a response. If one alone waits, its ranges and
+-- its media type. A choice is `true` if an offer is acceptable or there are no offers.
 pub record State : Type 0 where
   pub text : List ℕ
   pub are_good : Bool
@@ -186,8 +191,8 @@ count_row is_expected [] = row_when is_expected (codes "no Content-Type") []
 count_row is_expected (value ∷ []) = []
 count_row is_expected (value ∷ other ∷ values) = row (codes "several Content-Type lines (HTTP allows one)") []
 
--- A head adds its title, its values of `Content-Type`, `count_row`, and the weight of the only media type of a final response by the request
--- that it answers. `only` is that media type, of any head.
+-- A head adds its title, its values of `Content-Type`, `count_row`, and the weight of the only media type of a final response by the
+-- request that it answers. `only` is that media type, of any head.
 abbrev pub AddsTypes : Bool → State → Head → Option MediaType → State → Type 0
 AddsTypes many old it only new =
     let types = values_of ContentType (is_alone it.kind) (lines_under it) in
@@ -267,7 +272,8 @@ verdict_of end = if end.are_good && unwrap_or end.choice true then Verdict.Accep
 abbrev pub start : State
 start = record { text = []; are_good = true; choice = None; waiting = 0; asked = None; sent = None }
 
--- There are heads. The text is the report on items and on offers, without controls, and says if they are cut off. The verdict is the report's.
+-- There are heads. The text is the report on items and on offers, without controls, and says if they are cut off. The verdict is the
+-- report's.
 pub record IsReport (offers : List MediaType) (cut : Bool) (items : List Item) (text : List ℕ) (verdict : Verdict) : Type 0 where
   pub some : 0 < length (heads_of items)
   pub last : State

@@ -5,8 +5,8 @@ use Rattle.std.specs.Prelude.{ℕ, ◌-◌, Bool, List, [], ◌∷◌, ◌==◌,
 abbrev pub is_within : ℕ → ℕ → ℕ → Bool
 is_within least most b = nat_le least b && nat_le b most
 
--- the number of bytes of the control character that these bytes begin, with 0 for each that is missing: U+0000 to U+001F other than the line
--- feed, U+007F to U+009F, or one that turns the direction of text: U+061C, U+200E, U+200F, U+202A to U+202E, or U+2066 to U+2069
+-- the number of bytes of the control character that these bytes begin, with 0 for each that is missing: U+0000 to U+001F other than the
+-- line feed, U+007F to U+009F, or one that turns the direction of text: U+061C, U+200E, U+200F, U+202A to U+202E, or U+2066 to U+2069
 abbrev pub len_of : ℕ → ℕ → ℕ → ℕ
 len_of b c d =
     if (nat_lt b 32 && not (b == 10)) || b == 127 then 1 else

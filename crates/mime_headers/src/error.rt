@@ -12,8 +12,8 @@ use std::fmt;
 pub enum HeadError {
     /// The source or the sink fails, the source has more than 1,048,576 bytes, or memory runs out.
     Run(RunError),
-    /// The input has no head, as of a request, a response or a mail. If a line has one of the two fields in plain sight, the first such line:
-    /// its number, counted from 1, and the field's name.
+    /// The input has no head, as of a request, a response or a mail. If a line has one of the two fields in plain sight, the first such
+    /// line: its number, counted from 1, and the field's name.
     NoHead(Option<(usize, Name)>),
 }
 

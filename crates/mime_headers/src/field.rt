@@ -3,7 +3,8 @@
 ghost use Rattle.std.specs.Prelude.{◌≡◌, ◌++◌, ◌==◌, ◌&&◌, false, map, nat_lt, option_map, length, IfOk, Some, vec_items};
 ghost use Rattle.std.specs.List.{before_first, list_all};
 ghost use Rattle.mime.specs.Bytes.{is_token_byte};
-ghost use Rattle.mime_headers.specs.Head.{continued, field_named, field_of, first_seen, is_field, label_of, mark_before, name_text, next_value, seen, value_of};
+ghost use Rattle.mime_headers.specs.Head.{continued, field_named, field_of, first_seen, is_field, label_of, mark_before, name_text};
+ghost use Rattle.mime_headers.specs.Head.{next_value, seen, value_of};
 ghost use Rattle.mime_headers.specs.Head.{values_of};
 ghost use Rattle.mime_headers.specs.Inner.{field_now};
 
@@ -153,8 +154,8 @@ fn value_of(alloc: Global, alone: bool, lines: &[&[u8]], start: &[u8]) -> Made<V
     Ok(value)
 }
 
-/// Returns the values of a field in lines, in order. A value has the rest of a line, and the next lines that continue it. All are trimmed, and
-/// joined by single spaces. `alone` says that the lines have no start line.
+/// Returns the values of a field in lines, in order. A value has the rest of a line, and the next lines that continue it. All are trimmed,
+/// and joined by single spaces. `alone` says that the lines have no start line.
 pub(crate) fn values_of(
     alloc: Global,
     name: Name,
@@ -172,7 +173,8 @@ pub(crate) fn values_of(
     Ok(values)
 }
 
-/// Returns the name of the first of the two fields in plain sight in a line: at its start, or behind a byte other than a letter, a digit, `-`,
+/// Returns the name of the first of the two fields in plain sight in a line: at its start, or behind a byte other than a letter, a digit,
+/// `-`,
 /// `_` and `[`.
 pub(crate) fn seen(line: &[u8]) -> Option<Name>
     ensures { result ≡ seen line.now }

@@ -1,8 +1,10 @@
 //! The heads of an input, and the lines in no head that have one of the two fields in plain sight.
 
-ghost use Rattle.std.specs.Prelude.{◌≡◌, ◌++◌, ◌∷◌, ◌==◌, ◌&&◌, ◌||◌, ◌<◌, ◌≤◌, ℕ, List, false, length, map, option_and_then, option_map, unwrap_or, is_none, is_some, IfOk, OnOk};
+ghost use Rattle.std.specs.Prelude.{◌≡◌, ◌++◌, ◌∷◌, ◌==◌, ◌&&◌, ◌||◌, ◌<◌, ◌≤◌, ℕ, List, false, length, map, option_and_then, option_map};
+ghost use Rattle.std.specs.Prelude.{unwrap_or, is_none, is_some, IfOk, OnOk};
 ghost use Rattle.std.specs.List.{filter_map, position_or_len};
-ghost use Rattle.mime_headers.specs.Head.{is_alone, is_blank, is_end, is_sign, is_start, kind_of, items_in, items_of, lines_under, mark_before, mark_of_fields, part_from, strays_of};
+ghost use Rattle.mime_headers.specs.Head.{is_alone, is_blank, is_end, is_sign, is_start, kind_of, items_in, items_of, lines_under};
+ghost use Rattle.mime_headers.specs.Head.{mark_before, mark_of_fields, part_from, strays_of};
 ghost use Rattle.mime_headers.specs.Head.{text_with, title_of};
 ghost use Rattle.mime_headers.specs.Inner.{head_now, items_now, lines_now, part_now};
 
@@ -95,7 +97,8 @@ fn head_len(mark: &[u8], needs_sign: bool, lines: &[&[u8]]) -> usize
 
 /// Returns the number of lines before a blank line or a start line.
 fn block_len(lines: &[&[u8]]) -> usize
-    ensures len { result ≡ position_or_len (λ it. is_blank it || is_some (mark_before is_start false it)) (map (λ line. line.now) lines.now) }
+    ensures len { result ≡ position_or_len (λ it. is_blank it || is_some (mark_before is_start false it))
+        (map (λ line. line.now) lines.now) }
     ensures within { result ≤ length lines.now }
 {
     for (at, line) in lines.iter().enumerate() {

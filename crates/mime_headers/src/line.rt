@@ -3,7 +3,8 @@
 ghost use Rattle.std.specs.Prelude.{◌≡◌, ◌≤◌, ◌==◌, ◌||◌, length, option_map, IfOk};
 ghost use Rattle.std.specs.{Char.is_ascii_digit, List.prefix_len, Vec.vec_items};
 ghost use Rattle.mime_http.specs.{HttpList.trim_start, Lacks.begins};
-ghost use Rattle.mime_headers.specs.Head.{bare, bare_lines, begins_sign, escape_len, goes_on, is_blank, is_sign, signed, text_with, without_escapes};
+ghost use Rattle.mime_headers.specs.Head.{bare, bare_lines, begins_sign, escape_len, goes_on, is_blank, is_sign, signed, text_with};
+ghost use Rattle.mime_headers.specs.Head.{without_escapes};
 ghost use Rattle.mime_headers.specs.Inner.{lines_now};
 
 use mime_io::first_line;

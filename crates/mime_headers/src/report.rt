@@ -1,11 +1,13 @@
 //! The report on heads.
 
-ghost use Rattle.std.specs.Prelude.{◌≡◌, ◌++◌, ℕ, Bool, List, [], Err, Ok, Option, None, Some, map, flat_map, OnOk, IfOk, MatchOption, MatchResult};
+ghost use Rattle.std.specs.Prelude.{◌≡◌, ◌++◌, ℕ, Bool, List, [], Err, Ok, Option, None, Some, map, flat_map, OnOk, IfOk, MatchOption};
+ghost use Rattle.std.specs.Prelude.{MatchResult};
 ghost use Rattle.std.specs.Prelude.{option_map, slice_get, unwrap_or, vec_items, ◌&&◌, ◌==◌, if◌then◌else◌, length, codes, ◌+◌};
 ghost use Rattle.std.specs.{List.FoldsTo, List.enumerate_from};
 ghost use Rattle.mime.specs.Values.{MediaType};
 ghost use Rattle.mime_http.specs.Ranking.{IsRanking};
-ghost use Rattle.mime_headers.specs.{Head.first_seen, Head.heads_of, Inner.head_now, Inner.item_now, Inner.medias, Inner.ranges_now, Inner.state_now};
+ghost use Rattle.mime_headers.specs.Head.{first_seen, heads_of};
+ghost use Rattle.mime_headers.specs.Inner.{head_now, item_now, medias, ranges_now, state_now};
 ghost use Rattle.mime_headers.specs.{Head.field_of, Head.is_alone, Inner.field_now};
 ghost use Rattle.mime_headers.specs.Report as Spec;
 
@@ -29,7 +31,8 @@ pub enum Verdict {
     /// are no offers.
     Acceptable,
     /// A `Content-Type` is rejected; or a response weighs 0 by its request, or a request by its response (RFC 9110, 15.5.16); or there are
-    /// offers and each weighs 0, for which a server may reply with 406 (15.5.7). The last request with an `Accept` decides the offers' weights.
+    /// offers and each weighs 0, for which a server may reply with 406 (15.5.7). The last request with an `Accept` decides the offers'
+    /// weights.
     NotAcceptable,
 }
 
@@ -235,8 +238,8 @@ fn expects_type(kind: Kind, title: &[u8]) -> bool
     is_final(kind) && code != b"204".as_slice() && code != b"304".as_slice()
 }
 
-/// Adds the row of a media type, weighed like an offer by ranges, and sets `good` to `false` if it weighs 0. Without ranges or a media type,
-/// adds nothing.
+/// Adds the row of a media type, weighed like an offer by ranges, and sets `good` to `false` if it weighs 0. Without ranges or a media
+/// type, adds nothing.
 fn push_weight(
     text: &mut Vec<u8>,
     good: &mut bool,
@@ -245,7 +248,8 @@ fn push_weight(
     media: Option<&Mime>,
 ) -> Made<()>
     ensures { OnOk result ((weighed : List ℕ × Bool)
-        × Spec.IsWeighed label.now (option_map (λ ranges. medias ranges.now) ranges.entry) (option_map (λ mime. mime.now.media) media.entry) weighed
+        × Spec.IsWeighed label.now (option_map (λ ranges. medias ranges.now) ranges.entry)
+        (option_map (λ mime. mime.now.media) media.entry) weighed
         × (vec_items text.new ≡ vec_items text.old ++ weighed.0) × (good.new ≡ (good.old && weighed.1))) }
 {
     let Some(ranges) = ranges else {
@@ -330,7 +334,8 @@ fn push_missing(report: &mut Report, offers: &[Mime]) -> Made<()>
 
 /// Adds the rows of the lines of `Accept`, and returns their ranges, or `None` if there are no lines.
 fn push_accept(text: &mut Vec<u8>, lines: &[Vec<u8>]) -> Made<Option<Vec<Mime>>>
-    ensures { IfOk result (λ ranges. Spec.AddsAccept (map vec_items lines.now) (vec_items text.old) (vec_items text.new, ranges_now ranges)) }
+    ensures { IfOk result (λ ranges. Spec.AddsAccept (map vec_items lines.now) (vec_items text.old)
+        (vec_items text.new, ranges_now ranges)) }
 {
     if lines.is_empty() {
         return Ok(None);
@@ -345,7 +350,8 @@ fn push_accept(text: &mut Vec<u8>, lines: &[Vec<u8>]) -> Made<Option<Vec<Mime>>>
 
 /// Adds the rows of the offers by ranges, if any, and of the best.
 fn push_choice(report: &mut Report, offers: &[Mime], ranges: Option<&[Mime]>) -> Made<()>
-    ensures { OnOk result (Spec.AddsChoice (medias offers.now) (option_map (λ ranges. medias ranges.now) ranges.entry) (state_now report.old)
+    ensures { OnOk result (Spec.AddsChoice (medias offers.now) (option_map (λ ranges. medias ranges.now) ranges.entry)
+        (state_now report.old)
         (state_now report.new)) }
 {
     let Some(ranges) = ranges else {
@@ -472,7 +478,8 @@ fn push_types(text: &mut Vec<u8>, good: &mut bool, values: &[Vec<u8>]) -> Made<O
 /// Reads a value of a field. If it is rejected, adds the rows of its fault and returns `None`.
 fn read(text: &mut Vec<u8>, label: &[u8], value: &[u8]) -> Made<Option<Mime>>
     ensures { IfOk result (λ found. MatchOption found
-        ((error : FieldError) × Spec.IsRead value.now (Err error) × (vec_items text.new ≡ vec_items text.old ++ Spec.fault_rows label.now value.now error))
+        ((error : FieldError) × Spec.IsRead value.now (Err error)
+        × (vec_items text.new ≡ vec_items text.old ++ Spec.fault_rows label.now value.now error))
         (λ mime. Spec.IsRead value.now (Ok mime.media) × (vec_items text.new ≡ vec_items text.old))) }
 {
     match content_type(*text.allocator(), value) {
@@ -657,7 +664,8 @@ fn decider<'r>(ranges: &'r [Mime], one: &RankedOffer) -> Option<(usize, &'r Mime
 /// Adds each range that would decide the weight of an offer if the offer didn't lack a parameter.
 fn push_lacked(text: &mut Vec<u8>, ranges: &[Mime], by: Option<&Mime>, offer: &Mime) -> Made<()>
     ensures { OnOk result (vec_items text.new ≡ vec_items text.old
-        ++ flat_map (Spec.lacks_text offer.now.media (option_map (λ range. range.now.media) by.entry)) (enumerate_from 0 (medias ranges.now))) }
+        ++ flat_map (Spec.lacks_text offer.now.media (option_map (λ range. range.now.media) by.entry))
+        (enumerate_from 0 (medias ranges.now))) }
 {
     for (at, range) in ranges.iter().enumerate() {
         if let Some((name, value)) = lacked(range, by, offer) {

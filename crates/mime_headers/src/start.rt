@@ -3,7 +3,8 @@
 ghost use Rattle.std.specs.Prelude.{◌≡◌, ◌==◌, ◌&&◌, not, length, option_map};
 ghost use Rattle.std.specs.{Char.is_ascii_digit, List.before_first, List.after_first, List.list_all};
 ghost use Rattle.mime.specs.Bytes.{is_token_byte};
-ghost use Rattle.mime_headers.specs.Head.{has_authority, is_request_line, is_start, is_status_line, is_target, is_version, kind_of, mark_before};
+ghost use Rattle.mime_headers.specs.Head.{has_authority, is_request_line, is_start, is_status_line, is_target, is_version, kind_of};
+ghost use Rattle.mime_headers.specs.Head.{mark_before};
 
 use crate::line::{begins, signed, trim_start};
 use mime_search::{Class, first_stop};

@@ -1,5 +1,6 @@
 -- No line so far ends the block.
-use Rattle.mime_headers.proofs.Common.{Bool, List, drop, false, is_blank, is_some, is_start, map, mark_before, position_or_len, ℕ, ◌+◌, ◌||◌, ◌≡◌}
+use Rattle.mime_headers.proofs.Common.{Bool, List, drop, false, is_blank, is_some, is_start, map, mark_before, position_or_len, ℕ, ◌+◌}
+use Rattle.mime_headers.proofs.Common.{◌||◌, ◌≡◌}
 use Rattle.mime_headers.proofs.head.block_len.Given as goal
 
 abbrev pub invariant-loop-at : goal.invariant-loop-at

@@ -13,7 +13,8 @@ loop-line-preserved c =
     let some : 0 < length part.lines.now = search rules in (
       search rules,
       next_items c.args.is_cut c.loop-line.alone c.loop-line.needs_sign c.args.lines.now c.loop-line.at _ _ _ (part_now part) _ _ _ _ _ _ _
-          are c.start_mark-start.ensures (rw rest at c.part_from-part.ensures.part _ _ are) (sym (length-map part.lines.now (λ line. line.now)))
+          are c.start_mark-start.ensures (rw rest at c.part_from-part.ensures.part _ _ are)
+          (sym (length-map part.lines.now (λ line. line.now)))
           some (rw rest at c.is_open.ensures) c.is_still_alone-alone.ensures c.needs_sign_after-needs_sign.ensures
           c.in_ok-push_items.ensures c.loop-line.invariant.1,
     )

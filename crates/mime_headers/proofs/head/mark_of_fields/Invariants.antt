@@ -1,5 +1,6 @@
 -- No line so far begins with a field, and the mark is that of the first line with one.
-use Rattle.mime_headers.proofs.Common.{List, Some, [], drop, false, filter_map, if◌then◌else◌, is_field, list_any, map, mark_before, mark_of_fields, option_map, option_or, slice_get, ℕ, ◌≡◌}
+use Rattle.mime_headers.proofs.Common.{List, Some, [], drop, false, filter_map, if◌then◌else◌, is_field, list_any, map, mark_before}
+use Rattle.mime_headers.proofs.Common.{mark_of_fields, option_map, option_or, slice_get, ℕ, ◌≡◌}
 use Rattle.mime_headers.proofs.head.mark_of_fields.Given as goal
 
 abbrev pub invariant-loop-line : goal.invariant-loop-line

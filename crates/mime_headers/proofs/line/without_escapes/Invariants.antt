@@ -4,7 +4,8 @@ use Rattle.mime_headers.proofs.line.without_escapes.Given as goal
 
 abbrev pub invariant-loop-byte : goal.invariant-loop-byte
 invariant-loop-byte l =
-    l.found ≡ false → take l.byte-index l.byte-items ++ without_escapes (drop l.byte-index l.byte-items) ≡ without_escapes (vec_items l.fn.bytes)
+    l.found ≡ false → take l.byte-index l.byte-items ++ without_escapes (drop l.byte-index l.byte-items)
+    ≡ without_escapes (vec_items l.fn.bytes)
 
 abbrev pub invariant-loop-at : goal.invariant-loop-at
 invariant-loop-at l = vec_items l.plain ++ plain_after l.passed (drop l.at l.byte-items) ≡ without_escapes (vec_items l.fn.bytes)

@@ -1,5 +1,6 @@
 -- The answer to the words that are left is the answer to all.
-use Rattle.mime_headers.proofs.Common.{AreOffers, FieldError, Global, List, MediaType, Result, String, [], drop, into_iter_items, into_iter_len, map, string_bytes, take, vec_items}
+use Rattle.mime_headers.proofs.Common.{AreOffers, FieldError, Global, List, MediaType, Result, String, [], drop, into_iter_items}
+use Rattle.mime_headers.proofs.Common.{into_iter_len, map, string_bytes, take, vec_items}
 use Rattle.mime_headers.proofs.offers.read_offers.Given as goal
 
 abbrev pub invariant-loop-word : goal.invariant-loop-word

@@ -1,5 +1,6 @@
 -- The next item is added.
-use Rattle.mime_headers.proofs.Common.{FoldsTo-push, arith, item_now, length, map_more, rules, state_now, take_all, tests, vec_items, ◌<◌, ◌≡◌}
+use Rattle.mime_headers.proofs.Common.{FoldsTo-push, arith, item_now, length, map_more, rules, state_now, take_all, tests, vec_items, ◌<◌}
+use Rattle.mime_headers.proofs.Common.{◌≡◌}
 use Rattle.mime_headers.proofs.report.report_of.Goals as goal
 
 pub loop-item-preserved : goal.loop-item-preserved
