@@ -65,7 +65,7 @@ fn main(rt: HostRuntime) -> ExitCode {
             let Ok(Ok(word)) = shown else {
                 return stopped(&rt, &RunError::NoMemory);
             };
-            let usage = "usage: mime_headers [OFFER..]";
+            let usage = "usage: mime_headers [--unproved] [OFFER..] <FILE";
             return stopped(&rt, &format_args!("bad offer {word}: {error}\n{usage}"));
         }
     };
