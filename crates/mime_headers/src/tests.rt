@@ -6,7 +6,7 @@ use std::process::Abort;
 
 const HEAD: &[u8] = b"Accept: a/b\n\n";
 
-const REPORT: &[u8] = b"no Content-Type\nAccept 1.000 a/b\n";
+const REPORT: &[u8] = b"Accept 1.000 a/b\n";
 
 #[test]
 fn makes_these_calls_alone(rt: HostRuntime) {
