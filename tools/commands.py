@@ -334,13 +334,18 @@ def tell_progress(crate, began, logs):
     say(start + "; ".join([f"{crate}: {minutes} min {seconds} s", *parts]), end=end)
 
 
+def mark_of(sources, made):
+    """What marks a program as built from the sources with this checksum."""
+    return sources + run_ok("sh", "-c", 'cksum <"$0"', made)
+
+
 @functools.lru_cache(None)
 def program(crate, kind=""):
     """The program of a crate, of one kind, that was proved and built from its sources; if none was, rt does so, once no other run does."""
     out, sources, command = f"{TOP}/crates/{crate}/out", run_ok("tools/sources", crate), KINDS[kind]
     made, began = f"{out}/{crate}{kind}", f"{out}/build.began"
-    mark, marked = Path(f"{made}.sources"), lambda: sources + run_ok("sh", "-c", 'cksum <"$0"', made)
-    is_current = lambda: os.path.exists(made) and mark.exists() and mark.read_text("utf-8") == marked()
+    mark = Path(f"{made}.sources")
+    is_current = lambda: os.path.exists(made) and mark.exists() and mark.read_text("utf-8") == mark_of(sources, made)
     if is_current():
         return made
     say(
@@ -363,7 +368,7 @@ def program(crate, kind=""):
             os.replace(built, made)
             # If a source was touched or is lost meanwhile, the next run builds again.
             if not output(["tools/sources", crate], env={**os.environ, "SINCE": began})[0]:
-                write(mark, marked())
+                write(mark, mark_of(sources, made))
     return made
 
 

@@ -1,5 +1,5 @@
 """The copy of the crates in which the tools of `check` prove, beside rt ci. rt ci proves each library from nothing, and gives back what was
-there before. So that nothing is proved twice, its libraries are put into the copy."""
+there before. So that nothing is proved twice, its libraries are put into the copy, and, once it has passed, the programs that it built."""
 
 import fcntl
 import os
@@ -13,10 +13,13 @@ from contextlib import contextmanager, suppress
 from glob import glob
 from pathlib import Path
 
-from commands import ANEW, CACHE, TOP, below, checksum, copy_sources, link_or_copy, output, write
+from commands import ANEW, CACHE, TOP, below, checksum, copy_sources, is_kept, keep, link_or_copy, mark_of, output, run_ok, write
 
 # What decides what lies in a copy, beside the kit and what the tools share.
 SOURCES = "crates.txt", "HANDLES", "crates", "tools/c_library", "tools/mutation_test"
+# What rt ci reads, and what it refuses in any other place, whether git ignores it or not.
+CI_READS = "crates.txt", "HANDLES", "crates", "check"
+CI_REFUSES = "-name *.rt -o -name *.antt -o -name *.bazel -o -name crates.txt -o -name .git -o -type l"
 # How many copies are kept, and for how many seconds any other, in which a run may still work.
 MOST, LONGEST_RUN = 2, 10_800
 # Prints each library below a folder, and the mark by which rt knows that a library is built from the sources there.
@@ -83,6 +86,18 @@ def held(folder):
         os.close(descriptor)
 
 
+def programs():
+    """The crates that are programs."""
+    return [crate for crate in os.listdir(f"{TOP}/crates") if os.path.exists(f"{TOP}/crates/{crate}/src/main.rt")]
+
+
+def refused_by_ci():
+    """The sources that rt ci reads even if git ignores them, as a checksum, and the paths of what it may refuse outside of them."""
+    skipped = "-path ./.git -prune -o -path ./crates/*/out -prune -o".split()
+    found = run_ok("find", ".", *skipped, "(", *CI_REFUSES.split(), ")", "-print")
+    return run_ok("tools/sources") + "\n".join(sorted(found.split("\n")))
+
+
 class Proofs:
     """The copy, and the libraries that come from rt ci, as far as it says in a file what it has proved, and has not ended."""
 
@@ -90,7 +105,8 @@ class Proofs:
         self.said, self.began, self.ended = said, f"{room}/began", f"{room}/ended"
         write(self.began, "")
         self.top = copy_of_crates(room)
-        self.marks, self.there = marks_of(self.top), set()
+        self.marks, self.there, self.ci = marks_of(self.top), set(), ("rt ci", CI_READS, refused_by_ci())
+        self.is_ci_kept = is_kept(*self.ci) and all(os.path.exists(f"{self.top}/built/{it}/{it}") for it in programs())
 
     def environment(self):
         """Tells the tools where the copy is, and whether libraries come."""
@@ -100,7 +116,8 @@ class Proofs:
         """The libraries that are proved in the copy by now, and all once rt ci has ended: the tools prove what it didn't bring."""
         if os.path.exists(self.ended):
             return {*os.listdir(f"{self.top}/crates")}
-        proved = IS_PROVED.findall(Path(self.said).read_text("utf-8", "replace")) if os.path.exists(self.said) else []
+        said = Path(self.said).read_text("utf-8", "replace") if os.path.exists(self.said) else ""
+        proved = self.marks if self.is_ci_kept else IS_PROVED.findall(said)
         for crate in sorted({*self.marks} - self.there, key=lambda it: len(below(it))):
             if crate in proved and not self.is_here(crate):
                 self.put(crate)
@@ -128,3 +145,16 @@ class Proofs:
         """Whether the libraries below a crate are the same in the copy as those over which rt ci proved the crate."""
         formats = [[f"{top}/crates/{it}/out/rlib/{it}.rlib/format" for top in (TOP, self.top)] for it in below(crate)[:-1]]
         return all(Path(one).read_bytes() == Path(other).read_bytes() for one, other in formats)
+
+    def keep_ci(self, sources):
+        """Marks the programs that rt ci built from sources with these checksums, and keeps them, and that it passed."""
+        found = [path for path in glob(f"{TOP}/crates/*/out/*") if os.path.isfile(path) and os.access(path, os.X_OK)]
+        for path in found:
+            write(f"{path}.sources", mark_of(sources[path.split("/")[-3]], path))
+        with suppress(OSError):
+            for path in found:
+                to = f"{self.top}/built/{path.split('/')[-3]}"
+                os.makedirs(to, exist_ok=True)
+                for file in (path, f"{path}.sources"):
+                    shutil.copy2(file, to)
+            keep(*self.ci)
