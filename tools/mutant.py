@@ -44,8 +44,9 @@ class Mutant:
             raise Unfit(str(error)) from error
         if self.kind == "test" and {change.path.rpartition("/")[0] for change in self.changes} != {f"crates/{self.crate}/src"}:
             raise Unfit("what a test kills changes files of its crate's folder src alone")
-        # Where each change lies: at the head of a function, if it is in one.
-        self.places = {(change.path, head_of(change)) for change in self.changes}
+        # Where each change lies: at the head of a function, if it is in one. What is in none may be what others of its file rest on.
+        self.places, self.paths = {(change.path, head_of(change)) for change in self.changes}, {change.path for change in self.changes}
+        self.is_in_bodies = all(map(is_in_body, self.changes))
         self.function = function_at(*min(self.places), self.asked) if self.kind == "clause" and len(self.places) == 1 else None
         self.texts = texts
 
@@ -67,7 +68,9 @@ class Mutant:
             return False
         if self.kind == "test" or self.function and self.function == other.function:
             return True
-        if self.places & other.places:
+        if self.places & other.places or self.kind == "row" and self.apart:
+            return False
+        if self.kind == "clause" and not (self.is_in_bodies and other.is_in_bodies) and self.paths & other.paths:
             return False
         if self.kind == "tool":
             return self.asked == other.asked and self.prints not in other.prints and other.prints not in self.prints
@@ -154,6 +157,17 @@ def head_of(change):
     """The position of the name of the function in which a change lies, or its own if it is in none."""
     end = change.at + len(change.old)
     return text_of(change.path).rfind("fn ", 0, end) if change.path.endswith(".rt") else end
+
+
+def is_in_body(change):
+    """Whether a change lies in a function's body. If it is before, as a contract is, or after, other functions may rest on it."""
+    if not change.path.endswith(".rt"):
+        return False
+    text, head = text_of(change.path), head_of(change)
+    line = text.rfind("\n", 0, head) + 1
+    indent = re.match(" *", text[line:])[0]
+    begin = re.compile(rf"^{indent}(?! ).*\{{$", re.M).search(text, line)
+    return bool(begin) and begin.end() <= change.at < text.find(f"\n{indent}}}\n", begin.end())
 
 
 def function_at(path, at, asked):
