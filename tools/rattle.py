@@ -1,15 +1,31 @@
 """What the tools read of Rattle's sources, other than by the prover. tools/docs tries the examples of this file.
 
-The imports of a file, each with its whole path, however it is written:
+The imports of a source, each with the name that it has here, its path, and whether it is exported:
 
->>> list(imported_paths("use Rattle.mime.proofs.{ValueLemmas.Pairs.spaces_border, HandedOut.one}"))
+>>> source = "pub use std::fmt::{Debug,\\n    Display as Shown};\\nuse mime::*; // all\\nfn f() {}\\n"
+>>> for found in imports(source): print(*found)
+Debug std::fmt::Debug True
+Shown std::fmt::Display True
+* mime::* False
+>>> without_imports(without_comments("f.rt", source)).split()
+['fn', 'f()', '{}']
+
+A path has no braces, however the import is written:
+
+>>> paths = lambda text: [found.path for found in imports(text)]
+>>> paths("use Rattle.mime.proofs.{ValueLemmas.Pairs.spaces_border, HandedOut.one}")
 ['Rattle.mime.proofs.ValueLemmas.Pairs.spaces_border', 'Rattle.mime.proofs.HandedOut.one']
->>> list(imported_paths("pub use Rattle.mime.{proofs.{ValueLemmas.{one, two as three}}, specs.Inner as Private}"))
+>>> paths("pub use Rattle.mime.{proofs.{ValueLemmas.{one, two as three}}, specs.Inner as Private}")
 ['Rattle.mime.proofs.ValueLemmas.one', 'Rattle.mime.proofs.ValueLemmas.two', 'Rattle.mime.specs.Inner']
->>> list(imported_paths("ghost use Rattle.std.specs.Prelude.{◌≡◌, [],\\n    length};\\nuse std::fmt;"))
+>>> paths("ghost use Rattle.std.specs.Prelude.{◌≡◌, [],\\n    length};\\nuse std::fmt;")
 ['Rattle.std.specs.Prelude.◌≡◌', 'Rattle.std.specs.Prelude.[]', 'Rattle.std.specs.Prelude.length', 'std::fmt']
->>> list(imported_paths("-- use Rattle.mime.proofs.Hidden.{one}"))
+>>> paths("-- use Rattle.mime.proofs.Hidden.{one}")
 []
+
+The names that a source imports and doesn't use:
+
+>>> unused_imports("f.antt", "use a.{b, ◌∷◌, [], c-d as e}\\nf : b.x → (1 ∷ c-d) -- e\\n")
+['[]', 'e']
 
 Whether a proof of another crate may import a path of a library:
 
@@ -21,6 +37,64 @@ True
 [False, False, False]
 >>> [is_handed_out(path, "mime", {"Inner"}) for path in ("Rattle.mime.specs.Values.MediaType", "Rattle.mime_http.proofs.Walks.one")]
 [True, True]
+
+What a source of code makes public, and what its `unsafe` blocks call:
+
+>>> modules("pub mod one;\\nmod two;\\npub mod Three\\n")
+['one', 'Three']
+>>> sorted(exported("pub use crate::one::{A, B};\\npub use crate::two::C;\\nuse crate::one::D;\\n"))
+['A', 'B', 'C']
+>>> types("pub struct One;\\nstruct Two;\\npub trait Three {\\n}\\n")
+['One', 'Three']
+>>> variants("pub enum Atom {\\n    /// `a/b`\\n    A_B,\\n    C,\\n}\\npub enum Other {\\n    D,\\n}\\n", "Atom")
+['A_B', 'C']
+>>> unsafe_calls("let text = unsafe { str::from_utf8_unchecked(bytes) };\\n")
+['from_utf8_unchecked']
+
+The items of a source of code, and a function's clauses:
+
+>>> code = '''#[derive(Clone)]
+... #[non_exhaustive]
+... pub enum Kind {
+...     A,
+... }
+... impl Shown for Kind {
+...     ghost shows = { 1 };
+...     /// Returns `true`. Never fails.
+...     fn show(&self) -> bool
+...         ensures { result }
+...         ensures long { result ≡
+...             true }
+...     {
+...         true
+...     }
+... }
+... '''
+>>> for item in items(code): print(item.kind, item.name, item.text, sep=" | ")
+type | Kind | #[non_exhaustive] enum Kind { A }: Clone
+block |  | impl Shown for Kind
+fact | shows | 1
+call | show | fn show(&self) -> bool ensures { result } ensures long { result ≡ true }
+end |  | 
+>>> [(item.owners, item.sentence) for item in items(code) if item.kind in ("block", "call")]
+[(['Shown', 'Kind'], ''), ([], 'Returns `true`.')]
+>>> signature_and_clauses("fn show(&self) -> bool ensures { result } ensures long { result ≡ true }")
+('fn show(&self) -> bool', [('ensures', '', 'result'), ('ensures', 'long', 'result ≡ true')])
+
+What a file of proofs states, and the words that stand in it elsewhere than before a statement and its equations:
+
+>>> proofs = "pub one : ℕ\\none = two\\nrecord R : Type 0 where\\n  field : ℕ\\nthree : one ≡ one\\nthree = refl\\n"
+>>> for stated in statements(proofs): print(*stated, sep="|")
+one|True|
+three|False|
+>>> sorted(cited_words(proofs) & {"one", "two", "three", "refl"})
+['one', 'refl', 'two']
+
+How many lines of a file of specs/ have to be believed, which types of code it imports, and the texts that it has:
+
+>>> specs = "-- 1\\nuse Rattle.mime.specs.{declared.atoms.Atom.Atom}\\npub mod d\\n\\nabbrev pub e : ℕ\\ne = codes \\"x y\\"\\n"
+>>> count_of_lines(specs), types_of_code(specs), texts(specs)
+(2, ['Atom'], ['x y'])
 
 What a file of specs/ declares, with those of its names in whose place others would say the same:
 
@@ -78,22 +152,45 @@ import functools
 import itertools
 import re
 from collections import defaultdict, namedtuple
+from dataclasses import dataclass, field
+
+# ---- imports
 
 # The word `use` and what may stand before it on its line.
-_IMPORT = re.compile(r"^[ ]*(?:pub )?(?:ghost )?use ", re.M)
-
-
-def imported_paths(text):
-    """The path of each thing or module that a source imports, without its new name if it is renamed."""
-    return (path for _, path in imports(text))
+_IMPORT = re.compile(r"^[ ]*(pub )?(?:ghost )?use ", re.M)
+# A name that a source imports, the path of what it names, and whether it is exported.
+Import = namedtuple("Import", "name path is_exported")
 
 
 def imports(text):
-    """The name of each thing or module that a source imports, as the source calls it, and its path."""
-    for start in (match.end() for match in _IMPORT.finditer(text)):
-        for path in _expanded(text[start : _end_of_import(text, start)].rstrip("; \n")):
+    """What a source imports."""
+    for start in _IMPORT.finditer(text):
+        for path in _expanded(text[start.end() : _end_of_import(text, start.end())].rstrip("; \n")):
             path, _, new_name = (part.strip() for part in re.sub(r"\s+as\s+", "\0", path).partition("\0"))
-            yield new_name or re.split(r"::|\.", path)[-1], path
+            yield Import(new_name or re.split(r"::|\.", path)[-1], path, bool(start[1]))
+
+
+def without_imports(text):
+    """A source without what it imports."""
+    rest, end = "", 0
+    for start in _IMPORT.finditer(text):
+        rest, end = rest + text[end : start.start()], _end_of_import(text, start.end()) + 1
+    return rest + text[end:]
+
+
+def unused_imports(path, text):
+    """The names that a source at a path imports, and neither uses nor exports."""
+    text = without_comments(path, text)
+    rest = without_imports(text)
+    return [found.name for found in imports(text) if not found.is_exported and found.name != "*" and not _stands_in(found.name, rest)]
+
+
+def _stands_in(name, text):
+    """Whether a name stands in a text. Of an operator such as `◌≡◌` its signs do."""
+    for sign in name.replace("◌", " ").split():
+        if not re.search(rf"(?<![\w-]){re.escape(sign)}(?![\w-])" if re.match(r"\w", sign) else re.escape(sign), text):
+            return False
+    return True
 
 
 def _end_of_import(text, start):
@@ -137,6 +234,171 @@ def is_handed_out(path, library, private_files):
     return file == "HandedOut" if folder == "proofs" else folder == "specs" and file not in private_files | {""}
 
 
+# ---- sources of any kind
+
+
+def without_comments(path, text):
+    """The text of a source at a path, without comments."""
+    return re.sub("//.*" if path.endswith(".rt") else "--.*", "", text)
+
+
+def words(text):
+    """The words of a text."""
+    return set(re.findall(rf"{_NAME}", text))
+
+
+def modules(text):
+    """The public modules of a root."""
+    return re.findall(r"(?m)^pub mod (\w+)", text)
+
+
+def exported(text):
+    """The names that a root exports of its modules."""
+    return {found.name for found in imports(text) if found.is_exported}
+
+
+# ---- sources of code
+
+# What is read of a source: types, functions up to their bodies, what a block says of a type as callers see it, its beginning and end.
+_ITEM = re.compile(
+    r"^(?:#\[derive\((?P<derived>.*)\)\]\n(?P<marks>(?:#.*\n)*))?"
+    r"pub (?P<item>(?:struct|enum) (?P<type>\w+)(?:.*(?=;$)|.*\{\n(?:.*\n)*?\}$))"
+    r'|^(?P<inside> {4})?(?P<pub>pub(?:\(crate\))? )?(?P<function>(?:extern "C" )?fn (?!main\b)(?P<call>\w+)(?:.*\n)*?.*)(?:\{\}?|;)$'
+    r"|^    (?P<gives>type \w+ = .*);$"
+    r"|^    ghost (?!(?:view|invariant|laws|total|respects_eq|matches_\w+) )(?P<fact>\w+)(?: = \{ (?P<is>.*) \}|: \{ (?P<of>.*) \});$"
+    r"|^(?:pub )?(?P<block>(?:impl|trait)\b.*?) \{\}?$|^\}$",
+    re.M,
+)
+
+
+@dataclass
+class Item:
+    """An item of a source: a `type`, a `block` (an impl or a trait) or its `end`, a `fact` of a block or what it `gives`, or a `call`."""
+
+    kind: str
+    name: str = ""
+    # Its text on one line, without comments and without its body.
+    text: str = ""
+    # `pub ` or `pub(crate) ` of a call, and whether it is in a block.
+    visibility: str = ""
+    is_inside: bool = False
+    # The first sentence of the comment above a call.
+    sentence: str = ""
+    # Of a block the trait and the type, or one of them; whether nothing is in it.
+    owners: list = field(default_factory=list)
+    is_empty: bool = False
+
+
+def items(text):
+    """The items of a source of code, in order."""
+    for found in _ITEM.finditer(text):
+        if found["type"]:
+            yield Item("type", found["type"], _line_of_type(found))
+        elif found["fact"]:
+            yield Item("fact", found["fact"], found["is"] or found["of"].replace(" } = { ", " = "))
+        elif found["gives"]:
+            yield Item("gives", text=found["gives"])
+        elif found["call"]:
+            above = _first_sentence(text[: found.start()])
+            yield Item("call", found["call"], _joined(found["function"]), found["pub"] or "", bool(found["inside"]), above)
+        elif found["block"]:
+            owners = re.sub(r"<[^<>]*>|\w+::|&|: .*", "", found["block"]).split()[1::2]
+            yield Item("block", text=found["block"], owners=owners, is_empty=found[0].endswith("{}"))
+        else:
+            yield Item("end")
+
+
+def _joined(text):
+    """The lines of a type or a function as one line, without comments."""
+    return re.sub(r"(?<=\() |,? (?=\))|,(?= \})| \{ \}$", "", " ".join(re.sub("//.*", "", text).split()))
+
+
+def _line_of_type(found):
+    """A type on one line, with the traits that it derives; without private fields, and without a long list of variants."""
+    line = re.sub(r"\{.{400,}\}", "{ .. }", _joined(re.sub(r"(?m)^ {4}(?!pub )[a-z].*\n", "", found["item"])))
+    mark = "#[non_exhaustive] " if "#[non_exhaustive]" in (found["marks"] or "") else ""
+    return mark + line + (f": {found['derived']}" if found["derived"] else "")
+
+
+def _first_sentence(above):
+    """The first sentence of the comment above a function, before its attributes. A period in back quotes or parentheses ends none."""
+    comment = re.search(r"(?m)((?:^ *///.*\n)*)(?:^ *#\[.*\n)*\Z", above)[1]
+    lines = (line.strip(" /") for line in comment.splitlines())
+    first = re.match(r"(?:`[^`]*`|\([^()]*\)|[^`(.]|\.(?! |$))*\.?", " ".join(itertools.takewhile(bool, lines)))[0]
+    return re.sub(r"\[(`[^`]*`)\](?:\([^()]*\))?", r"\1", first)
+
+
+def signature_and_clauses(line):
+    """A function's signature, and of each clause its kind, its name, if it has one, and what it says."""
+    signature, *clauses = re.split(r" (?=(?:requires|ensures) )", line)
+    return signature, [re.fullmatch(r"(requires|ensures) ?(\w*) \{ (.*) \}", clause).groups() for clause in clauses]
+
+
+def types(text):
+    """The public types and traits of a source."""
+    return re.findall(r"(?m)^pub (?:struct|enum|trait) (\w+)", text)
+
+
+def variants(text, name):
+    """The variants without fields of a type."""
+    return re.findall(r"(?m)^    (\w+),$", re.search(rf"(?ms)^pub enum {name} \{{(.*?)^\}}", text)[1])
+
+
+def unsafe_calls(text):
+    """The functions that a source calls in `unsafe` blocks."""
+    return re.findall(r"unsafe \{ *(?:\w+::)?(\w*)", text)
+
+
+def without_head(text):
+    """A source without the comment at its beginning."""
+    return re.sub(r"\A(?://! .*\n)+\n", "", text)
+
+
+def documentation(text):
+    """A source with what its comments say of it as a whole as plain text."""
+    return re.sub(r"(?m)^//! ?", "", text)
+
+
+# ---- proofs
+
+_NAME = r"[^\s(){}\[\].,;:=λ]+"
+# What is stated: its name, whether it is public, and what is before it on its line.
+Statement = namedtuple("Statement", "name is_public indent")
+
+
+def statements(text):
+    """What a file of proofs states. A record's fields aren't stated: a search may take them without their names."""
+    without_records = re.sub(r"(?m)^( *)(?:pub )?record (?:.*\n)*?.*\bwhere\n(?:\1 .*\n)*", "", text)
+    for indent, is_public, name in re.findall(rf"(?m)^( *)(pub )?({_NAME}) : ", without_records):
+        yield Statement(name, bool(is_public), indent)
+
+
+def cited_words(text):
+    """The words of a source, but for the name before a statement, and before each of its equations."""
+    for stated in statements(text):
+        text = re.sub(rf"(?m)^{stated.indent}(?:pub )?{re.escape(stated.name)} (?=.*[:=])", "", text)
+    return words(text)
+
+
+# ---- definitions
+
+
+def count_of_lines(text):
+    """How many lines of a file of specs/ aren't empty, comments, imports or names of modules."""
+    return len(re.findall(r"(?m)^(?!\s*(?:--|(?:pub )?mod\b|$)).", without_imports(text)))
+
+
+def types_of_code(text):
+    """The types of code that a file of specs/ imports from the crates here."""
+    found = (re.match(r"Rattle\.mime.*\bdeclared\.(?:[a-z]\w*\.)*([A-Z]\w*)", found.path) for found in imports(text))
+    return [match[1] for match in found if match]
+
+
+def texts(text):
+    """The strings of a file of specs/, without line feeds."""
+    return [string.replace("\\n", "") for string in re.findall(r'\bcodes "((?:[^"\\]|\\.)*)"', text)]
+
+
 # What a file of specs/ declares at the start of a line: marks, and `data` or `record` if it isn't a function or a statement.
 _DECLARATION = re.compile(r"^(?!pub (?:use|mod) )(?:(?:abbrev|unfoldable|opaque|pub) )*(?:(data|record) )?(?<= )(\S+)(?= )", re.M)
 # A case of a type, with what is declared of it; a field of a record.
@@ -172,7 +434,7 @@ class Definitions:
         """The definitions of these files, whose texts stand by their paths."""
         self.declared, self.type_of, self.first_with = {}, {}, {}
         # What each name of a file stands for.
-        self.paths = {file: dict(imports(text)) for file, text in files.items()}
+        self.paths = {file: {found.name: found.path for found in imports(text)} for file, text in files.items()}
         for file, declaration in ((file, it) for file, text in files.items() for it in declarations(text)):
             path = f"{file}.{declaration.name}"
             self.declared[path] = file, declaration
