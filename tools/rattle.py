@@ -95,6 +95,8 @@ How many lines of a file of specs/ have to be believed, which types of code it i
 >>> specs = "-- 1\\nuse Rattle.mime.specs.{declared.atoms.Atom.Atom}\\npub mod d\\n\\nabbrev pub e : ℕ\\ne = codes \\"x y\\"\\n"
 >>> count_of_lines(specs), types_of_code(specs), texts(specs)
 (2, ['Atom'], ['x y'])
+>>> texts_of_cases('f : Kind → List ℕ\\nf ONE = codes "one"\\nf TWO = codes "two"\\n', "f")
+{'ONE': 'one', 'TWO': 'two'}
 
 What a file of specs/ declares, with those of its names in whose place others would say the same:
 
@@ -397,6 +399,11 @@ def types_of_code(text):
 def texts(text):
     """The strings of a file of specs/, without line feeds."""
     return [string.replace("\\n", "") for string in re.findall(r'\bcodes "((?:[^"\\]|\\.)*)"', text)]
+
+
+def texts_of_cases(text, function):
+    """The strings that a function of a file of specs/ has for the cases of a type."""
+    return dict(re.findall(rf'(?m)^{function} (\w+) = codes "(.*)"$', text))
 
 
 # What a file of specs/ declares at the start of a line: marks, and `data` or `record` if it isn't a function or a statement.
