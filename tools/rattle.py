@@ -10,6 +10,9 @@ Shown std::fmt::Display True
 >>> without_imports(without_comments("f.rt", source)).split()
 ['fn', 'f()', '{}']
 
+>>> without_comments("f.antt", 'f : codes "-- x" -- y')
+'f : codes "-- x" '
+
 A path has no braces, however the import is written:
 
 >>> paths = lambda text: [found.path for found in imports(text)]
@@ -239,9 +242,14 @@ def is_handed_out(path, library, private_files):
 # ---- sources of any kind
 
 
+# A string or a character, in which no comment begins.
+_LITERAL = r'"(?:[^"\\\n]|\\.)*"|\'(?:[^\'\\\n]|\\.)\''
+
+
 def without_comments(path, text):
     """The text of a source at a path, without comments."""
-    return re.sub("//.*" if path.endswith(".rt") else "--.*", "", text)
+    comment = "//.*" if path.endswith(".rt") else "--.*"
+    return re.sub(f"({_LITERAL})|{comment}", lambda found: found[1] or "", text)
 
 
 def words(text):
