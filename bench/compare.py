@@ -27,7 +27,7 @@ def once(top, crate, words):
     with open(f"{top}/bench/{given}" if given != os.devnull else given, "rb") as file:
         began = time.perf_counter()
         ended = subprocess.run(
-            [f"{top}/crates/{crate}/out/{crate}", *(it for it in words if it[0] != "<")],
+            [f"{top}/crates/{crate}/out/{crate}", *(word for word in words if word[0] != "<")],
             stdin=file,
             stdout=subprocess.PIPE,
             cwd=f"{top}/bench",
@@ -40,7 +40,7 @@ def counted(sides, seed):
     """The millions of instructions that a short run of each workload takes in each checkout."""
     runs = [[f"{top}/crates/mime_jobs/out/mime_jobs", name, seed, rounds] for name, rounds in SHORT.items() for top in sides]
     with ThreadPoolExecutor(os.cpu_count()) as pool:
-        counts = [it / 1e6 for it in pool.map(lambda words: instructions(words, b""), runs)]
+        counts = [count / 1e6 for count in pool.map(lambda words: instructions(words, b""), runs)]
     return dict(zip(SHORT, zip(counts[::2], counts[1::2])))
 
 
@@ -51,7 +51,7 @@ def compare(old, new, seed):
     print(f"seed {seed}, {TURNS} turns, millions of instructions of a short run")
     print(f"{'workload':<14}{'old, s':>8}{'new, s':>8}{'old/new':>9}{'old, M':>9}{'new, M':>9}   digest", flush=True)
     for name, crate, words in workloads(new):
-        words = [seed if it == "SEED" else it for it in words]
+        words = [seed if word == "SEED" else word for word in words]
         times = {old: [], new: []}
         for _ in range(TURNS + 1):
             said = {side: once(side, crate, words) for side in (old, new)}
@@ -60,5 +60,5 @@ def compare(old, new, seed):
             for side, found in times.items():
                 found.append(said[side][0])
         before, after = (median(times[side][1:]) for side in (old, new))
-        millions = "".join(f"{it:9.1f}" for it in counts[name])
+        millions = "".join(f"{count:9.1f}" for count in counts[name])
         print(f"{name:<14}{before:8.3f}{after:8.3f}{before / after:9.2f}{millions}   {said[new][1].decode().strip()}", flush=True)

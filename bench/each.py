@@ -13,14 +13,18 @@ from rows import ACCEPTS, LONGER, MARKED, NAME, OFFERS, TYPES, URL, profiles
 # How much more is dearer, and by how many instructions at least; by how many rounds two runs of driver.rs differ, and how often each of
 # them makes an operation, so that the loop counts for little.
 MORE, LEAST, ROUNDS, TIMES = 1.03, 3, 2, 8
-VALUES, HEADERS = ([*dict.fromkeys(it)] for it in (TYPES + LONGER, ACCEPTS))
+VALUES, HEADERS = ([*dict.fromkeys(texts)] for texts in (TYPES + LONGER, ACCEPTS))
 TEXTS, NEXT = VALUES + HEADERS, VALUES[1:] + VALUES[:1]
-ESSENCES, OFFERED = [(it, it.split(";")[0].strip()) for it in VALUES if ";" in it], [(it, offer) for it in HEADERS for offer in OFFERS]
+ESSENCES, OFFERED = [(value, value.split(";")[0].strip()) for value in VALUES if ";" in value], [
+    (header, offer) for header in HEADERS for offer in OFFERS
+]
 # Offers that have parameters, and with them what a client asks for.
 DETAILED = ["text/html; charset=utf-8; level=1", "application/json; version=2", *profiles("sz")]
 PROFILES = [(one, other) for one in DETAILED for other in DETAILED]
 # The values of parameters, without their quotes.
-PARAMETERS = [it for it in dict.fromkeys(it.strip('"') for it in re.findall(r'=("(?:[^\\"]|\\.)*"|[^\s;]+)', "\n".join(VALUES))) if it]
+PARAMETERS = [
+    value for value in dict.fromkeys(text.strip('"') for text in re.findall(r'=("(?:[^\\"]|\\.)*"|[^\s;]+)', "\n".join(VALUES))) if value
+]
 
 
 def beside(texts, other=""):
@@ -33,8 +37,8 @@ CALLS = [
     ("Mime::from_str", "read", beside(TEXTS)),
     ("content_type", "field", beside(TEXTS)),
     *(
-        (f"get_param of {it}", f"look_up_{operation}", beside(VALUES))
-        for it, operation in (('"charset"', "charset_str"), ('"level"', "missing"), ("CHARSET", "charset"), ("BOUNDARY", "boundary"))
+        (f"get_param of {key}", f"look_up_{operation}", beside(VALUES))
+        for key, operation in (('"charset"', "charset_str"), ('"level"', "missing"), ("CHARSET", "charset"), ("BOUNDARY", "boundary"))
     ),
     *(
         (label, operation, beside(VALUES))
@@ -51,7 +55,7 @@ CALLS = [
             ("with_parameter", "write_name"),
         )
     ),
-    ("with_parameter of long values", "write_parameter", [(it, mime) for it in (URL, NAME, MARKED) for mime in VALUES]),
+    ("with_parameter of long values", "write_parameter", [(value, mime) for value in (URL, NAME, MARKED) for mime in VALUES]),
     ("covers", "covers", beside(VALUES, VALUES) + beside(VALUES, NEXT) + PROFILES),
     *(
         (f"{label} {what}", operation, pairs)
@@ -69,12 +73,12 @@ CALLS = [
     ("rank_offers", "rank", beside(HEADERS, "\n".join(OFFERS))),
     ("best of offers with parameters", "best", beside([*HEADERS, ", ".join(DETAILED)], "\n".join(DETAILED))),
     ("weight", "weight", OFFERED),
-    ("weight_of", "weight_of", beside([*dict.fromkeys(it.strip() for header in HEADERS for it in header.split(","))])),
+    ("weight_of", "weight_of", beside([*dict.fromkeys(entry.strip() for header in HEADERS for entry in header.split(","))])),
     ("mime_read", "call_read", beside(TEXTS)),
     ("mime_content_type", "call_field", beside(TEXTS)),
     ("mime_list", "call_items", beside(TEXTS)),
     ("mime_accept", "call_accept", beside(HEADERS)),
-    *((f"mime_{it}", f"call_{it}", beside(HEADERS, ", ".join(OFFERS))) for it in ("best", "order")),
+    *((f"mime_{call}", f"call_{call}", beside(HEADERS, ", ".join(OFFERS))) for call in ("best", "order")),
     ("mime_boundary", "call_boundary", beside(VALUES)),
     ("mime_unescape", "call_unescape", beside(PARAMETERS)),
     ("mime_set_parameter", "call_set_parameter", beside(VALUES, "charset\nutf-8")),
@@ -96,11 +100,11 @@ def counted(driver, label, operation, pairs):
     done before it isn't counted."""
     function = label.split()[0] if operation.startswith("call_") else f"mime_bench::{MADE_BY.get(operation, operation)}"
     often = lambda text: text if "\n" in text else "\n".join([text] * TIMES)
-    given = "\1".join("\0".join(map(often, it)) for it in pairs).encode()
+    given = "\1".join("\0".join(map(often, pair)) for pair in pairs).encode()
     with tempfile.TemporaryDirectory() as room:
         counting = ["--tool=callgrind", f"--toggle-collect={function}", "--dump-before=mark", "--combine-dumps=yes"]
         run_ok("valgrind", *counting, f"--callgrind-out-file={room}/counts", driver, operation, "each", given=given)
-        totals = [int(it) for it in re.findall(r"(?m)^totals: (\d+)", Path(room, "counts").read_text(encoding="utf-8"))]
+        totals = [int(total) for total in re.findall(r"(?m)^totals: (\d+)", Path(room, "counts").read_text(encoding="utf-8"))]
     if 0 in totals[2::3]:
         raise OSError(f"{label}: {function} isn't called")
     return [(more - fewer) / ROUNDS / TIMES for fewer, more in zip(totals[1::3], totals[2::3], strict=True)]
@@ -108,25 +112,26 @@ def counted(driver, label, operation, pairs):
 
 def line(label, found):
     """A line of the table, of the ratios with their counts and strings."""
-    ratios, dearer = [it[0] for it in found], sum(here > max(MORE * start, start + LEAST - 1e-6) for _, here, start, _ in found)
+    ratios, dearer = [each[0] for each in found], sum(here > max(MORE * start, start + LEAST - 1e-6) for _, here, start, _ in found)
     cuts, (worst, here, start, text) = quantiles(ratios, n=10, method="inclusive"), max(found)
     return (
         f"{label:<36}{len(found):>7,}{cuts[4]:>8.2f}{cuts[8]:>7.2f}{worst:>7.2f}{here:>9,.1f}{start:>9,.1f}{dearer:>8,}"
-        f"{sum(it > 1.5 for it in ratios):>6,}  {text[:38]}".rstrip()
+        f"{sum(ratio > 1.5 for ratio in ratios):>6,}  {text[:38]}".rstrip()
     )
 
 
 def each(here, start, missing):
     """The lines of the table: how the costs with one driver compare with those with another, without the calls that this lacks."""
-    calls = [it for it in CALLS if it[0] not in missing]
+    calls = [call for call in CALLS if call[0] not in missing]
     with ThreadPoolExecutor(os.cpu_count()) as pool:
-        costs = [[pool.submit(counted, driver, *it) for it in calls] for driver in (here, start)]
+        costs = [[pool.submit(counted, driver, *call) for call in calls] for driver in (here, start)]
         every = []
         yield f"{'':<36}{'pairs':>7}{'median':>8}{'90 %':>7}{'worst':>7}{'here':>9}{'start':>9}{'dearer':>8}{'>1.5':>6}"
         for (label, _, pairs), *sides in zip(calls, *costs):
-            mine, its = (it.result() for it in sides)
-            found = [(it / max(other, 1), it, other, text) for it, other, (text, _) in zip(mine, its, pairs)]
+            mine, its = (side.result() for side in sides)
+            found = [(count / max(other, 1), count, other, text) for count, other, (text, _) in zip(mine, its, pairs)]
             every += found
             yield line(label, found)
         yield line("all", every)
-        yield f"sum of all counts: {sum(it[1] for it in every):,.0f} here, {sum(it[2] for it in every):,.0f} at the start"
+        sums = (sum(counts) for counts in ([count for _, count, _, _ in every], [count for _, _, count, _ in every]))
+        yield "sum of all counts: {:,.0f} here, {:,.0f} at the start".format(*sums)

@@ -55,8 +55,8 @@ def longer():
     serve = lambda label, is_one, most: Row(label, "serve", "\n".join(filter(is_one, LONGER)), most=most)
     yield Row("read", "read", "\n".join(LONGER), most=1_035, differs=True)
     yield serve("content_type, essence, CHARSET, boundary", bool, 1_656)
-    yield serve("the same, a quoted charset in lowercase", lambda it: 'charset="' in it and it == it.lower(), 1_020)
-    yield serve("the same, a quoted name", lambda it: 'name="' in it.lower(), 1_275)
+    yield serve("the same, a quoted charset in lowercase", lambda text: 'charset="' in text and text == text.lower(), 1_020)
+    yield serve("the same, a quoted name", lambda text: 'name="' in text.lower(), 1_275)
 
 
 def lists():
@@ -67,8 +67,8 @@ def lists():
 # What a browser's Accept header and that of a client for images of containers are.
 BROWSER = "text/html,application/xhtml+xml,application/xml;q=0.9,image/avif,image/webp,*/*;q=0.8"
 IMAGES = ", ".join(
-    f"application/vnd.{it}+json"
-    for it in ("docker.distribution.manifest.v2", "docker.distribution.manifest.list.v2", "oci.image.manifest.v1", "oci.image.index.v1")
+    f"application/vnd.{name}+json"
+    for name in ("docker.distribution.manifest.v2", "docker.distribution.manifest.list.v2", "oci.image.manifest.v1", "oci.image.index.v1")
 )
 
 
@@ -80,7 +80,7 @@ PAGE = "text/html;charset=UTF-8"
 
 def strings():
     two = "multipart/form-data; charset=BASE64; boundary=ABCDEFG"
-    hundred = "text/plain" + "".join(f"; name{it:05}=value{it:05}" for it in range(100))
+    hundred = "text/plain" + "".join(f"; name{number:05}=value{number:05}" for number in range(100))
     for text in ("text/plain", "text/plain; charset=utf-8", two, "*/*"):
         yield Row(text, "read", text)
     yield Row(PAGE, "read", PAGE, most=370)
@@ -110,7 +110,7 @@ VERSIONED = 'application/json; version=1; charset=utf-8; profile=".."'
 
 def profiles(letters):
     """Media types as of JSON-LD, whose long profiles differ only in their last byte."""
-    return [f'application/ld+json; profile="https://www.w3.org/ns/activitystream{it}"' for it in letters]
+    return [f'application/ld+json; profile="https://www.w3.org/ns/activitystream{letter}"' for letter in letters]
 
 
 def others():
@@ -265,7 +265,7 @@ GROUPS = {
 
 # What `bench/run --check` counts: few rows, in one of which a slip of layout or inlining shows.
 CHECKED = (
-    *(it.label for it in values()),
+    *(row.label for row in values()),
     "content_type, essence, CHARSET, boundary",
     "its media types",
     "Accept, and the best of four offers",

@@ -56,7 +56,7 @@ PIECES = [
 NUMBERS = struct.Struct("14N")
 Given = namedtuple("Given", "answer length params printed slash subtype_end pos byte requests largest blocks held stack written strings")
 # What a call writes for these strings: a zero behind each.
-written = lambda *strings: "".join(f"{it}\0" for it in strings)
+written = lambda *strings: "".join(f"{string}\0" for string in strings)
 
 
 def call(name, *strings, may_do_without=False):
@@ -78,32 +78,32 @@ def made(words, calls):
         yield Given(*numbers, text, text.split("\0")[:-1])
 
 
-def check_found(it, text):
+def check_found(found, text):
     """Checks the strings that were found, or the fault, which lies within the text, at the byte that was found, or at one past ASCII."""
-    if it.answer == OK:
-        essence, *_, printed = it.strings
-        assert len(it.strings) == 2 * it.params + 2 and it.printed == it.length - len(printed) - 1
-        assert it.slash == essence.index("/") and (essence[it.subtype_end : it.subtype_end + 1] or "+") == "+"
-        assert it.subtype_end <= len(essence) and not re.search(r"[\1-\10\12-\37\177]", it.written)
+    if found.answer == OK:
+        essence, *_, printed = found.strings
+        assert len(found.strings) == 2 * found.params + 2 and found.printed == found.length - len(printed) - 1
+        assert found.slash == essence.index("/") and (essence[found.subtype_end : found.subtype_end + 1] or "+") == "+"
+        assert found.subtype_end <= len(essence) and not re.search(r"[\1-\10\12-\37\177]", found.written)
     else:
-        assert it.length == it.params == 0
-    byte = text[it.pos : it.pos + 1]
-    rights = {INVALID_BYTE: byte == chr(it.byte), NOT_UTF8: byte > "\x7f" and it.byte == 0}
-    assert rights.get(it.answer, it.pos == it.byte == 0)
+        assert found.length == found.params == 0
+    byte = text[found.pos : found.pos + 1]
+    rights = {INVALID_BYTE: byte == chr(found.byte), NOT_UTF8: byte > "\x7f" and found.byte == 0}
+    assert rights.get(found.answer, found.pos == found.byte == 0)
 
 
 def check_read(text):
-    it = yield call("read", text)
-    check_found(it, text)
-    is_read = it.answer == OK
-    asked = int(is_read and len(it.strings[-1]) > SHORT)
-    assert it.answer <= NOT_UTF8 and it.answer != NO_MEMORY and it.requests == asked and it.largest <= len(text)
+    found = yield call("read", text)
+    check_found(found, text)
+    is_read = found.answer == OK
+    asked = int(is_read and len(found.strings[-1]) > SHORT)
+    assert found.answer <= NOT_UTF8 and found.answer != NO_MEMORY and found.requests == asked and found.largest <= len(text)
     rows = [
-        (text, text, it.answer, is_read, 2 * asked),
-        ("*/*", text, it.answer, it.strings == ["*/*"] * 2, asked),
-        (text, "a/", MISSING_SUBTYPE if is_read else it.answer, 0, asked),
+        (text, text, found.answer, is_read, 2 * asked),
+        ("*/*", text, found.answer, found.strings == ["*/*"] * 2, asked),
+        (text, "a/", MISSING_SUBTYPE if is_read else found.answer, 0, asked),
         ("a/", text, MISSING_SUBTYPE, 0, 0),
-        *((text, printed, OK, 1, 2 * asked) for printed in it.strings[-1:]),
+        *((text, printed, OK, 1, 2 * asked) for printed in found.strings[-1:]),
     ]
     for one, other, *wanted in rows:
         equal = yield call("equal", one, other)
@@ -111,37 +111,37 @@ def check_read(text):
 
 
 def check_list(text):
-    it = yield call("list", text)
-    assert (it.answer == OK or it.answer == NOT_UTF8 and not it.length) and it.blocks <= 1 and it.largest <= len(text)
-    good = [item[1:] for item in it.strings if item[:1] == "+"]
-    assert it.requests == sum(len(item) > SHORT for item in good)
-    for item in it.strings:
+    found = yield call("list", text)
+    assert (found.answer == OK or found.answer == NOT_UTF8 and not found.length) and found.blocks <= 1 and found.largest <= len(text)
+    good = [item[1:] for item in found.strings if item[:1] == "+"]
+    assert found.requests == sum(len(item) > SHORT for item in good)
+    for item in found.strings:
         read = yield call("read", item[1:])
         assert read.strings[-1:] == [item[1:]] if item[:1] == "+" else item[:1] == "-" and read.answer != OK
 
 
 def check_content_type(text):
-    it = yield call("content_type", text)
-    check_found(it, text)
+    found = yield call("content_type", text)
+    check_found(found, text)
     media, is_plain = MODEL.read(text), MODEL.ACCEPTED.fullmatch(text.strip(" \t")) is not None
-    assert it.written == (written(media[1], *chain(*media[2]), media[0]) if media else "") and (it.answer == OK) == bool(media)
+    assert found.written == (written(media[1], *chain(*media[2]), media[0]) if media else "") and (found.answer == OK) == bool(media)
     # What is written anew is first written into room for 128 bytes.
     asked = 0 if not media or len(media[0]) <= SHORT else 1 if is_plain or len(media[0]) <= 128 else 2
-    assert it.requests == asked
+    assert found.requests == asked
     # What is written anew has at most a byte more for each parameter, which has four.
-    assert it.blocks <= (1 if is_plain else 2) and it.largest <= len(text) + (0 if is_plain else len(text) // 4)
+    assert found.blocks <= (1 if is_plain else 2) and found.largest <= len(text) + (0 if is_plain else len(text) // 4)
     if media:
         # mime_read reads alike what is printed, and what is before the first semicolon has the same essence.
         same, bare = (yield call("read", media[0])), (yield call("content_type", text.partition(";")[0]))
-        assert same.strings == it.strings and (bare.params, bare.strings[:1]) == (0, it.strings[:1])
+        assert same.strings == found.strings and (bare.params, bare.strings[:1]) == (0, found.strings[:1])
 
 
 def check_accept(text):
-    it = yield call("accept", text)
+    found = yield call("accept", text)
     ranges, bad = MODEL.entries([text])
     wanted = "".join(written(f"{MODEL.weight_of(media):04}", media[1], *chain(*media[2]), "") for media in ranges)
     # A bad entry asks for no memory.
-    assert (it.answer, it.params, it.written) == (OK, len(bad), wanted) and (ranges or it.requests == 0)
+    assert (found.answer, found.params, found.written) == (OK, len(bad), wanted) and (ranges or found.requests == 0)
     # The first bad entry comes after so many ranges.
     refusal = (BAD_OFFER, [*map(MODEL.read, MODEL.pieces(text))].index(None)) if bad else (NOT_ACCEPTABLE, 0)
     none = yield call("best", "", text)
@@ -153,28 +153,28 @@ def check_accept(text):
 def check_order(text):
     ranges = MODEL.entries([text])[0]
     for count in range(1, len(OFFERS) + 1):
-        order = MODEL.order(ranges, [MODEL.read(it) for it in OFFERS[:count]])
+        order = MODEL.order(ranges, [MODEL.read(offer) for offer in OFFERS[:count]])
         best = yield call("best", text, ",".join(OFFERS[:count]), may_do_without=True)
         assert (best.answer, best.length) == ((OK, order[0]) if order else (NOT_ACCEPTABLE, 0))
     # One of the requests isn't needed: without its memory the order is found in another way.
-    it = yield call("order", text, ", ".join(OFFERS), may_do_without=True)
-    assert it.written.encode("latin-1") == struct.pack(f"{len(order)}N", *order) and it.answer == (OK if order else NOT_ACCEPTABLE)
-    it = yield call("order", text, ",a/b, c, d", may_do_without=True)
-    assert (it.answer, it.length) == (BAD_OFFER, 1)
+    found = yield call("order", text, ", ".join(OFFERS), may_do_without=True)
+    assert found.written.encode("latin-1") == struct.pack(f"{len(order)}N", *order) and found.answer == (OK if order else NOT_ACCEPTABLE)
+    found = yield call("order", text, ",a/b, c, d", may_do_without=True)
+    assert (found.answer, found.length) == (BAD_OFFER, 1)
 
 
 def check_unescape(text):
-    it = yield call("unescape", text)  # RFC 9110, 5.6.4
-    assert (it.answer, it.written, it.requests) == (OK, re.sub(r"(?s)\\(.?)", r"\1", text) + "\0", 0)
+    found = yield call("unescape", text)  # RFC 9110, 5.6.4
+    assert (found.answer, found.written, found.requests) == (OK, re.sub(r"(?s)\\(.?)", r"\1", text) + "\0", 0)
 
 
 def check_boundary(text):
     value, (_, essence, pairs) = (yield call("content_type", text)), MODEL.read(text) or ("", "", [])
-    named = [it for name, it in MODEL.meant(pairs) if name == "boundary" and essence.startswith("multipart/")]
-    wanted = [it for it in named[:1] if re.fullmatch(r"(?a)[\w'()+,\-./:=? ]{0,69}[\w'()+,\-./:=?]", it)]  # RFC 2046, 5.1.1
-    it = yield call("boundary", text, may_do_without=not wanted)
-    assert it.answer == (value.answer if value.answer != OK or wanted else NO_BOUNDARY)
-    assert it.strings == wanted and it.length == len("".join(wanted))
+    named = [meaning for name, meaning in MODEL.meant(pairs) if name == "boundary" and essence.startswith("multipart/")]
+    wanted = [meaning for meaning in named[:1] if re.fullmatch(r"(?a)[\w'()+,\-./:=? ]{0,69}[\w'()+,\-./:=?]", meaning)]  # RFC 2046, 5.1.1
+    found = yield call("boundary", text, may_do_without=not wanted)
+    assert found.answer == (value.answer if value.answer != OK or wanted else NO_BOUNDARY)
+    assert found.strings == wanted and found.length == len("".join(wanted))
 
 
 def check_set_parameter(text):
@@ -182,9 +182,9 @@ def check_set_parameter(text):
     for media, name, value in ((text, "P", "x"), (text, "charset", "UTF-8"), ('a/b;p="y z";q=1', "p", text), ("a/b", text, "x y")):
         before = yield call("content_type", media)
         printed = before.answer == OK and MODEL.not_utf8(value) is None and MODEL.with_parameter(MODEL.read(media), name, value)
-        it = yield call("set_parameter", media, name, value, may_do_without=not printed)
-        assert it.written == (written(printed) if printed else "")
-        assert it.answer == (before.answer if printed or before.answer != OK else BAD_PARAMETER)
+        found = yield call("set_parameter", media, name, value, may_do_without=not printed)
+        assert found.written == (written(printed) if printed else "")
+        assert found.answer == (before.answer if printed or before.answer != OK else BAD_PARAMETER)
 
 
 def near_grammar(count):
@@ -205,10 +205,10 @@ def holds(words, texts):
     try:
         while some := [*islice(texts, 4000)]:
             count += len(some)
-            left, given = [check(it) for it in some for check in checks], repeat(None)
+            left, given = [check(text) for text in some for check in checks], repeat(None)
             while left:
                 asked = [*map(next_call, left, given)]
-                left = [it for it, asks in zip(left, asked) if asks]
+                left = [check for check, asks in zip(left, asked) if asks]
                 given = made(words, [*filter(None, asked)])
     except (AssertionError, OSError) as error:
         last = traceback.TracebackException.from_exception(error, limit=-1, capture_locals=True)

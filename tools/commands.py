@@ -76,8 +76,8 @@ def run(words, seconds=RT_SECONDS, given=None, **how):
 
 def output(words, folder=TOP, given=None, **how):
     """What a command writes to standard output and standard error, as a string, and its status."""
-    it = run(words, given=given, cwd=folder, **{"stderr": subprocess.STDOUT, **how})
-    return it.stdout.decode(errors="replace"), it.returncode
+    outcome = run(words, given=given, cwd=folder, **{"stderr": subprocess.STDOUT, **how})
+    return outcome.stdout.decode(errors="replace"), outcome.returncode
 
 
 def run_ok(*words, folder=TOP, given=None):
@@ -119,8 +119,8 @@ def exit_status(tries, least=1):
 
 def _end(number, _frame):
     """SIGTERM and SIGINT end each tool as an error does, so its folders are removed, and what it runs ends too."""
-    for it in (signal.SIGTERM, signal.SIGINT):
-        signal.signal(it, signal.SIG_IGN)
+    for signal_number in (signal.SIGTERM, signal.SIGINT):
+        signal.signal(signal_number, signal.SIG_IGN)
     _signals.append(number)
     for process in list(_running):
         process.terminate()
@@ -134,7 +134,7 @@ for _number in (signal.SIGTERM, signal.SIGINT):
 @functools.lru_cache(None)
 def tracked():
     """The files of the repository that git doesn't ignore."""
-    return [it for it in run_ok("git", "ls-files", "-co", "--exclude-standard").split("\n") if os.path.isfile(f"{TOP}/{it}")]
+    return [path for path in run_ok("git", "ls-files", "-co", "--exclude-standard").split("\n") if os.path.isfile(f"{TOP}/{path}")]
 
 
 @functools.lru_cache(None)
@@ -183,9 +183,9 @@ def keep(name, paths, more):
 def prune():
     """Removes what no run has asked for in a long time."""
     os.makedirs(PASSED, exist_ok=True)
-    for it in os.scandir(PASSED):
-        if it.stat().st_mtime < time.time() - KEPT_DAYS * 24 * 60 * 60:
-            os.remove(it.path)
+    for file in os.scandir(PASSED):
+        if file.stat().st_mtime < time.time() - KEPT_DAYS * 24 * 60 * 60:
+            os.remove(file.path)
 
 
 def need(what, *packages):
@@ -212,7 +212,7 @@ def text_of(path):
 
 def blocks_of(text):
     """The indented blocks of a document, in order."""
-    return [re.sub(r"(?m)^ {4}", "", it) for it in re.findall(r"(?m)(?:^ {4}.*\n)+(?:\n+(?: {4}.*\n)+)*", text)]
+    return [re.sub(r"(?m)^ {4}", "", block) for block in re.findall(r"(?m)(?:^ {4}.*\n)+(?:\n+(?: {4}.*\n)+)*", text)]
 
 
 def write(path, text):
@@ -251,7 +251,7 @@ def copy_sources(to):
 def below(crate):
     """A crate, and the repository's libraries that its line of crates.txt names, the lowest first."""
     libraries = re.search(rf"(?m)^{crate}\b[^:\n]*:(.*)", text_of("crates.txt"))[1].split()
-    return [*dict.fromkeys(name for it in libraries for name in below(it)), crate]
+    return [*dict.fromkeys(name for library in libraries for name in below(library)), crate]
 
 
 def is_static(crate):

@@ -8,6 +8,7 @@ use Rattle.mime_http.proofs.Common.{length-map, list_all, list_any}
 use Rattle.std.specs.List.{slice_split}
 use Prim.Native.String.{String}
 use Rattle.mime_http.{specs.Ranking.IsRanking, specs.Ranking.is_qvalue, specs.Ranking.ranked_as}
+use Rattle.mime_http.specs.Ranges.{first_value, weight_of}
 use Rattle.mime_http.{specs.Ranges.ComesBefore, specs.Ranges.merit_at, specs.declared.ranking.RankedOffer.RankedOffer}
 use Rattle.mime_http.{proofs.Order.best_is_acceptable, proofs.Order.best_is_first, proofs.Order.best_is_ranked_first}
 use Rattle.mime_http.{proofs.Order.one_ranking, proofs.Order.weighs_within, proofs.Demanded.covers_itself, proofs.Demanded.meaning_counts}
@@ -72,6 +73,11 @@ other_meaning same = search rules
 -- A media type covers itself.
 itself : covers "text/html;level=1;q=0.5;level=2" "text/html;level=1;q=0.5;level=2" ≡ true
 itself = covers_itself (media "text/html;level=1;q=0.5;level=2")
+
+-- A range weighs what its first `q` says, or 1000. Of several values under a name the first counts.
+weights_and_values : (weight_of (media "a/b;q=0.5;q=1") ≡ 500) × (weight_of (media "a/b;p=0.5") ≡ 1000)
+    × (first_value (codes "p") (media "a/b;p=x;p=y").pairs ≡ Some (codes "x")) × (first_value (codes "p") (media "a/b;q=x").pairs ≡ None)
+weights_and_values = (refl, refl, refl, refl)
 
 -- What ranges give offers.
 weights_counted :

@@ -10,23 +10,9 @@ use Rattle.mime.specs.{Values.pairs_of_list, Values.pairs_of_tail, Values.last_p
 use Rattle.mime.specs.{Values.IsAccepted, Values.IsRejected, Values.type_of, Values.subtype_of, Values.suffix_of, Items.Item, Items.item_of}
 use Rattle.mime.specs.{Items.items_of, Items.IsLowIf, Items.IsLowItem, Items.IsFirstAccepted, Items.item_seen, Items.name_seen}
 use Rattle.mime.specs.{Items.name_text, Names.NameIs, Names.name_table, Atoms.atom_text, Printed.fault_text, Printed.fault_text}
-use Rattle.mime.specs.{Printed.error_text, declared.atoms.Atom.TheVariants.STAR_STAR, declared.atoms.Atom.TheVariants.TEXT_STAR}
-use Rattle.mime.specs.{declared.atoms.Atom.TheVariants.TEXT_PLAIN, declared.atoms.Atom.TheVariants.TEXT_PLAIN_UTF_8}
-use Rattle.mime.specs.{declared.atoms.Atom.TheVariants.TEXT_HTML, declared.atoms.Atom.TheVariants.TEXT_HTML_UTF_8}
-use Rattle.mime.specs.{declared.atoms.Atom.TheVariants.TEXT_CSS, declared.atoms.Atom.TheVariants.TEXT_CSS_UTF_8}
-use Rattle.mime.specs.{declared.atoms.Atom.TheVariants.TEXT_JAVASCRIPT, declared.atoms.Atom.TheVariants.TEXT_XML}
-use Rattle.mime.specs.{declared.atoms.Atom.TheVariants.TEXT_EVENT_STREAM, declared.atoms.Atom.TheVariants.TEXT_CSV}
-use Rattle.mime.specs.{declared.atoms.Atom.TheVariants.TEXT_CSV_UTF_8, declared.atoms.Atom.TheVariants.TEXT_TAB_SEPARATED_VALUES}
-use Rattle.mime.specs.{declared.atoms.Atom.TheVariants.TEXT_TAB_SEPARATED_VALUES_UTF_8, declared.atoms.Atom.TheVariants.TEXT_VCARD}
-use Rattle.mime.specs.{declared.atoms.Atom.TheVariants.IMAGE_STAR, declared.atoms.Atom.TheVariants.IMAGE_JPEG}
-use Rattle.mime.specs.{declared.atoms.Atom.TheVariants.IMAGE_GIF, declared.atoms.Atom.TheVariants.IMAGE_PNG}
-use Rattle.mime.specs.{declared.atoms.Atom.TheVariants.IMAGE_BMP, declared.atoms.Atom.TheVariants.IMAGE_SVG}
-use Rattle.mime.specs.{declared.atoms.Atom.TheVariants.FONT_WOFF, declared.atoms.Atom.TheVariants.FONT_WOFF2}
-use Rattle.mime.specs.{declared.atoms.Atom.TheVariants.APPLICATION_JSON, declared.atoms.Atom.TheVariants.APPLICATION_JAVASCRIPT}
-use Rattle.mime.specs.{declared.atoms.Atom.TheVariants.APPLICATION_JAVASCRIPT_UTF_8}
-use Rattle.mime.specs.{declared.atoms.Atom.TheVariants.APPLICATION_WWW_FORM_URLENCODED}
-use Rattle.mime.specs.{declared.atoms.Atom.TheVariants.APPLICATION_OCTET_STREAM, declared.atoms.Atom.TheVariants.APPLICATION_MSGPACK}
-use Rattle.mime.specs.{declared.atoms.Atom.TheVariants.APPLICATION_PDF, declared.atoms.Atom.TheVariants.MULTIPART_FORM_DATA}
+use Rattle.mime.specs.{Printed.error_text, declared.atoms.Atom.TheVariants.STAR_STAR}
+use Rattle.mime.specs.{declared.atoms.Atom.TheVariants.TEXT_PLAIN_UTF_8, declared.atoms.Atom.TheVariants.IMAGE_SVG}
+use Rattle.std.specs.Prelude.{drop, take}
 use Rattle.mime.specs.{declared.name.Name.Name, declared.scan.fault.ParseError.TheVariants.MissingSlash}
 use Rattle.mime.specs.{declared.scan.fault.ParseError.TheVariants.MissingSubtype, declared.scan.fault.ParseError.TheVariants.MissingEqual}
 use Rattle.mime.specs.{declared.scan.fault.ParseError.TheVariants.MissingValue, declared.scan.fault.ParseError.TheVariants.MissingQuote}
@@ -206,37 +192,15 @@ names :
     × ¬ (NameIs (codes "Abc") false (codes "abc"))
 names = (refl, refl, differ (codes "text") (codes "texts") refl, refl, differ (codes "Abc") (codes "abc") refl)
 
--- The constant names, from `*` on.
-constant_names :
-    name_table ≡ codes "*" ∷ codes "text" ∷ codes "image" ∷ codes "audio" ∷ codes "video"
-    ∷ codes "application" ∷ codes "multipart" ∷ codes "message" ∷ codes "model" ∷ codes "font"
-    ∷ codes "plain" ∷ codes "html" ∷ codes "xml" ∷ codes "javascript" ∷ codes "css" ∷ codes "csv"
-    ∷ codes "event-stream" ∷ codes "vcard" ∷ codes "json" ∷ codes "x-www-form-urlencoded"
-    ∷ codes "msgpack" ∷ codes "octet-stream" ∷ codes "pdf" ∷ codes "woff" ∷ codes "woff2"
-    ∷ codes "form-data" ∷ codes "bmp" ∷ codes "gif" ∷ codes "jpeg" ∷ codes "png" ∷ codes "svg"
-    ∷ codes "basic" ∷ codes "mpeg" ∷ codes "mp4" ∷ codes "ogg" ∷ codes "charset" ∷ codes "boundary" ∷ codes "utf-8" ∷ []
-constant_names = refl
+-- Of the 38 constant names the first, one between, and the last.
+constant_names : (take 1 name_table ≡ codes "*" ∷ []) × (take 1 (drop 35 name_table) ≡ codes "charset" ∷ [])
+    × (drop 37 name_table ≡ codes "utf-8" ∷ [])
+constant_names = (refl, refl, refl)
 
--- The constant media types have these texts.
-constant_texts :
-    map atom_text
-    (STAR_STAR ∷ TEXT_STAR ∷ TEXT_PLAIN ∷ TEXT_PLAIN_UTF_8 ∷ TEXT_HTML ∷ TEXT_HTML_UTF_8 ∷ TEXT_CSS ∷ TEXT_CSS_UTF_8
-    ∷ TEXT_JAVASCRIPT ∷ TEXT_XML ∷ TEXT_EVENT_STREAM ∷ TEXT_CSV
-    ∷ TEXT_CSV_UTF_8 ∷ TEXT_TAB_SEPARATED_VALUES ∷ TEXT_TAB_SEPARATED_VALUES_UTF_8 ∷ TEXT_VCARD
-    ∷ IMAGE_STAR ∷ IMAGE_JPEG ∷ IMAGE_GIF ∷ IMAGE_PNG ∷ IMAGE_BMP ∷ IMAGE_SVG ∷ FONT_WOFF ∷ FONT_WOFF2
-    ∷ APPLICATION_JSON ∷ APPLICATION_JAVASCRIPT ∷ APPLICATION_JAVASCRIPT_UTF_8 ∷ APPLICATION_WWW_FORM_URLENCODED
-    ∷ APPLICATION_OCTET_STREAM ∷ APPLICATION_MSGPACK ∷ APPLICATION_PDF ∷ MULTIPART_FORM_DATA ∷ [])
-    ≡ codes "*/*" ∷ codes "text/*" ∷ codes "text/plain"
-    ∷ codes "text/plain; charset=utf-8" ∷ codes "text/html" ∷ codes "text/html; charset=utf-8"
-    ∷ codes "text/css" ∷ codes "text/css; charset=utf-8" ∷ codes "text/javascript"
-    ∷ codes "text/xml" ∷ codes "text/event-stream" ∷ codes "text/csv"
-    ∷ codes "text/csv; charset=utf-8" ∷ codes "text/tab-separated-values" ∷ codes "text/tab-separated-values; charset=utf-8"
-    ∷ codes "text/vcard" ∷ codes "image/*" ∷ codes "image/jpeg" ∷ codes "image/gif" ∷ codes "image/png" ∷ codes "image/bmp"
-    ∷ codes "image/svg+xml" ∷ codes "font/woff" ∷ codes "font/woff2"
-    ∷ codes "application/json" ∷ codes "application/javascript" ∷ codes "application/javascript; charset=utf-8"
-    ∷ codes "application/x-www-form-urlencoded" ∷ codes "application/octet-stream" ∷ codes "application/msgpack"
-    ∷ codes "application/pdf" ∷ codes "multipart/form-data" ∷ []
-constant_texts = refl
+-- Three of the constant media types.
+constant_texts : (atom_text STAR_STAR ≡ codes "*/*") × (atom_text TEXT_PLAIN_UTF_8 ≡ codes "text/plain; charset=utf-8")
+    × (atom_text IMAGE_SVG ≡ codes "image/svg+xml")
+constant_texts = (refl, refl, refl)
 
 -- What callers see of a name and of a parameter.
 views : (name value : Name) → (name_text name ≡ name.text.now) × (name_seen name ≡ (name.text.now, name.ignores_case))

@@ -1,7 +1,6 @@
 -- A boundary means itself; what is too long means none, and what has no backslash means itself.
 use Rattle.mime_http.proofs.Common.{contains_char, rules}
 use Rattle.mime_http.proofs.Contents.{length-unescaped, unescaped_same}
-use Rattle.mime_http.proofs.multipart.meant_boundary.Goals.{then-bytes-via-then-bytes, then-bytes-via-else-bytes+then-not-contains}
 use Rattle.mime_http.proofs.multipart.meant_boundary.Goals as goal
 
 pub returns-then-bytes : goal.returns-then-bytes
