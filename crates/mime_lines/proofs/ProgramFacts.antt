@@ -16,11 +16,11 @@ use Rattle.mime.specs.declared.scan.fault.ParseError.{ParseError}
 use Rattle.mime.specs.declared.scan.fault.ParseError.TheVariants.{InvalidToken}
 use Rattle.mime_lines.specs.declared.mode.Mode.{Mode}
 use Rattle.mime_lines.specs.Program.{mode_named}
-use Rattle.mime_lines.specs.Report.{param_rows, value_rows, item_rows, ReportsText, ReportsLine, ReportsLines, IsReportOf}
+use Rattle.mime_lines.specs.Report.{suffix_row, param_rows, value_rows, item_rows, ReportsText, ReportsLine, ReportsLines, IsReportOf}
 use Rattle.mime_lines.specs.Report.ReportsText.{read, rejected, listed}
 use Rattle.mime_lines.specs.Report.ReportsLine.{not_text, is_text}
 use Rattle.mime_lines.specs.Report.ReportsLines.{no_more, line_more}
-use Rattle.mime_io.specs.Lines.{row, suffix_row}
+use Rattle.mime_io.specs.Lines.{row}
 use lib.Utf8.{encode}
 
 -- A value with a suffix and a parameter has a row for each.
@@ -50,6 +50,11 @@ list_names_a_mode = refl
 -- No mode is named in capitals.
 capitals_name_no_mode : mode_named (codes "LIST") ≡ None
 capitals_name_no_mode = refl
+
+-- A suffix has a row, even if it is empty, and none has none.
+suffix_rows : (suffix_row (Some (codes "xml")) ≡ codes "suffix xml\n") × (suffix_row (Some []) ≡ codes "suffix \n")
+    × (suffix_row None ≡ [])
+suffix_rows = (refl, refl, refl)
 
 -- A value without a suffix and parameters has no rows for them.
 rows_left_out : (suffix_row None ≡ []) × (param_rows [] ≡ [])

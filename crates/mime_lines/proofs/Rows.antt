@@ -8,7 +8,8 @@ use Rattle.mime.specs.Faults.{IsFault, Explains}
 use Rattle.mime.specs.declared.scan.fault.ParseError.{ParseError}
 use Rattle.mime.specs.declared.scan.fault.ParseError.TheVariants.{NoMemory}
 use Rattle.std.specs.Str.{IsUtf8}
-use Rattle.mime_io.specs.{Lines.lines_of, Lines.row, Inner.Adds}
+use Rattle.mime_io.specs.Lines.{lines_of, row}
+use Rattle.mime_lines.specs.Inner.{Adds}
 use Rattle.mime_lines.specs.Report.{param_rows, item_row, item_rows, ReportsText, ReportsLine, ReportsLines}
 use Rattle.mime_lines.specs.Report.ReportsText.{listed}
 use Rattle.mime_lines.specs.Report.ReportsLine.{is_text}
@@ -25,6 +26,12 @@ pub given_rows-items_of : (pairs : List (List ℕ × List ℕ)) → given_rows (
 given_rows-items_of [] = refl
 given_rows-items_of ((name, value) ∷ pairs) =
     ap (λ rows. row (codes "param ") (name ++ (codes "=" ++ value)) ++ rows) (given_rows-items_of pairs)
+
+-- What a call that succeeds added is the report.
+pub reported : {E : Type 0} (R : List ℕ → Type 0) (result : Result (Unit {0}) E) (rows old new : List ℕ) → R rows
+    → OnOk result (new ≡ old ++ rows) → OnOk result (Adds R old new)
+reported R (Ok done) rows old new report added = (rows, report, added)
+reported R (Err error) rows old new report added = tt
 
 -- The report on a text is the report on its line.
 pub reported-line : {E : Type 0} (result : Result (Unit {0}) E) (mode : Mode) (text line old new : List ℕ) → text ≡ line

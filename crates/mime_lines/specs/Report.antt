@@ -1,13 +1,18 @@
 -- What the program writes of the bytes that it reads: a report on each line, in order.
-use Rattle.std.specs.Prelude.{ℕ, List, [], ◌∷◌, ◌++◌, codes, flat_map}
+use Rattle.std.specs.Prelude.{ℕ, List, [], ◌∷◌, ◌++◌, Option, Some, None, codes, flat_map}
 use Rattle.std.specs.Str.{IsUtf8}
 use Rattle.mime.specs.Values.{MediaType, type_of, subtype_of, suffix_of, Reads}
 use Rattle.mime.specs.Faults.{IsFault}
 use Rattle.mime.specs.Printed.{error_text}
 use Rattle.mime.specs.Cut.{CutItem, good, bad, Cut}
 use Rattle.mime.specs.declared.scan.fault.ParseError.{ParseError}
-use Rattle.mime_io.specs.Lines.{lines_of, row, suffix_row}
+use Rattle.mime_io.specs.Lines.{lines_of, row}
 use Rattle.mime_lines.specs.declared.mode.Mode.{Mode}
+
+-- the row of a media type's suffix, if there is one
+abbrev pub suffix_row : Option (List ℕ) → List ℕ
+suffix_row None = []
+suffix_row (Some suffix) = row (codes "suffix ") suffix
 
 abbrev pub param_rows : List (List ℕ × List ℕ) → List ℕ
 param_rows pairs = flat_map (λ pair. row (codes "param ") (pair.0 ++ (codes "=" ++ pair.1))) pairs

@@ -1,6 +1,6 @@
 -- A line that isn't UTF-8 is reported as such.
 use Rattle.mime_lines.specs.{Report.ReportsLine, Report.ReportsLine.not_text}
-use Rattle.mime_io.proofs.Reported.{reported}
+use Rattle.mime_lines.proofs.Rows.{reported}
 use Rattle.mime_lines.proofs.report.push_line.Goals as goal
 
 pub returns-in-Err : goal.returns-in-Err

@@ -1,8 +1,7 @@
 -- A text is read, or has a fault.
 use Rattle.std.proofs.Common.{◌∙◌}
 use Rattle.mime_lines.specs.{Report.ReportsText, Report.ReportsText.read, Report.ReportsText.rejected, declared.mode.Mode.Mode}
-use Rattle.mime_io.proofs.Reported.{reported}
-use Rattle.mime_lines.proofs.Rows.{fault-explained}
+use Rattle.mime_lines.proofs.Rows.{reported, fault-explained}
 use Rattle.mime_lines.proofs.report.push_reading.Goals as goal
 
 pub returns-in-Ok : goal.returns-in-Ok
