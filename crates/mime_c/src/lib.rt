@@ -5,7 +5,7 @@
 //! answers. include/mime.h describes them in plain words.
 #![tactic(auto)]
 
-ghost use Rattle.std.specs.Prelude.{◌≡◌, ◌+◌, ◌<◌, ◌≤◌, ◌∷◌, length, IfOk, IfErr, IsOk};
+ghost use Rattle.std.specs.Prelude.{◌≡◌, ◌+◌, ◌<◌, ◌≤◌, [], ◌∷◌, length, IfOk, IfErr, IsOk};
 ghost use Rattle.std.specs.Str.{IsUtf8};
 ghost use Rattle.mime.specs.Values.{Reads};
 ghost use Rattle.mime.specs.CutLaws.{IsRead};
@@ -14,7 +14,8 @@ ghost use Rattle.mime_c.specs.Writing.{Writes};
 ghost use Rattle.mime_c.specs.Answers.{number_of, number_of_error, found_of_error, found_of, TextExplains, ReadsTo, ListsTo, Compares};
 ghost use Rattle.mime_http.specs.HttpList.{Header, IsHeader};
 ghost use Rattle.mime_http.specs.Ranges.{weight_of};
-ghost use Rattle.mime_c.specs.HeaderAnswers.{HeaderReadsTo, four_digits, range_texts, AcceptsTo, lines_of, HaveNoEntry, BestIs, OrderIs};
+ghost use Rattle.mime_c.specs.HeaderAnswers.{HeaderReadsTo, four_digits, range_texts, AcceptsTo, lines_of, HaveNoEntry};
+ghost use Rattle.mime_c.specs.HeaderAnswers.{OfOffers, BestIs, OrderIs};
 
 pub mod laws;
 mod parameter;
@@ -387,6 +388,34 @@ fn accepted(alloc: Global, is_there: bool, line: &[u8]) -> Result<Accept, AllocE
     Accept::from_lines_without_bad(alloc, &lines[..usize::from(is_there)])
 }
 
+/// Reads a list of offers, and an `Accept` header of one line, or of no line if `is_there` is false.
+///
+/// # Errors
+/// Returns `MIME_BAD_OFFER` and the position of the first offer that isn't a media type, or `MIME_NO_MEMORY` and 0.
+#[inline(always)]
+fn read_header_and_offers(
+    alloc: Global,
+    is_there: bool,
+    accept: &[u8],
+    offers: &[u8],
+) -> Result<(Accept, Accept), (u32, usize)>
+    ensures read { IfOk result (λ read. (header offered : Header) × IsHeader (lines_of is_there accept.now) header
+        × IsHeader (offers.now ∷ []) offered × (offered.bad ≡ []) × (read.0.ranges ≡ header.ranges) × (read.1.ranges ≡ offered.ranges)) }
+    ensures stopped { IfErr result (λ stop.
+        OfOffers is_there accept.now offers.now (λ at. at) (λ ranges offered answer at. ⊥) stop.0 stop.1) }
+{
+    let Ok((offered, entries)) = Accept::from_line_counting_bad(alloc, offers) else {
+        return Err((MIME_NO_MEMORY, 0));
+    };
+    if let Some(first) = entries.first {
+        return Err((MIME_BAD_OFFER, first));
+    }
+    match accepted(alloc, is_there, accept) {
+        Ok(header) => Ok((header, offered)),
+        Err(AllocError) => Err((MIME_NO_MEMORY, 0)),
+    }
+}
+
 /// Chooses the best offer of a list, such as `text/html, application/json`, for an `Accept` header (RFC 9110, 12.5.1). Sets `best` to the
 /// offer's position in the list, from 0. If `is_there` is false, the request has no such header, and accepts everything. Returns `MIME_OK`,
 /// `MIME_NOT_ACCEPTABLE`, `MIME_NO_MEMORY`, or `MIME_BAD_OFFER`. With `MIME_BAD_OFFER`, `best` is the position of the first offer that
@@ -402,15 +431,12 @@ pub extern "C" fn mime_best(
     ensures { BestIs is_there accept.now offers.now result best.new }
 {
     *best = 0;
-    let Ok((offered, entries)) = Accept::from_line_counting_bad(alloc, offers) else {
-        return MIME_NO_MEMORY;
-    };
-    if let Some(first) = entries.first {
-        *best = first;
-        return MIME_BAD_OFFER;
-    }
-    let Ok(header) = accepted(alloc, is_there, accept) else {
-        return MIME_NO_MEMORY;
+    let (header, offered) = match read_header_and_offers(alloc, is_there, accept, offers) {
+        Ok(read) => read,
+        Err((answer, bad)) => {
+            *best = bad;
+            return answer;
+        }
     };
     match header.best(offered.ranges()) {
         Some(at) => {
@@ -436,15 +462,12 @@ pub extern "C" fn mime_order(
     ensures { OrderIs is_there accept.now offers.now order.old result (order.new, count.new) }
 {
     *count = 0;
-    let Ok((offered, entries)) = Accept::from_line_counting_bad(alloc, offers) else {
-        return MIME_NO_MEMORY;
-    };
-    if let Some(first) = entries.first {
-        *count = first;
-        return MIME_BAD_OFFER;
-    }
-    let Ok(header) = accepted(alloc, is_there, accept) else {
-        return MIME_NO_MEMORY;
+    let (header, offered) = match read_header_and_offers(alloc, is_there, accept, offers) {
+        Ok(read) => read,
+        Err((answer, bad)) => {
+            *count = bad;
+            return answer;
+        }
     };
     let Ok(positions) = header.order(alloc, offered.ranges()) else {
         return MIME_NO_MEMORY;
