@@ -9,12 +9,12 @@ ghost use Rattle.std.specs.Prelude.{◌≡◌, ◌+◌, ◌<◌, ◌≤◌, [], 
 ghost use Rattle.std.specs.Str.{IsUtf8};
 ghost use Rattle.mime.specs.Values.{Reads};
 ghost use Rattle.mime.specs.CutLaws.{IsRead};
-ghost use Rattle.mime_c.specs.Strings.{string_of, strings, parts_of, texts_of, written};
+ghost use Rattle.mime_c.specs.Strings.{string_of, strings, parts_of, texts_of, overwritten};
 ghost use Rattle.mime_c.specs.Writing.{Writes};
 ghost use Rattle.mime_c.specs.Answers.{number_of, number_of_error, found_of_error, found_of, TextExplains, ReadsTo, ListsTo, Compares};
 ghost use Rattle.mime_http.specs.HttpList.{Header, IsHeader};
 ghost use Rattle.mime_http.specs.Ranges.{weight_of};
-ghost use Rattle.mime_c.specs.HeaderAnswers.{HeaderReadsTo, four_digits, range_texts, AcceptsTo, lines_of, HaveNoEntry};
+ghost use Rattle.mime_c.specs.HeaderAnswers.{HeaderReadsTo, four_digits, range_texts, AcceptsTo, header_lines, HaveNoEntry};
 ghost use Rattle.mime_c.specs.HeaderAnswers.{OfOffers, BestIs, OrderIs};
 
 pub mod laws;
@@ -195,7 +195,7 @@ fn put_parts(out: &mut [u8], at: usize, mime: &Mime) -> usize
 fn put_texts(out: &mut [u8], mime: &Mime) -> MimeFound
     requires read { IsRead mime.now.media }
     requires room { length (strings (texts_of mime.now.media)) ≤ length out.old }
-    ensures bytes { out.new ≡ written (strings (texts_of mime.now.media)) out.old }
+    ensures bytes { out.new ≡ overwritten (strings (texts_of mime.now.media)) out.old }
     ensures found { result ≡ found_of mime.now.media }
 {
     let (count, _) = mime.params().size_hint();
@@ -379,9 +379,9 @@ pub extern "C" fn mime_accept(
 
 /// Reads an `Accept` header of one line, or of no line if `is_there` is false. Bad entries aren't kept.
 fn accepted(alloc: Global, is_there: bool, line: &[u8]) -> Result<Accept, AllocError>
-    ensures header { IfOk result (λ accept. (header : Header) × IsHeader (lines_of is_there line.now) header
+    ensures header { IfOk result (λ accept. (header : Header) × IsHeader (header_lines is_there line.now) header
         × (accept.ranges ≡ header.ranges)) }
-    ensures nothing { HaveNoEntry (lines_of is_there line.now) → IsOk result }
+    ensures nothing { HaveNoEntry (header_lines is_there line.now) → IsOk result }
 {
     let lines = [line];
     // This is one line, or none.
@@ -399,7 +399,7 @@ fn read_header_and_offers(
     accept: &[u8],
     offers: &[u8],
 ) -> Result<(Accept, Accept), (u32, usize)>
-    ensures read { IfOk result (λ read. (header offered : Header) × IsHeader (lines_of is_there accept.now) header
+    ensures read { IfOk result (λ read. (header offered : Header) × IsHeader (header_lines is_there accept.now) header
         × IsHeader (offers.now ∷ []) offered × (offered.bad ≡ []) × (read.0.ranges ≡ header.ranges) × (read.1.ranges ≡ offered.ranges)) }
     ensures stopped { IfErr result (λ stop.
         OfOffers is_there accept.now offers.now (λ at. at) (λ ranges offered answer at. ⊥) stop.0 stop.1) }

@@ -32,18 +32,20 @@ item_rows items = flat_map item_row items
 
 -- what is written of a text: in mode `Parts` the rows of its value, or its fault; in mode `List` the rows of its cut's items
 pub data ReportsText : Mode → List ℕ → List ℕ → Type 0 where
-  read : {text : List ℕ} (value : MediaType) → Reads text value → ReportsText Mode.Parts text (value_rows value)
-  rejected : {text : List ℕ} (fault : ParseError) → IsFault text fault → ReportsText Mode.Parts text (row (codes "bad ") (error_text fault))
-  listed : {text : List ℕ} (items : List CutItem) (rest : List ℕ) → Cut text items rest → ReportsText Mode.List text (item_rows items)
+  reports_value : {text : List ℕ} (value : MediaType) → Reads text value → ReportsText Mode.Parts text (value_rows value)
+  reports_fault : {text : List ℕ} (fault : ParseError)
+      → IsFault text fault → ReportsText Mode.Parts text (row (codes "bad ") (error_text fault))
+  reports_items : {text : List ℕ} (items : List CutItem) (rest : List ℕ)
+      → Cut text items rest → ReportsText Mode.List text (item_rows items)
 
 -- what is written of a line: that it isn't UTF-8, or the report on its text
 pub data ReportsLine : Mode → List ℕ → List ℕ → Type 0 where
-  not_text : {mode : Mode} {line : List ℕ} → ¬ (IsUtf8 line) → ReportsLine mode line (row (codes "not text") [])
-  is_text : {mode : Mode} {line rows : List ℕ} → IsUtf8 line → ReportsText mode line rows → ReportsLine mode line rows
+  reports_no_text : {mode : Mode} {line : List ℕ} → ¬ (IsUtf8 line) → ReportsLine mode line (row (codes "not text") [])
+  reports_text : {mode : Mode} {line rows : List ℕ} → IsUtf8 line → ReportsText mode line rows → ReportsLine mode line rows
 
 -- what is written of lines in a row
 pub data ReportsLines : Mode → List (List ℕ) → List ℕ → Type 0 where
-  no_more : {mode : Mode} → ReportsLines mode [] []
+  no_line_left : {mode : Mode} → ReportsLines mode [] []
   line_more : {mode : Mode} {line : List ℕ} {lines : List (List ℕ)} {rows more : List ℕ}
       → ReportsLine mode line rows → ReportsLines mode lines more → ReportsLines mode (line ∷ lines) (rows ++ more)
 

@@ -5,8 +5,8 @@ use Rattle.std.proofs.{lemmas.Bool.Decides.nat_tests, lemmas.Bool.true≢false, 
 use Rattle.mime.specs.Values.{OwnedMedia}
 use Rattle.mime_http.specs.{HttpList.Header, HttpList.IsHeader}
 use Rattle.mime_http.proofs.HandedOut.{one_header}
-use Rattle.mime_c.specs.Strings.{written}
-use Rattle.mime_c.specs.Answers.{has_room, has_no_room, holds}
+use Rattle.mime_c.specs.Strings.{overwritten}
+use Rattle.mime_c.specs.Answers.{has_room, has_no_room, succeeds}
 use Rattle.mime_c.specs.HeaderAnswers.{HaveNoEntry, offers_have_no_memory, OrderIs, order_is, none_is_ordered}
 use Rattle.mime_c.proofs.HeaderOutcome.{of_good, of_stopped}
 use Rattle.mime_c.proofs.mime_order.Goals as goal
@@ -47,10 +47,10 @@ returns c =
     let IsHeld = OrderIs c.args.is_there c.args.accept.now c.args.offers.now c.args.order.now 0 in
     let length_is : c.len-3.result ≡ length order =
     omega (arith, c.len-3.ensures, c.deref.ensures.len, ap length c.deref.ensures.value) in
-    let answer : IsHeld (written order c.args.order.now, length order) =
+    let answer : IsHeld (overwritten order c.args.order.now, length order) =
     of_good c.in-Ok.ensures.read c.ranges-2.ensures
-    (order_is order _ _ c.in-Ok-order.ensures.order some (has_room _ _ (omega (arith, c.if-len-order.false, c.len.ensures)) holds)) in
-    let places : written order c.args.order.now ≡ c.copy_from_slice.new.self ++ drop c.len-2.result c.args.order.now =
+    (order_is order _ _ c.in-Ok-order.ensures.order some (has_room _ _ (omega (arith, c.if-len-order.false, c.len.ensures)) succeeds)) in
+    let places : overwritten order c.args.order.now ≡ c.copy_from_slice.new.self ++ drop c.len-2.result c.args.order.now =
     cc (c.copy_from_slice.ensures.after, c.deref.ensures.value, c.len-2.ensures) in
     subst (λ count. IsHeld (c.copy_from_slice.new.self ++ drop c.len-2.result c.args.order.now, count)) (sym length_is)
     (subst (λ new. IsHeld (new, length order)) places answer)
