@@ -10,9 +10,9 @@ use Rattle.mime.specs.{declared.scan.fault.ParseError.TheVariants.NoMemory}
 use Rattle.mime.proofs.HandedOut.{empty-cut, cut_unique}
 use Rattle.mime_http.specs.declared.value.FieldError.TheVariants.{NotUtf8, Invalid}
 use Rattle.mime_http.specs.declared.value.FieldError.TheVariants as field
-use Rattle.mime_c.specs.{Strings.strings, Strings.ComeBack, Strings.texts_of, Strings.item_texts, Strings.written, Answers.number_of}
-use Rattle.mime_c.specs.{Answers.number_of_error, Answers.found_at, Answers.found_of, Answers.found_of_error, Answers.nothing}
-use Rattle.mime_c.specs.{Answers.has_room, Answers.has_no_room, Answers.is_read, Answers.fails, Answers.TextExplains, Answers.are_written}
+use Rattle.mime_c.specs.{Strings.strings, Strings.ComeBack, Strings.texts_of, Strings.item_texts, Strings.overwritten, Answers.number_of}
+use Rattle.mime_c.specs.{Answers.number_of_error, Answers.found_at, Answers.found_of, Answers.found_of_error, Answers.nothing_found}
+use Rattle.mime_c.specs.{Answers.has_room, Answers.has_no_room, Answers.has_media, Answers.fails, Answers.TextExplains, Answers.are_written}
 use Rattle.mime_c.specs.{Answers.ReadsTo, Answers.NeedsMemory, Answers.ListsTo, Answers.is_listed, Answers.Compares, Answers.are_compared}
 use Rattle.mime_c.specs.{declared.MimeFound.MimeFound, declared.TheConstants.MIME_OK, declared.TheConstants.MIME_NO_MEMORY}
 use Rattle.mime_c.specs.{declared.TheConstants.MIME_NOT_UTF8, declared.TheConstants.MIME_NO_ROOM}
@@ -31,7 +31,7 @@ svg = record {
 }
 
 -- Its strings are its essence, a name, an empty value and the printed text, over the first of 36 bytes.
-svg_written : written (strings (texts_of svg)) (codes "-----------------------------------+")
+svg_written : overwritten (strings (texts_of svg)) (codes "-----------------------------------+")
     ≡ codes "image/svg+xml" ++ 0 ∷ 113 ∷ 0 ∷ 0 ∷ codes "image/svg+xml;q=\"\"" ++ 0 ∷ []
 unfolding svg
 svg_written = refl
@@ -44,7 +44,7 @@ svg_found = refl
 -- An invalid byte is found with its position, text that isn't UTF-8 with a position, and a missing quote with neither.
 invalid_found : (found_of_error (Invalid (InvalidToken 7 40))
     ≡ record { length = 0; params = 0; printed = 0; slash = 0; subtype_end = 0; pos = 7; byte = 40 })
-    × (found_of_error (NotUtf8 3) ≡ found_at 3 0) × (found_of_error (Invalid MissingQuote) ≡ nothing)
+    × (found_of_error (NotUtf8 3) ≡ found_at 3 0) × (found_of_error (Invalid MissingQuote) ≡ nothing_found)
 invalid_found = (refl, refl, refl)
 
 -- The items of a list are written with their marks.
@@ -87,15 +87,15 @@ whole_ab : Cut (codes "A/B") (good (codes "A/B") ab ∷ []) []
 whole_ab = whole (codes "A/B") ab reads_ab
 
 -- Seven bytes aren't enough for a text of three.
-ab_no_room : ReadsTo (codes "A/B") (codes "-------") MIME_NO_ROOM (codes "-------", nothing)
+ab_no_room : ReadsTo (codes "A/B") (codes "-------") MIME_NO_ROOM (codes "-------", nothing_found)
 ab_no_room = has_no_room (omega arith)
 
 module _ (utf8 : IsUtf8 (codes "A/B")) where
   -- Eight bytes are enough.
   ab_read : ReadsTo (codes "A/B") (codes "--------") MIME_OK
-      (codes "a/b" ++ 0 ∷ codes "a/b" ++ 0 ∷ [], record nothing { length = 8; printed = 4; slash = 1; subtype_end = 3 })
+      (codes "a/b" ++ 0 ∷ codes "a/b" ++ 0 ∷ [], record nothing_found { length = 8; printed = 4; slash = 1; subtype_end = 3 })
   unfolding ab
-  ab_read = has_room _ _ (omega arith) (is_read ab _ _ (utf8, reads_ab) (are_written refl))
+  ab_read = has_room _ _ (omega arith) (has_media ab _ _ (utf8, reads_ab) (are_written refl))
 
   -- Nothing but MIME_OK is answered for eight bytes.
   ab_not_else : (answer : ℕ) (held : List ℕ × MimeFound) → answer ≢ MIME_NO_MEMORY → answer ≢ MIME_OK
@@ -118,7 +118,7 @@ module _ (utf8 : IsUtf8 (codes "A/B")) where
 
   -- `A/B` equals itself.
   same_ab : Compares (codes "A/B") (codes "A/B") MIME_OK 1
-  same_ab = is_read ab _ _ (utf8, reads_ab) (is_read ab _ _ (utf8, reads_ab) (are_compared true ((λ is. (refl, refl)), (λ is. refl))))
+  same_ab = has_media ab _ _ (utf8, reads_ab) (has_media ab _ _ (utf8, reads_ab) (are_compared true ((λ is. (refl, refl)), (λ is. refl))))
 
   -- `A/B` doesn't differ from itself.
   not_different : ¬ (Compares (codes "A/B") (codes "A/B") MIME_OK 0)
@@ -160,7 +160,7 @@ module _ (isnt : ¬ (IsUtf8 (255 ∷ []))) where
   none_valid = search (IsUtf8-nil, take_all, rules)
 
   -- Such a text isn't read.
-  not_read : ReadsTo (255 ∷ []) (codes "----") MIME_NOT_UTF8 (codes "----", nothing)
+  not_read : ReadsTo (255 ∷ []) (codes "----") MIME_NOT_UTF8 (codes "----", nothing_found)
   not_read = has_room _ _ (omega arith) (fails (NotUtf8 0) (isnt, none_valid))
 
   -- Such a text isn't compared, as the first or as the second.
@@ -168,4 +168,4 @@ module _ (isnt : ¬ (IsUtf8 (255 ∷ []))) where
       × Compares (codes "A/B") (255 ∷ []) MIME_NOT_UTF8 0
   not_compared utf8 =
       let why : TextExplains (255 ∷ []) (NotUtf8 0) = (isnt, none_valid) in
-      (fails (NotUtf8 0) why, is_read ab _ _ (utf8, reads_ab) (fails (NotUtf8 0) why))
+      (fails (NotUtf8 0) why, has_media ab _ _ (utf8, reads_ab) (fails (NotUtf8 0) why))

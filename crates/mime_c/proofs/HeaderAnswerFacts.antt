@@ -2,8 +2,9 @@
 use Rattle.std.proofs.Common.{◌≡◌, ℕ, true, false, List, [], ◌∷◌, ◌++◌, refl, arith, codes, None, rules}
 use Rattle.mime.specs.Values.{MediaType}
 use Rattle.mime_http.specs.HttpList.{line_end, no_line, blank, no_text, piece_end}
-use Rattle.mime_c.specs.{Strings.strings, Answers.nothing, Answers.has_no_room, HeaderAnswers.HeaderReadsTo, HeaderAnswers.four_digits}
-use Rattle.mime_c.specs.{HeaderAnswers.range_texts, HeaderAnswers.AcceptsTo, HeaderAnswers.lines_of, HeaderAnswers.HaveNoEntry}
+use Rattle.mime_c.specs.{Strings.strings, Answers.nothing_found, Answers.has_no_room}
+use Rattle.mime_c.specs.{HeaderAnswers.HeaderReadsTo, HeaderAnswers.four_digits}
+use Rattle.mime_c.specs.{HeaderAnswers.range_texts, HeaderAnswers.AcceptsTo, HeaderAnswers.header_lines, HeaderAnswers.HaveNoEntry}
 use Rattle.mime_c.specs.{HeaderAnswers.are_offers, HeaderAnswers.BestIs, HeaderAnswers.none_is_best, HeaderAnswers.OrderIs}
 use Rattle.mime_c.specs.{HeaderAnswers.none_is_ordered, declared.MimeFound.MimeFound, declared.TheConstants.MIME_OK}
 use Rattle.mime_c.specs.{declared.TheConstants.MIME_NO_ROOM, declared.TheConstants.MIME_NOT_ACCEPTABLE}
@@ -28,11 +29,11 @@ unfolding half
 whole_written = refl
 
 -- An empty header is one line, and a missing header is none.
-lines_are : (lines_of true [] ≡ [] ∷ []) × (lines_of false (codes "a/b") ≡ [])
+lines_are : (header_lines true [] ≡ [] ∷ []) × (header_lines false (codes "a/b") ≡ [])
 lines_are = (refl, refl)
 
 -- Ten bytes aren't enough for a value of three.
-no_room_for_value : HeaderReadsTo (codes "A/B") (codes "----------") MIME_NO_ROOM (codes "----------", nothing)
+no_room_for_value : HeaderReadsTo (codes "A/B") (codes "----------") MIME_NO_ROOM (codes "----------", nothing_found)
 no_room_for_value = has_no_room (omega arith)
 
 -- Eleven bytes aren't enough for the ranges of three bytes.

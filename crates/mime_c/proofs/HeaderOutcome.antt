@@ -6,8 +6,8 @@ use Rattle.std.proofs.{lemmas.List.nil_from_length, lemmas.Option.same_Some}
 use Rattle.mime.specs.Values.{MediaType}
 use Rattle.mime_http.specs.{HttpList.Header, HttpList.IsHeader, HttpList.IsFirstBad, Ranges.best_offer}
 use Rattle.mime_http.proofs.HandedOut.{header_of, one_header, one_first_bad}
-use Rattle.mime_c.specs.Strings.{strings, written}
-use Rattle.mime_c.specs.HeaderAnswers.{ranges_texts, AreRanges, are_ranges, ranges_have_no_memory, lines_of, OfOffers, are_offers}
+use Rattle.mime_c.specs.Strings.{strings, overwritten}
+use Rattle.mime_c.specs.HeaderAnswers.{ranges_texts, AreRanges, are_ranges, ranges_have_no_memory, header_lines, OfOffers, are_offers}
 use Rattle.mime_c.specs.HeaderAnswers.{an_offer_is_bad, offers_have_no_memory, IsBest, best_is, none_is_best}
 use Rattle.mime_c.specs.Laws.{HasOne, AcceptsToOne, BestIsOne}
 use Rattle.mime_c.specs.declared.TheConstants.{MIME_OK, MIME_NO_MEMORY, MIME_BAD_OFFER}
@@ -25,7 +25,7 @@ module _ (line old : List ℕ) where
 
       held_of : Header → List ℕ × ℕ × ℕ
       held_of header =
-          let bytes = strings (ranges_texts header.ranges) in (written bytes old, length bytes, length header.bad)
+          let bytes = strings (ranges_texts header.ranges) in (overwritten bytes old, length bytes, length header.bad)
 
       only : (n : ℕ) (held : List ℕ × ℕ × ℕ) → n ≢ MIME_NO_MEMORY → AreRanges line old n held
           → (n ≡ MIME_OK) × (held ≡ held_of is.0)
@@ -49,24 +49,30 @@ some_or_none (Some x) = inl (x, refl)
 some_or_none None = inr refl
 
 -- If a list has no first bad offer, none of its offers is bad.
-none_bad : (list : List ℕ) (first : Option ℕ) {count : ℕ} (offered : Header)
+pub none_bad : (list : List ℕ) (first : Option ℕ) {count : ℕ} (offered : Header)
     → MatchOption first (count ≡ 0) (IsFirstBad (list ∷ []))
     → ((at : ℕ) → first ≢ Some at) → count ≡ length offered.bad → offered.bad ≡ []
 none_bad list None offered is other counted = nil_from_length offered.bad (sym counted ∙ is)
 none_bad list (Some at) offered is other counted = absurd (other at refl)
 
--- A call that has read a header, and a list of good offers, answers what it says of the ranges of both.
+-- A call that has read a header and a list of good offers answers what it says of the ranges of both.
 pub of_good : {Held : Type 0} {is_there : Bool} {line list : List ℕ} {failed : ℕ → Held}
-    {Is : List MediaType → List MediaType → ℕ → Held → Type 0} {answer : ℕ} {held : Held} {own theirs : List MediaType}
-    {given : Header} {count : ℕ} {first : Option ℕ}
-    → ((header : Header) × IsHeader (lines_of is_there line) header × (own ≡ header.ranges))
-    → ((offered : Header) × IsHeader (list ∷ []) offered × (given ≡ record offered { bad = [] }) × (count ≡ length offered.bad))
-    → theirs ≡ given.ranges → MatchOption first (count ≡ 0) (IsFirstBad (list ∷ [])) → ((at : ℕ) → first ≢ Some at)
-    → Is own theirs answer held → OfOffers is_there line list failed Is answer held
-of_good {list = list} {Is = Is} {answer = answer} {held = held} {own = own} {first = first} header offered same is other says =
-    let ranges = same ∙ ap (λ (it : Header). it.ranges) offered.2 in
-    are_offers header.0 offered.0 _ _ header.1 offered.1 (none_bad list first offered.0 is other offered.3)
-    (subst (λ it. Is it offered.0.ranges answer held) header.2 (subst (λ it. Is own it answer held) ranges says))
+    {Is : List MediaType → List MediaType → ℕ → Held → Type 0} {answer : ℕ} {held : Held} {own theirs given : List MediaType}
+    → ((header offered : Header) × IsHeader (header_lines is_there line) header × IsHeader (list ∷ []) offered × (offered.bad ≡ [])
+    × (own ≡ header.ranges) × (theirs ≡ offered.ranges))
+    → given ≡ theirs → Is own given answer held → OfOffers is_there line list failed Is answer held
+of_good {Is = Is} {answer = answer} {held = held} {own = own} (header, offered, is, of, good, ranges, others) same says =
+    are_offers header offered _ _ is of good
+    (subst (λ it. Is it offered.ranges answer held) ranges (subst (λ it. Is own it answer held) (same ∙ others) says))
+
+-- A call that can't go on answers what each such call answers.
+pub of_stopped : {Held : Type 0} {is_there : Bool} {line list : List ℕ} {failed : ℕ → Held}
+    {Is : List MediaType → List MediaType → ℕ → Held → Type 0} {answer at : ℕ}
+    → OfOffers is_there line list (λ at. at) (λ ranges offered answer at. ⊥) answer at
+    → OfOffers is_there line list failed Is answer (failed at)
+of_stopped (are_offers header offered _ _ is of good none) = absurd none
+of_stopped (an_offer_is_bad at first) = an_offer_is_bad at first
+of_stopped (offers_have_no_memory needs) = offers_have_no_memory needs
 
 -- Two headers of the same lines are the same.
 pub same_header : {lines : List (List ℕ)} {one two : Header} → IsHeader lines one → IsHeader lines two → two ≡ one
@@ -81,7 +87,7 @@ module _ {Held : Type 0} (is_there : Bool) (line offers : List ℕ) (failed : �
   Outcome = OfOffers is_there line offers failed Is
 
   -- A list of good offers has no other outcome.
-  only_good : (header offered : Header) → IsHeader (lines_of is_there line) header → IsHeader (offers ∷ []) offered
+  only_good : (header offered : Header) → IsHeader (header_lines is_there line) header → IsHeader (offers ∷ []) offered
       → offered.bad ≡ [] → (n : ℕ) (held : Held) → n ≢ MIME_NO_MEMORY → Outcome n held
       → (n ≡ (one header.ranges offered.ranges).0) × (held ≡ (one header.ranges offered.ranges).1)
   only_good header offered is of good n held some (are_offers another others _ _ too again fine has) =
@@ -101,7 +107,7 @@ module _ {Held : Type 0} (is_there : Bool) (line offers : List ℕ) (failed : �
   -- A call that reads offers has exactly one outcome, if what it goes on with has.
   pub one_of_offers : HasOne Outcome
   one_of_offers =
-      let header = header_of (lines_of is_there line) in
+      let header = header_of (header_lines is_there line) in
       let offered = header_of (offers ∷ []) in
       let of = offered.1 in
       ⊎_elim

@@ -14,7 +14,8 @@ use Rattle.mime_http.specs.declared.value.FieldError.{FieldError}
 use Rattle.mime_http.specs.declared.value.FieldError.TheVariants.{NotUtf8, Invalid, NoMemory}
 use Rattle.mime_http.proofs.HandedOut.{utf8_or_not}
 use Rattle.mime_c.specs.Strings.{ComeBack, texts_of}
-use Rattle.mime_c.specs.Answers.{number_of, number_of_error, InRoom, has_room, has_no_room, Holds, holds, Of, is_read, fails, TextExplains}
+use Rattle.mime_c.specs.Answers.{number_of, number_of_error, InRoom, has_room, has_no_room, Succeeds, succeeds, Of, has_media}
+use Rattle.mime_c.specs.Answers.{fails, TextExplains}
 use Rattle.mime_c.specs.Answers.{AreWritten, are_written, AreListed, is_listed, is_not_text, AreCompared, are_compared}
 use Rattle.mime_c.specs.Laws.{HasOne, ReadsToOne, ListsToOne, ComparesAsOne}
 use Rattle.mime_c.specs.declared.MimeFound.{MimeFound}
@@ -30,8 +31,8 @@ pub one_is : {Held : Type 0} {Is : ℕ → Held → Type 0} {n : ℕ} {held : He
 one_is {n = n} {held = held} some is same = (n, held, some, is, λ m other too has. same m other some too is has)
 
 -- A call that succeeds with what it has to hold has one outcome.
-pub one_success : {Held : Type 0} {wanted : Held} → HasOne (Holds wanted)
-one_success = (_, _, (λ same. omega (arith, same)), holds, λ n held some is. search rules)
+pub one_success : {Held : Type 0} {wanted : Held} → HasOne (Succeeds wanted)
+one_success = (_, _, (λ same. omega (arith, same)), succeeds, λ n held some is. search rules)
 
 -- A call has one outcome in each buffer if it has one in those that are long enough.
 pub one_in_room : {Held : Type 0} {least : ℕ} {old : List ℕ} {untouched : Held} {Is : ℕ → Held → Type 0} → HasOne Is
@@ -55,7 +56,7 @@ pub one_of_reading : {Held : Type 0} {IsRead : MediaType → Type 0} {Explained 
     {Is : MediaType → ℕ → Held → Type 0} → IsReading IsRead Explained
     → ((media : MediaType) → IsRead media → HasOne (Is media)) → HasOne (Of IsRead Explained failed Is)
 one_of_reading reading one = ⊎_elim
-    (λ it. let has = one it.0 it.1 in (_, _, has.2, is_read it.0 _ _ it.1 has.3, λ n held some is. search rules))
+    (λ it. let has = one it.0 it.1 in (_, _, has.2, has_media it.0 _ _ it.1 has.3, λ n held some is. search rules))
     (λ it. (_, _, it.1, fails it.0 it.2, λ n held some is. search rules)) reading.either
 
 -- The strings of a media type that come back are written in one way.

@@ -10,8 +10,8 @@ use Rattle.std.proofs.lemmas.List.Kept.{AllPairs-cons}
 use Rattle.mime.specs.Values.{MediaType}
 use Rattle.mime_http.specs.Ranges.{Rank, merit, merit_at, ComesBefore, AreInOrder}
 use Rattle.mime_http.proofs.HandedOut.{weighs_within, one_order}
-use Rattle.mime_c.specs.Strings.{written}
-use Rattle.mime_c.specs.Answers.{InRoom, Holds}
+use Rattle.mime_c.specs.Strings.{overwritten}
+use Rattle.mime_c.specs.Answers.{InRoom, Succeeds}
 use Rattle.mime_c.specs.HeaderAnswers.{IsOrder, order_is, none_is_ordered}
 use Rattle.mime_c.specs.Laws.{HasOne, OrderIsOne}
 use Rattle.mime_c.specs.declared.TheConstants.{MIME_NO_MEMORY, MIME_NOT_ACCEPTABLE}
@@ -155,7 +155,7 @@ module _ (old : List ℕ) (ranges offers : List MediaType) where
 
   -- An order is written if there is room for it.
   abbrev IsPlaced : List ℕ → ℕ → List ℕ × ℕ → Type 0
-  IsPlaced order = InRoom (length order) old (old, 0) (Holds (written order old, length order))
+  IsPlaced order = InRoom (length order) old (old, 0) (Succeeds (overwritten order old, length order))
 
   -- An order has one outcome in each buffer.
   one_place : (order : List ℕ) → HasOne (IsPlaced order)

@@ -12,8 +12,9 @@ use Rattle.mime.proofs.HandedOut.{rejected-from_walk, one_reading, cut_unique}
 use Rattle.mime_http.specs.declared.value.FieldError.{FieldError}
 use Rattle.mime_http.specs.declared.value.FieldError.TheVariants.{NotUtf8, Invalid}
 use Rattle.mime_http.specs.declared.value.FieldError.TheVariants as field
-use Rattle.mime_c.specs.Strings.{strings, ComeBack, texts_of, item_texts, written}
-use Rattle.mime_c.specs.Answers.{number_of_error, found_of_error, nothing, has_room, has_no_room, is_read, fails, TextExplains, are_written}
+use Rattle.mime_c.specs.Strings.{strings, ComeBack, texts_of, item_texts, overwritten}
+use Rattle.mime_c.specs.Answers.{number_of_error, found_of_error, nothing_found, has_room, has_no_room, has_media, fails}
+use Rattle.mime_c.specs.Answers.{TextExplains, are_written}
 use Rattle.mime_c.specs.Answers.{ReadsTo, NeedsMemory, ListsTo, is_listed, has_no_memory, is_not_text, Compares, are_compared}
 use Rattle.mime_c.specs.declared.MimeFound.{MimeFound}
 use Rattle.mime_c.specs.declared.TheConstants.{MIME_OK, MIME_NO_MEMORY}
@@ -23,7 +24,7 @@ use Rattle.mime_c.proofs.AnswerFacts.{empty_needs_none}
 
 -- If memory runs out for a text, it is a media type of more than 40 bytes, and nothing is found.
 fails_for_memory : {text : List ℕ} (error : FieldError) → number_of_error error ≡ MIME_NO_MEMORY → TextExplains text error
-    → (found_of_error error ≡ nothing) × IsUtf8 text × Explains text NoMemory
+    → (found_of_error error ≡ nothing_found) × IsUtf8 text × Explains text NoMemory
 fails_for_memory (Invalid NoMemory) is why = (refl, why.0, why.1)
 fails_for_memory (Invalid fault) is why = absurd (omega (arith, is))
 fails_for_memory (NotUtf8 pos) is why = absurd (omega (arith, is))
@@ -31,9 +32,9 @@ fails_for_memory field.NoMemory is why = absurd why
 
 -- If memory runs out, `mime_read` writes nothing.
 reads_for_memory : {text old : List ℕ} {n : ℕ} {held : List ℕ × MimeFound} → n ≡ MIME_NO_MEMORY → ReadsTo text old n held
-    → (held ≡ (old, nothing)) × IsUtf8 text × Explains text NoMemory
+    → (held ≡ (old, nothing_found)) × IsUtf8 text × Explains text NoMemory
 reads_for_memory {old = old} is (has_room _ _ room (fails error why)) = search (fails_for_memory, rules)
-reads_for_memory is (has_room _ _ room (is_read media _ _ reads (are_written back))) = absurd (omega (arith, is))
+reads_for_memory is (has_room _ _ room (has_media media _ _ reads (are_written back))) = absurd (omega (arith, is))
 reads_for_memory is (has_no_room short) = absurd (omega (arith, is))
 
 -- If memory runs out, `mime_list` had room, and its text has an item that needs memory.
@@ -48,8 +49,8 @@ lists_for_memory is (has_no_room short) = absurd (omega (arith, is))
 compares_for_memory : {one other : List ℕ} {n equal : ℕ} → n ≡ MIME_NO_MEMORY → Compares one other n equal
     → (equal ≡ 0) × (Explains one NoMemory ⊎ Explains other NoMemory)
 compares_for_memory is (fails error why) = (refl, inl (fails_for_memory error is why).2)
-compares_for_memory is (is_read media _ _ reads (fails error why)) = (refl, inr (fails_for_memory error is why).2)
-compares_for_memory is (is_read media _ _ reads (is_read other _ _ too (are_compared equal tells))) = absurd (omega (arith, is))
+compares_for_memory is (has_media media _ _ reads (fails error why)) = (refl, inr (fails_for_memory error is why).2)
+compares_for_memory is (has_media media _ _ reads (has_media other _ _ too (are_compared equal tells))) = absurd (omega (arith, is))
 
 -- Memory never runs out for the empty list.
 empty_list_needs_none : (old : List ℕ) (held : List ℕ × ℕ) → ¬ (ListsTo [] old MIME_NO_MEMORY held)
@@ -118,15 +119,15 @@ no_failure_is_ok field.NoMemory is = omega (arith, is)
 
 -- The strings of `mime_read` are those of the text's media type, and none has a 0.
 reads_without_zero : {text old : List ℕ} {n : ℕ} {held : List ℕ × MimeFound} → n ≡ MIME_OK → ReadsTo text old n held
-    → (media : MediaType) × Reads text media × ComeBack (texts_of media) × (held.0 ≡ written (strings (texts_of media)) old)
-reads_without_zero is (has_room _ _ room (is_read media _ _ reads (are_written back))) = (media, reads.1, back, refl)
+    → (media : MediaType) × Reads text media × ComeBack (texts_of media) × (held.0 ≡ overwritten (strings (texts_of media)) old)
+reads_without_zero is (has_room _ _ room (has_media media _ _ reads (are_written back))) = (media, reads.1, back, refl)
 reads_without_zero is (has_room _ _ room (fails error why)) = absurd (no_failure_is_ok error is)
 reads_without_zero is (has_no_room short) = absurd (omega (arith, is))
 
 -- The strings of `mime_list` are those of the text's items, and none has a 0.
 lists_without_zero : {text old : List ℕ} {n : ℕ} {held : List ℕ × ℕ} → n ≡ MIME_OK → ListsTo text old n held
     → (items : List CutItem) × (rest : List ℕ) × Cut text items rest × ComeBack (item_texts items)
-    × (held.0 ≡ written (strings (item_texts items)) old)
+    × (held.0 ≡ overwritten (strings (item_texts items)) old)
 lists_without_zero is (has_room _ _ room (is_listed items rest utf8 cut back)) = (items, rest, cut, back, refl)
 lists_without_zero is (has_room _ _ room (has_no_memory new utf8 needs)) = absurd (omega (arith, is))
 lists_without_zero is (has_room _ _ room (is_not_text isnt)) = absurd (omega (arith, is))

@@ -2,13 +2,14 @@
 use Rattle.std.proofs.Common.{◌≡◌, ℕ, List, [], ◌∷◌, ◌++◌, refl, sym, arith, codes, None, rules}
 use Rattle.std.proofs.lemmas.Bool.{true≢false}
 use Rattle.mime.specs.{Bytes.is_token_byte, Bytes.is_quoted_byte, Values.MediaType}
-use Rattle.mime_c.specs.{Answers.has_room, Answers.has_no_room, Answers.holds, ParameterAnswers.BoundaryIs, ParameterAnswers.UnescapesTo}
-use Rattle.mime_c.specs.{ParameterAnswers.room_with, ParameterAnswers.IsParameter, ParameterAnswers.with_parameter, ParameterAnswers.SetsTo}
+use Rattle.mime_c.specs.{Answers.has_room, Answers.has_no_room, Answers.succeeds, ParameterAnswers.BoundaryIs, ParameterAnswers.UnescapesTo}
+use Rattle.mime_c.specs.{ParameterAnswers.room_with, ParameterAnswers.CanBeParameter}
+use Rattle.mime_c.specs.{ParameterAnswers.set_parameter, ParameterAnswers.SetsTo}
 use Rattle.mime_c.specs.{declared.TheConstants.MIME_OK, declared.TheConstants.MIME_NO_ROOM}
 
 -- `a\"b` means three bytes.
 escaped_quote : UnescapesTo (codes "a\\\"b") (codes "-----") MIME_OK (codes "a\"b" ++ 0 ∷ codes "-", 3)
-escaped_quote = has_room _ _ (omega arith) holds
+escaped_quote = has_room _ _ (omega arith) succeeds
 
 -- `a\"b` doesn't mean four bytes.
 not_four : (new : List ℕ) → ¬ (UnescapesTo (codes "a\\\"b") (codes "-----") MIME_OK (new, 4))
@@ -23,16 +24,16 @@ ab_with_p : MediaType
 ab_with_p = record { essence = codes "a/b"; slash = 1; plus = None; pairs = (codes "p", codes "q") ∷ []; kept = codes "a/b;p=q" }
 
 -- Its parameter is replaced.
-replaced : (with_parameter ab_with_p (codes "P") (codes "x y")).kept ≡ codes "a/b; p=\"x y\""
+replaced : (set_parameter ab_with_p (codes "P") (codes "x y")).kept ≡ codes "a/b; p=\"x y\""
 unfolding ab_with_p is_token_byte
 replaced = refl
 
 -- A parameter has a name.
-no_name : (value : List ℕ) → ¬ (IsParameter [] value)
+no_name : (value : List ℕ) → ¬ (CanBeParameter [] value)
 no_name value is = is.named
 
 -- A parameter's value has no line feed.
-no_line_feed : (name : List ℕ) → ¬ (IsParameter name (10 ∷ []))
+no_line_feed : (name : List ℕ) → ¬ (CanBeParameter name (10 ∷ []))
 unfolding is_quoted_byte
 no_line_feed name is = true≢false (sym is.safe)
 

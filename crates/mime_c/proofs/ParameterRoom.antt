@@ -7,7 +7,7 @@ use Rattle.mime.proofs.HandedOut.{length-lowered, lowered_value-either, is_other
 use Rattle.mime_http.specs.Boundary.{is_bchar, IsBoundary}
 use Rattle.mime_http.specs.HttpMediaType.{HttpReads}
 use Rattle.mime_http.specs.Written.{escaped, text_of_pair, others}
-use Rattle.mime_c.specs.{Strings.ComeBack, ParameterAnswers.room_with, ParameterAnswers.with_parameter}
+use Rattle.mime_c.specs.{Strings.ComeBack, ParameterAnswers.room_with, ParameterAnswers.set_parameter}
 use Rattle.mime_c.proofs.{HeaderRoom.anew_fits, HeaderRoom.length-pair, HeaderRoom.sizes_of, NoZero.come_back, NoZero.no_zero-read}
 
 -- ---- a media type with a parameter
@@ -19,7 +19,7 @@ length-escaped (b ∷ bytes) = grind (arith, length-escaped bytes)
 
 -- A media type with a parameter fits into the room that is asked for.
 pub set_fits : (text name value : List ℕ) (media : MediaType) → HttpReads text media
-    → length (with_parameter media name value).kept + 1 ≤ room_with text name value
+    → length (set_parameter media name value).kept + 1 ≤ room_with text name value
 set_fits text name value media reads =
     let made : List ℕ × List ℕ = (lowered name, lowered_value name (escaped value)) in
     let kept = others (lowered name) media.pairs in

@@ -20,7 +20,8 @@ use Rattle.mime_http.proofs.HandedOut.{utf8_or_not, read_or_not, content_of_esca
 use Rattle.mime_http.proofs.HandedOut.{one_field_error, one_http_fault, with_pair_is_read}
 use Rattle.mime_c.specs.Strings.{ComeBack}
 use Rattle.mime_c.specs.Answers.{number_of, number_of_error}
-use Rattle.mime_c.specs.ParameterAnswers.{HasBoundary, boundary_is, has_no_boundary, boundary_has_no_memory, IsParameter, with_parameter}
+use Rattle.mime_c.specs.ParameterAnswers.{AnswersBoundary, boundary_is, has_no_boundary, boundary_has_no_memory}
+use Rattle.mime_c.specs.ParameterAnswers.{CanBeParameter, set_parameter}
 use Rattle.mime_c.specs.ParameterAnswers.{IsSet, is_set, isnt_parameter}
 use Rattle.mime_c.specs.Laws.{HasOne, HeaderReadsToOne, BoundaryIsOne, UnescapesToOne, SetsToOne}
 use Rattle.mime_c.specs.declared.TheConstants.{MIME_NO_MEMORY}
@@ -99,7 +100,7 @@ boundary_or_not media =
 
 -- Two outcomes of a boundary are the same unless memory runs out.
 same_boundary : {old : List ℕ} {media : MediaType} {n m : ℕ} {held other : List ℕ × ℕ} → n ≢ MIME_NO_MEMORY
-    → m ≢ MIME_NO_MEMORY → HasBoundary old media n held → HasBoundary old media m other → (m ≡ n) × (other ≡ held)
+    → m ≢ MIME_NO_MEMORY → AnswersBoundary old media n held → AnswersBoundary old media m other → (m ≡ n) × (other ≡ held)
 same_boundary h k boundary_has_no_memory two = absurd (h refl)
 same_boundary h k one boundary_has_no_memory = absurd (k refl)
 same_boundary {old = old} h k (boundary_is one has back) (boundary_is two too again) = search (same_Some, rules)
@@ -108,7 +109,7 @@ same_boundary h k (has_no_boundary none) (boundary_is two has back) = absurd (no
 same_boundary h k (has_no_boundary none) (has_no_boundary too) = (refl, refl)
 
 -- The boundary of a media type is written in one way.
-one_of_boundary : (old : List ℕ) (media : MediaType) → HasOne (HasBoundary old media)
+one_of_boundary : (old : List ℕ) (media : MediaType) → HasOne (AnswersBoundary old media)
 one_of_boundary old media = ⊎_elim
     (λ it. one_is (λ same. omega (arith, same)) (boundary_is it.0 it.1 (boundary_comes_back it.0 it.1.is)) (λ n x. same_boundary))
     (λ none. one_is (λ same. omega (arith, same)) (has_no_boundary none) (λ n x. same_boundary)) (boundary_or_not media)
@@ -128,7 +129,7 @@ token_or_not : (name : List ℕ) → IsToken name ⊎ ¬ (IsToken name)
 token_or_not name = search rules
 
 -- A name and a value are a parameter or aren't.
-parameter_or_not : (name value : List ℕ) → IsParameter name value ⊎ ¬ (IsParameter name value)
+parameter_or_not : (name value : List ℕ) → CanBeParameter name value ⊎ ¬ (CanBeParameter name value)
 parameter_or_not name value = ⊎_elim
     (λ name_utf8. ⊎_elim
     (λ value_utf8. ⊎_elim
@@ -139,14 +140,14 @@ parameter_or_not name value = ⊎_elim
     (λ no. inr (λ is. no is.name_utf8)) (utf8_or_not name)
 
 -- A media type that is written with a parameter comes back.
-comes_back : (text name value : List ℕ) (media : MediaType) → HttpReads text media → IsParameter name value
-    → ComeBack ((with_parameter media name value).kept ∷ [])
+comes_back : (text name value : List ℕ) (media : MediaType) → HttpReads text media → CanBeParameter name value
+    → ComeBack ((set_parameter media name value).kept ∷ [])
 comes_back text name value media reads is =
     let read = read_anew text media reads in
     let safe = kept_is_safe read.0 (with_pairs media media.pairs) read.1 in
     let made = with_pair_is_read read.0 (with_pairs media media.pairs) name (escaped value) read.1 safe is.named
     (content_of_escaped value is.safe) in
-    set_comes_back (with_parameter media name value) (kept_is_read _ _ made)
+    set_comes_back (set_parameter media name value) (kept_is_read _ _ made)
 
 -- Two outcomes of a parameter are the same unless memory runs out.
 same_set : {name value old : List ℕ} {media : MediaType} {n m : ℕ} {held other : List ℕ × ℕ} → n ≢ MIME_NO_MEMORY

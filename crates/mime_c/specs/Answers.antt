@@ -11,7 +11,7 @@ use Rattle.mime.specs.declared.scan.fault.ParseError.TheVariants.{InvalidToken}
 use Rattle.mime.specs.declared.scan.fault.ParseError.TheVariants as fault
 use Rattle.mime_http.specs.declared.value.FieldError.{FieldError}
 use Rattle.mime_http.specs.declared.value.FieldError.TheVariants.{NotUtf8, Invalid, NoMemory}
-use Rattle.mime_c.specs.Strings.{strings, ComeBack, parts_of, texts_of, item_texts, written}
+use Rattle.mime_c.specs.Strings.{strings, ComeBack, parts_of, texts_of, item_texts, overwritten}
 use Rattle.mime_c.specs.declared.MimeFound.{MimeFound}
 use Rattle.mime_c.specs.declared.TheConstants.{MIME_OK, MIME_MISSING_SLASH, MIME_MISSING_SUBTYPE, MIME_MISSING_EQUAL, MIME_MISSING_VALUE}
 use Rattle.mime_c.specs.declared.TheConstants.{MIME_MISSING_QUOTE, MIME_INVALID_BYTE, MIME_NO_MEMORY, MIME_NOT_UTF8, MIME_NO_ROOM}
@@ -35,18 +35,18 @@ number_of_error NoMemory = MIME_NO_MEMORY
 abbrev pub found_at : ℕ → ℕ → MimeFound
 found_at pos byte = record { length = 0; params = 0; printed = 0; slash = 0; subtype_end = 0; pos = pos; byte = byte }
 
-abbrev pub nothing : MimeFound
-nothing = found_at 0 0
+abbrev pub nothing_found : MimeFound
+nothing_found = found_at 0 0
 
 abbrev pub found_of_error : FieldError → MimeFound
 found_of_error (NotUtf8 pos) = found_at pos 0
 found_of_error (Invalid (InvalidToken pos byte)) = found_at pos byte
-found_of_error other = nothing
+found_of_error other = nothing_found
 
 -- what is found of a media type: how many bytes its strings are, how many parameters there are, where the string begins that it is
 -- printed as, and where in the essence, which begins with type, slash and subtype, the slash is and the subtype ends
 abbrev pub found_of : MediaType → MimeFound
-found_of media = record nothing {
+found_of media = record nothing_found {
   length = length (strings (texts_of media));
   params = length media.pairs;
   printed = length (strings (parts_of media));
@@ -62,14 +62,15 @@ pub data InRoom {Held : Type 0} (least : ℕ) (old : List ℕ) (untouched : Held
   has_no_room : length old < least → InRoom least old untouched Is MIME_NO_ROOM untouched
 
 -- a call succeeds, and this is held then
-pub data Holds {Held : Type 0} (wanted : Held) : ℕ → Held → Type 0 where
-  holds : Holds wanted MIME_OK wanted
+pub data Succeeds {Held : Type 0} (wanted : Held) : ℕ → Held → Type 0 where
+  succeeds : Succeeds wanted MIME_OK wanted
 
 -- a call reads a media type first: it goes on with that, or says why there is none, and `failed` says what is held with what is found then
-pub data Of {Held : Type 0} (IsRead : MediaType → Type 0) (Explained : FieldError → Type 0) (failed : MimeFound → Held)
+pub data Of {Held : Type 0} (IsMedia : MediaType → Type 0) (Explained : FieldError → Type 0) (failed : MimeFound → Held)
     (Is : MediaType → ℕ → Held → Type 0) : ℕ → Held → Type 0 where
-  is_read : (media : MediaType) (answer : ℕ) (held : Held) → IsRead media → Is media answer held → Of IsRead Explained failed Is answer held
-  fails : (error : FieldError) → Explained error → Of IsRead Explained failed Is (number_of_error error) (failed (found_of_error error))
+  has_media : (media : MediaType) (answer : ℕ) (held : Held) → IsMedia media → Is media answer held
+      → Of IsMedia Explained failed Is answer held
+  fails : (error : FieldError) → Explained error → Of IsMedia Explained failed Is (number_of_error error) (failed (found_of_error error))
 
 -- why a text isn't read as a media type; that memory runs out is a fault of `mime`
 abbrev pub TextExplains : List ℕ → FieldError → Type 0
@@ -83,11 +84,11 @@ OfText text failed Is = Of (λ media. IsUtf8 text × Reads text media) (TextExpl
 
 -- a call writes the strings of a media type, and finds what `found_of` says
 pub data AreWritten (old : List ℕ) (media : MediaType) : ℕ → List ℕ × MimeFound → Type 0 where
-  are_written : ComeBack (texts_of media) → AreWritten old media MIME_OK (written (strings (texts_of media)) old, found_of media)
+  are_written : ComeBack (texts_of media) → AreWritten old media MIME_OK (overwritten (strings (texts_of media)) old, found_of media)
 
 -- `mime_read` of a text, with the caller's buffer: the answer, and what the buffer holds then and what is found
 abbrev pub ReadsTo : List ℕ → List ℕ → ℕ → List ℕ × MimeFound → Type 0
-ReadsTo text old = InRoom (2 * length text + 2) old (old, nothing) (OfText text (λ found. (old, found)) (AreWritten old))
+ReadsTo text old = InRoom (2 * length text + 2) old (old, nothing_found) (OfText text (λ found. (old, found)) (AreWritten old))
 
 -- an item of the text's cut is a media type of which more than 40 bytes are kept
 abbrev pub NeedsMemory : List ℕ → Type 0
@@ -97,7 +98,7 @@ NeedsMemory text = (items : List CutItem) × (rest piece : List ℕ) × (media :
 -- `mime_list` of a text, with the caller's buffer: the answer, and what the buffer holds then and how many bytes were written
 pub data AreListed (text old : List ℕ) : ℕ → List ℕ × ℕ → Type 0 where
   is_listed : (items : List CutItem) (rest : List ℕ) → IsUtf8 text → Cut text items rest → ComeBack (item_texts items)
-      → AreListed text old MIME_OK (written (strings (item_texts items)) old, length (strings (item_texts items)))
+      → AreListed text old MIME_OK (overwritten (strings (item_texts items)) old, length (strings (item_texts items)))
   has_no_memory : (new : List ℕ) → IsUtf8 text → NeedsMemory text → AreListed text old MIME_NO_MEMORY (new, 0)
   is_not_text : ¬ (IsUtf8 text) → AreListed text old MIME_NOT_UTF8 (old, 0)
 

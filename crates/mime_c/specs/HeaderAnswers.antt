@@ -6,8 +6,8 @@ use Rattle.mime_http.specs.HttpMediaType.{HttpReads}
 use Rattle.mime_http.specs.HttpFaults.{HttpExplains}
 use Rattle.mime_http.specs.HttpList.{IsPrinted, Header, IsHeader, IsFirstBad}
 use Rattle.mime_http.specs.Ranges.{weight_of, best_offer, AreInOrder}
-use Rattle.mime_c.specs.Strings.{strings, ComeBack, parts_of, written}
-use Rattle.mime_c.specs.Answers.{nothing, InRoom, Holds, Of, AreWritten}
+use Rattle.mime_c.specs.Strings.{strings, ComeBack, parts_of, overwritten}
+use Rattle.mime_c.specs.Answers.{nothing_found, InRoom, Succeeds, Of, AreWritten}
 use Rattle.mime_c.specs.declared.MimeFound.{MimeFound}
 use Rattle.mime_c.specs.declared.TheConstants.{MIME_OK, MIME_NO_MEMORY, MIME_NOT_ACCEPTABLE, MIME_BAD_OFFER}
 
@@ -18,7 +18,7 @@ OfValue value failed Is = Of (λ media. IsUtf8 value × HttpReads value media ×
 
 -- `mime_content_type` of a value, with the caller's buffer: the answer, and what the buffer holds then and what is found
 abbrev pub HeaderReadsTo : List ℕ → List ℕ → ℕ → List ℕ × MimeFound → Type 0
-HeaderReadsTo value old = InRoom (3 * length value + 2) old (old, nothing) (OfValue value (λ found. (old, found)) (AreWritten old))
+HeaderReadsTo value old = InRoom (3 * length value + 2) old (old, nothing_found) (OfValue value (λ found. (old, found)) (AreWritten old))
 
 -- a number below 10,000 in four digits
 abbrev pub four_digits : ℕ → List ℕ
@@ -41,7 +41,7 @@ HaveNoEntry lines = IsHeader lines (record { ranges = []; bad = [] })
 pub data AreRanges (line old : List ℕ) : ℕ → List ℕ × ℕ × ℕ → Type 0 where
   are_ranges : (header : Header) → IsHeader (line ∷ []) header → ComeBack (ranges_texts header.ranges)
       → AreRanges line old MIME_OK
-      (written (strings (ranges_texts header.ranges)) old, length (strings (ranges_texts header.ranges)), length header.bad)
+      (overwritten (strings (ranges_texts header.ranges)) old, length (strings (ranges_texts header.ranges)), length header.bad)
   ranges_have_no_memory : ¬ (HaveNoEntry (line ∷ [])) → AreRanges line old MIME_NO_MEMORY (old, 0, 0)
 
 abbrev pub AcceptsTo : List ℕ → List ℕ → ℕ → List ℕ × ℕ × ℕ → Type 0
@@ -50,18 +50,18 @@ AcceptsTo line old = InRoom (3 * length line + 3) old (old, 0, 0) (AreRanges lin
 -- ---- offers
 
 -- the lines of a header of one line, or of none
-abbrev pub lines_of : Bool → List ℕ → List (List ℕ)
-lines_of is_there line = if is_there then line ∷ [] else []
+abbrev pub header_lines : Bool → List ℕ → List (List ℕ)
+header_lines is_there line = if is_there then line ∷ [] else []
 
 -- a call reads a list of offers and a header, which may be missing: it goes on with both, or finds the position of the first bad offer, and
 -- `failed` says what is held then
 pub data OfOffers {Held : Type 0} (is_there : Bool) (line offers : List ℕ) (failed : ℕ → Held)
     (Is : List MediaType → List MediaType → ℕ → Held → Type 0) : ℕ → Held → Type 0 where
-  are_offers : (header offered : Header) (answer : ℕ) (held : Held) → IsHeader (lines_of is_there line) header
+  are_offers : (header offered : Header) (answer : ℕ) (held : Held) → IsHeader (header_lines is_there line) header
       → IsHeader (offers ∷ []) offered → offered.bad ≡ [] → Is header.ranges offered.ranges answer held
       → OfOffers is_there line offers failed Is answer held
   an_offer_is_bad : (at : ℕ) → IsFirstBad (offers ∷ []) at → OfOffers is_there line offers failed Is MIME_BAD_OFFER (failed at)
-  offers_have_no_memory : ¬ (HaveNoEntry (offers ∷ []) × HaveNoEntry (lines_of is_there line))
+  offers_have_no_memory : ¬ (HaveNoEntry (offers ∷ []) × HaveNoEntry (header_lines is_there line))
       → OfOffers is_there line offers failed Is MIME_NO_MEMORY (failed 0)
 
 -- `mime_best` of a header and a list of offers: the answer, and the position of the best or of the first bad offer, or 0
@@ -76,7 +76,8 @@ BestIs is_there line offers = OfOffers is_there line offers (λ at. at) IsBest
 -- are acceptable, or the position of the first bad one. There may be fewer places than acceptable offers
 pub data IsOrder (old : List ℕ) (ranges offers : List MediaType) : ℕ → List ℕ × ℕ → Type 0 where
   order_is : (order : List ℕ) (answer : ℕ) (held : List ℕ × ℕ) → AreInOrder ranges offers order → order ≢ []
-      → InRoom (length order) old (old, 0) (Holds (written order old, length order)) answer held → IsOrder old ranges offers answer held
+      → InRoom (length order) old (old, 0) (Succeeds (overwritten order old, length order)) answer held
+      → IsOrder old ranges offers answer held
   none_is_ordered : AreInOrder ranges offers [] → IsOrder old ranges offers MIME_NOT_ACCEPTABLE (old, 0)
 
 abbrev pub OrderIs : Bool → List ℕ → List ℕ → List ℕ → ℕ → List ℕ × ℕ → Type 0

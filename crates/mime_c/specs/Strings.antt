@@ -39,9 +39,9 @@ abbrev pub item_texts : List CutItem → List (List ℕ)
 item_texts items = map item_text items
 
 -- the caller's buffer with these bytes at its beginning; the others stay as they were
-abbrev pub written : List ℕ → List ℕ → List ℕ
-written bytes old = bytes ++ drop (length bytes) old
+abbrev pub overwritten : List ℕ → List ℕ → List ℕ
+overwritten bytes old = bytes ++ drop (length bytes) old
 
 -- the caller's buffer with one string at its beginning, and how long its text is
 abbrev pub string_in : List ℕ → List ℕ → List ℕ × ℕ
-string_in old text = (written (string_of text) old, length text)
+string_in old text = (overwritten (string_of text) old, length text)

@@ -5,16 +5,17 @@
 //! answers. include/mime.h describes them in plain words.
 #![tactic(auto)]
 
-ghost use Rattle.std.specs.Prelude.{◌≡◌, ◌+◌, ◌<◌, ◌≤◌, ◌∷◌, length, IfOk, IfErr, IsOk};
+ghost use Rattle.std.specs.Prelude.{◌≡◌, ◌+◌, ◌<◌, ◌≤◌, [], ◌∷◌, length, IfOk, IfErr, IsOk};
 ghost use Rattle.std.specs.Str.{IsUtf8};
 ghost use Rattle.mime.specs.Values.{Reads};
 ghost use Rattle.mime.specs.CutLaws.{IsRead};
-ghost use Rattle.mime_c.specs.Strings.{string_of, strings, parts_of, texts_of, written};
+ghost use Rattle.mime_c.specs.Strings.{string_of, strings, parts_of, texts_of, overwritten};
 ghost use Rattle.mime_c.specs.Writing.{Writes};
 ghost use Rattle.mime_c.specs.Answers.{number_of, number_of_error, found_of_error, found_of, TextExplains, ReadsTo, ListsTo, Compares};
 ghost use Rattle.mime_http.specs.HttpList.{Header, IsHeader};
 ghost use Rattle.mime_http.specs.Ranges.{weight_of};
-ghost use Rattle.mime_c.specs.HeaderAnswers.{HeaderReadsTo, four_digits, range_texts, AcceptsTo, lines_of, HaveNoEntry, BestIs, OrderIs};
+ghost use Rattle.mime_c.specs.HeaderAnswers.{HeaderReadsTo, four_digits, range_texts, AcceptsTo, header_lines, HaveNoEntry};
+ghost use Rattle.mime_c.specs.HeaderAnswers.{OfOffers, BestIs, OrderIs};
 
 pub mod laws;
 mod parameter;
@@ -194,7 +195,7 @@ fn put_parts(out: &mut [u8], at: usize, mime: &Mime) -> usize
 fn put_texts(out: &mut [u8], mime: &Mime) -> MimeFound
     requires read { IsRead mime.now.media }
     requires room { length (strings (texts_of mime.now.media)) ≤ length out.old }
-    ensures bytes { out.new ≡ written (strings (texts_of mime.now.media)) out.old }
+    ensures bytes { out.new ≡ overwritten (strings (texts_of mime.now.media)) out.old }
     ensures found { result ≡ found_of mime.now.media }
 {
     let (count, _) = mime.params().size_hint();
@@ -378,13 +379,41 @@ pub extern "C" fn mime_accept(
 
 /// Reads an `Accept` header of one line, or of no line if `is_there` is false. Bad entries aren't kept.
 fn accepted(alloc: Global, is_there: bool, line: &[u8]) -> Result<Accept, AllocError>
-    ensures header { IfOk result (λ accept. (header : Header) × IsHeader (lines_of is_there line.now) header
+    ensures header { IfOk result (λ accept. (header : Header) × IsHeader (header_lines is_there line.now) header
         × (accept.ranges ≡ header.ranges)) }
-    ensures nothing { HaveNoEntry (lines_of is_there line.now) → IsOk result }
+    ensures nothing { HaveNoEntry (header_lines is_there line.now) → IsOk result }
 {
     let lines = [line];
     // This is one line, or none.
     Accept::from_lines_without_bad(alloc, &lines[..usize::from(is_there)])
+}
+
+/// Reads a list of offers, and an `Accept` header of one line, or of no line if `is_there` is false.
+///
+/// # Errors
+/// Returns `MIME_BAD_OFFER` and the position of the first offer that isn't a media type, or `MIME_NO_MEMORY` and 0.
+#[inline(always)]
+fn read_header_and_offers(
+    alloc: Global,
+    is_there: bool,
+    accept: &[u8],
+    offers: &[u8],
+) -> Result<(Accept, Accept), (u32, usize)>
+    ensures read { IfOk result (λ read. (header offered : Header) × IsHeader (header_lines is_there accept.now) header
+        × IsHeader (offers.now ∷ []) offered × (offered.bad ≡ []) × (read.0.ranges ≡ header.ranges) × (read.1.ranges ≡ offered.ranges)) }
+    ensures stopped { IfErr result (λ stop.
+        OfOffers is_there accept.now offers.now (λ at. at) (λ ranges offered answer at. ⊥) stop.0 stop.1) }
+{
+    let Ok((offered, entries)) = Accept::from_line_counting_bad(alloc, offers) else {
+        return Err((MIME_NO_MEMORY, 0));
+    };
+    if let Some(first) = entries.first {
+        return Err((MIME_BAD_OFFER, first));
+    }
+    match accepted(alloc, is_there, accept) {
+        Ok(header) => Ok((header, offered)),
+        Err(AllocError) => Err((MIME_NO_MEMORY, 0)),
+    }
 }
 
 /// Chooses the best offer of a list, such as `text/html, application/json`, for an `Accept` header (RFC 9110, 12.5.1). Sets `best` to the
@@ -402,15 +431,12 @@ pub extern "C" fn mime_best(
     ensures { BestIs is_there accept.now offers.now result best.new }
 {
     *best = 0;
-    let Ok((offered, entries)) = Accept::from_line_counting_bad(alloc, offers) else {
-        return MIME_NO_MEMORY;
-    };
-    if let Some(first) = entries.first {
-        *best = first;
-        return MIME_BAD_OFFER;
-    }
-    let Ok(header) = accepted(alloc, is_there, accept) else {
-        return MIME_NO_MEMORY;
+    let (header, offered) = match read_header_and_offers(alloc, is_there, accept, offers) {
+        Ok(read) => read,
+        Err((answer, bad)) => {
+            *best = bad;
+            return answer;
+        }
     };
     match header.best(offered.ranges()) {
         Some(at) => {
@@ -436,15 +462,12 @@ pub extern "C" fn mime_order(
     ensures { OrderIs is_there accept.now offers.now order.old result (order.new, count.new) }
 {
     *count = 0;
-    let Ok((offered, entries)) = Accept::from_line_counting_bad(alloc, offers) else {
-        return MIME_NO_MEMORY;
-    };
-    if let Some(first) = entries.first {
-        *count = first;
-        return MIME_BAD_OFFER;
-    }
-    let Ok(header) = accepted(alloc, is_there, accept) else {
-        return MIME_NO_MEMORY;
+    let (header, offered) = match read_header_and_offers(alloc, is_there, accept, offers) {
+        Ok(read) => read,
+        Err((answer, bad)) => {
+            *count = bad;
+            return answer;
+        }
     };
     let Ok(positions) = header.order(alloc, offered.ranges()) else {
         return MIME_NO_MEMORY;

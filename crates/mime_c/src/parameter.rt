@@ -1,7 +1,7 @@
 //! The calls for parameters. Two calls write what a parameter means, and one call writes a media type with a parameter.
 
 ghost use Rattle.std.specs.Prelude.{◌≡◌, ◌<◌, length};
-ghost use Rattle.mime_c.specs.Strings.{string_of, written};
+ghost use Rattle.mime_c.specs.Strings.{string_of, overwritten};
 ghost use Rattle.mime_c.specs.ParameterAnswers.{BoundaryIs, UnescapesTo, SetsTo};
 
 use crate::{
@@ -18,7 +18,7 @@ const BOUNDARY_ROOM: usize = 71;
 /// Writes a text and a 0 at the start of `out`, and returns the length of the text.
 fn put_string(out: &mut [u8], text: &[u8]) -> usize
     requires { length text.now < length out.old }
-    ensures bytes { out.new ≡ written (string_of text.now) out.old }
+    ensures bytes { out.new ≡ overwritten (string_of text.now) out.old }
     ensures size { result ≡ length text.now }
 {
     out[text.len()] = 0;

@@ -20,7 +20,7 @@ use Rattle.mime_http.proofs.HandedOut.{plain_is_http}
 use Rattle.mime_http.specs.HttpList.{AreBetweenCommas, AreBetweenCommas.comma, AreBetweenCommas.line_end, AreBetweenCommas.no_line}
 use Rattle.mime_http.specs.HttpList.{BeginsPiece, IsPiece, IsPiece.piece_byte, IsPiece.piece_end}
 use Rattle.mime_http.specs.{HttpList.IsPrinted.as_it_stands, Ranges.merit_at, Ranking.IsRanking, Ranking.ranked_as}
-use Rattle.mime_headers.specs.{Head.begins_sign, Head.is_request_line, Head.is_version, Head.mark_of_fields, Program.error_text}
+use Rattle.mime_headers.specs.{Head.begins_sign, Head.is_request_line, Head.is_version, Head.mark_of_fields, Program.head_error_text}
 use Rattle.mime_headers.specs.{Report.AddsLines, Report.is_plain, declared.error.HeadError.TheVariants.NoHead}
 use Rattle.mime_headers.specs.{declared.field.Name.TheVariants.Accept, declared.field.Name.TheVariants.ContentType}
 
@@ -474,7 +474,8 @@ none_refused : (offers : List MediaType) (error : String Global × FieldError) �
 none_refused offers error is = elim is [ ]
 
 -- An input without a head is named so, with the first line that has one of the two fields in plain sight.
-errors : (error_text (NoHead None) ≡ codes "no head") × (error_text (NoHead (Some (10, Accept))) ≡ codes "no head, but line 10 has Accept")
-    × (error_text (NoHead (Some (1, ContentType))) ≡ codes "no head, but line 1 has Content-Type")
+errors : (head_error_text (NoHead None) ≡ codes "no head")
+    × (head_error_text (NoHead (Some (10, Accept))) ≡ codes "no head, but line 10 has Accept")
+    × (head_error_text (NoHead (Some (1, ContentType))) ≡ codes "no head, but line 1 has Content-Type")
 unfolding digits
 errors = (refl, refl, refl)

@@ -18,7 +18,8 @@ pub data AreOffers : List (List ℕ) → List MediaType → Result (List MediaTy
       → (error ≢ NoMemory → HttpExplains (string_bytes word) error) → AreOffers (string_bytes word ∷ words) offers (Err (word, error))
 
 -- what an error prints
-abbrev pub error_text : HeadError → List ℕ
-error_text (HeadError.Run error) = stop_text error
-error_text (HeadError.NoHead None) = codes "no head"
-error_text (HeadError.NoHead (Some (number, name))) = codes "no head, but line " ++ (decimal number ++ (codes " has " ++ name_text name))
+abbrev pub head_error_text : HeadError → List ℕ
+head_error_text (HeadError.Run error) = stop_text error
+head_error_text (HeadError.NoHead None) = codes "no head"
+head_error_text (HeadError.NoHead (Some (number, name))) =
+    codes "no head, but line " ++ (decimal number ++ (codes " has " ++ name_text name))

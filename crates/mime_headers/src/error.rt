@@ -1,7 +1,7 @@
 //! The errors of a run.
 
 ghost use Rattle.std.specs.Prelude.{Some};
-ghost use Rattle.mime_headers.specs.Program.{error_text};
+ghost use Rattle.mime_headers.specs.Program.{head_error_text};
 
 use crate::field::Name;
 use mime_io::RunError;
@@ -20,7 +20,7 @@ pub enum HeadError {
 /// Prints the error in a few words: `NoHead(Some((10, Name::Accept)))` prints `no head, but line 10 has
 /// Accept`. A width and a precision are ignored.
 impl fmt::Display for HeadError {
-    ghost output = { λ error. Some (error_text error) };
+    ghost output = { λ error. Some (head_error_text error) };
 
     fn fmt<W: fmt::Write>(&self, f: &mut fmt::Formatter<W>) -> fmt::Result {
         match self {

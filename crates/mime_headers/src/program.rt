@@ -9,7 +9,7 @@ ghost use Rattle.mime_headers.specs.declared.field.Name.{Name};
 use crate::error::HeadError;
 use crate::report::{Verdict, report_of};
 use mime::Mime;
-use mime_io::{LIMIT, RunError, Sink, Source, read_past_limit, write_report};
+use mime_io::{Failed, LIMIT, ReadError, RunError, Sink, Source, read_past_limit, write_report};
 use std::alloc::{AllocError, Global};
 
 /// Reads a source to its end, or to one byte past the limit. Then writes the report on the source's heads and on the offers to a sink, and
@@ -52,7 +52,8 @@ pub fn run<S: Source, T: Sink>(
 {
     let input = match read_past_limit(alloc, source) {
         Ok(input) => input,
-        Err(error) => return Err(HeadError::Run(error)),
+        Err(ReadError::Read) => return Err(HeadError::Run(RunError::Read)),
+        Err(ReadError::NoMemory) => return Err(HeadError::Run(RunError::NoMemory)),
     };
     let is_long = input.len() > LIMIT;
     let (report, verdict) = match report_of(alloc, input, offers) {
@@ -63,6 +64,6 @@ pub fn run<S: Source, T: Sink>(
     };
     match write_report(sink, report.as_slice()) {
         Ok(()) => Ok(verdict),
-        Err(error) => Err(HeadError::Run(error)),
+        Err(Failed) => Err(HeadError::Run(RunError::Write)),
     }
 }

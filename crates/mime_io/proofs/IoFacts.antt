@@ -2,8 +2,7 @@
 -- doesn't check.
 use Rattle.std.proofs.Common.{◌≡◌, ◌*◌, [], ◌∷◌, map, refl, codes}
 use Rattle.mime_io.specs.declared.error.RunError.TheVariants.{Read, Write, TooLong, NoMemory}
-use Rattle.mime_io.specs.{Lines.lines_of, Lines.row, Lines.suffix_row, Stops.limit, Stops.stop_text}
-use Rattle.std.specs.Prelude.{Some, None}
+use Rattle.mime_io.specs.{Lines.lines_of, Lines.row, Stops.limit, Stops.stop_text}
 
 -- No bytes have no line.
 no_lines : lines_of [] ≡ []
@@ -24,11 +23,6 @@ line_with_return = refl
 -- The row of an empty text ends with a space.
 empty_row : row (codes "subtype ") [] ≡ codes "subtype \n"
 empty_row = refl
-
--- A suffix has a row, even if it is empty, and none has none.
-suffix_rows : (suffix_row (Some (codes "xml")) ≡ codes "suffix xml\n") × (suffix_row (Some []) ≡ codes "suffix \n")
-    × (suffix_row None ≡ [])
-suffix_rows = (refl, refl, refl)
 
 -- An input has at most 1,024 times 1,024 bytes.
 limit_of_input : limit ≡ 1024 * 1024

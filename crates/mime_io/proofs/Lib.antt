@@ -1,4 +1,2 @@
 mod IoFacts
 mod LineCuts
-mod ReadingOn
-pub mod Reported

@@ -1,5 +1,3 @@
 -- the trusted files
 pub mod Lines
 pub mod Stops
--- private
-pub mod Inner

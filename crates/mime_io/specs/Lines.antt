@@ -1,5 +1,5 @@
 -- The lines of an input, and how a report writes one.
-use Rattle.std.specs.Prelude.{ℕ, List, [], ◌∷◌, ◌++◌, Option, Some, None, if◌then◌else◌, ◌==◌, codes}
+use Rattle.std.specs.Prelude.{ℕ, List, [], ◌∷◌, ◌++◌, if◌then◌else◌, ◌==◌}
 use Rattle.std.specs.List.{onto_first}
 
 -- the lines of bytes: byte 10 ends a line, and what follows the last byte 10 is a line if it isn't empty
@@ -10,8 +10,3 @@ lines_of (byte ∷ bytes) = if byte == 10 then [] ∷ lines_of bytes else onto_f
 -- a row of the report is a label, a text and byte 10
 abbrev pub row : List ℕ → List ℕ → List ℕ
 row label text = label ++ (text ++ 10 ∷ [])
-
--- the row of a media type's suffix, if there is one
-abbrev pub suffix_row : Option (List ℕ) → List ℕ
-suffix_row None = []
-suffix_row (Some suffix) = row (codes "suffix ") suffix

@@ -5,6 +5,15 @@ ghost use Rattle.mime_io.specs.Stops.{stop_text};
 
 use std::fmt;
 
+/// The reason why an input isn't read.
+#[derive(Clone, Copy, PartialEq, Eq, Debug)]
+pub enum ReadError {
+    /// A read failed, whatever the cause.
+    Read,
+    /// Memory ran out.
+    NoMemory,
+}
+
 /// The reason why a run stops before its end.
 #[derive(Clone, Copy, PartialEq, Eq, Debug)]
 pub enum RunError {

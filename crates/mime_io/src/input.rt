@@ -1,13 +1,13 @@
 //! The input: all bytes of a source up to a limit, and their lines.
 
-ghost use Rattle.std.specs.Prelude.{◌≡◌, ◌≢◌, ℕ, List, [], ◌<◌, ◌≤◌, ◌∷◌, ◌==◌, ◌+◌, length, true, OnOk, IfOk, IfSome, MatchOption};
+ghost use Rattle.std.specs.Prelude.{◌≡◌, ◌≢◌, [], ◌<◌, ◌≤◌, ◌∷◌, ◌==◌, ◌+◌, length, true, IfOk, IfSome, MatchOption};
 ghost use Rattle.std.specs.List.{position_or_len};
 ghost use Rattle.std.specs.Io.KnownBytes.{Consumes, IsAtEnd};
 ghost use Rattle.mime_io.specs.Stops.{limit};
 ghost use Rattle.mime_io.specs.Lines.{lines_of};
 
 use crate::device::Source;
-use crate::error::RunError;
+use crate::error::ReadError;
 use mime_search::{Class, first_stop};
 use std::alloc::Global;
 
@@ -17,75 +17,31 @@ pub const LIMIT: usize = 1_048_576;
 /// The maximum number of bytes that one read requests.
 const AT_ONCE: usize = 8192;
 
-/// Reads a source to its end, but at most one byte past the limit, and returns the bytes read.
-///
-/// # Errors
-/// Returns `Read` if the source fails, `TooLong` if it has more bytes than the limit, and `NoMemory` if memory runs out.
-pub fn read_to_limit<S: Source>(alloc: Global, source: &mut S) -> Result<Vec<u8>, RunError>
-    // On success, all bytes that were left have been read, and no more than the limit.
-    ensures bytes { IfOk result (λ input. Consumes (S.left source.old) (S.left source.new) input.items) }
-    ensures end { OnOk result (IsAtEnd (S.left source.new)) }
-    ensures limit { IfOk result (λ input. length input.items ≤ limit) }
-    // The source fails exactly if the result is `Read`.
-    ensures read { result ≡ Err RunError.Read → S.has_failed source.new ≡ true }
-    ensures unfailed { result ≢ Err RunError.Read → S.has_failed source.new ≡ S.has_failed source.old }
-    // If the result is `TooLong`, the source had one byte more than the limit.
-    ensures too_long { result ≡ Err RunError.TooLong
-        → (bytes : List ℕ) × Consumes (S.left source.old) (S.left source.new) bytes × (length bytes ≡ limit + 1) }
-    // The result is never `Write`.
-    ensures no_write { result ≢ Err RunError.Write }
-{
-    read(alloc, source, LIMIT)
-}
-
 /// Reads a source to its end or to one byte past the limit, and returns all bytes read. If the result is longer than
 /// the limit, the source may have more bytes.
 ///
 /// # Errors
 /// Returns `Read` if the source fails, and `NoMemory` if memory runs out.
-pub fn read_past_limit<S: Source>(alloc: Global, source: &mut S) -> Result<Vec<u8>, RunError>
+pub fn read_past_limit<S: Source>(alloc: Global, source: &mut S) -> Result<Vec<u8>, ReadError>
     ensures bytes { IfOk result (λ input. Consumes (S.left source.old) (S.left source.new) input.items) }
     ensures end { IfOk result (λ input. length input.items ≤ limit → IsAtEnd (S.left source.new)) }
     ensures limit { IfOk result (λ input. length input.items ≤ limit + 1) }
     // The source fails exactly if the result is `Read`.
-    ensures read { result ≡ Err RunError.Read → S.has_failed source.new ≡ true }
-    ensures unfailed { result ≢ Err RunError.Read → S.has_failed source.new ≡ S.has_failed source.old }
-    // The result is never `Write` or `TooLong`.
-    ensures no_write { result ≢ Err RunError.Write }
-    ensures no_too_long { result ≢ Err RunError.TooLong }
-{
-    read(alloc, source, LIMIT + 1)
-}
-
-/// Reads a source to its end or to one byte past the limit, and returns the bytes read. `most` is the maximum length of
-/// the result: the limit or the limit plus one. If `most` is the limit and the source has more bytes, returns `TooLong`.
-fn read<S: Source>(alloc: Global, source: &mut S, most: usize) -> Result<Vec<u8>, RunError>
-    requires least { limit ≤ most }
-    requires greatest { most ≤ limit + 1 }
-    ensures bytes { IfOk result (λ input. Consumes (S.left source.old) (S.left source.new) input.items) }
-    ensures end { IfOk result (λ input. length input.items ≤ limit → IsAtEnd (S.left source.new)) }
-    ensures limit { IfOk result (λ input. length input.items ≤ most) }
-    ensures read { result ≡ Err RunError.Read → S.has_failed source.new ≡ true }
-    ensures unfailed { result ≢ Err RunError.Read → S.has_failed source.new ≡ S.has_failed source.old }
-    ensures too_long { result ≡ Err RunError.TooLong
-        → (most ≡ limit) × (bytes : List ℕ) × Consumes (S.left source.old) (S.left source.new) bytes × (length bytes ≡ limit + 1) }
-    ensures no_write { result ≢ Err RunError.Write }
+    ensures read { result ≡ Err ReadError.Read → S.has_failed source.new ≡ true }
+    ensures unfailed { result ≢ Err ReadError.Read → S.has_failed source.new ≡ S.has_failed source.old }
 {
     let mut input = Vec::new(alloc);
     let mut block = [0u8; AT_ONCE];
     while input.len() <= LIMIT {
         let room = (LIMIT + 1 - input.len()).min(AT_ONCE);
         let Ok(count) = source.read(&mut block[..room]) else {
-            return Err(RunError::Read);
+            return Err(ReadError::Read);
         };
         if count == 0 {
             return Ok(input);
         }
-        if count > most - input.len() {
-            return Err(RunError::TooLong);
-        }
         let Ok(()) = input.extend_from_slice(&block[..count]) else {
-            return Err(RunError::NoMemory);
+            return Err(ReadError::NoMemory);
         };
     }
     Ok(input)

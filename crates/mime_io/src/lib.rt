@@ -12,6 +12,6 @@ mod tests;
 
 pub use crate::calls::Calls;
 pub use crate::device::{Device, Failed, Sink, Source};
-pub use crate::error::RunError;
-pub use crate::input::{LIMIT, first_line, read_past_limit, read_to_limit};
-pub use crate::output::{ended, write_report};
+pub use crate::error::{ReadError, RunError};
+pub use crate::input::{LIMIT, first_line, read_past_limit};
+pub use crate::output::write_report;

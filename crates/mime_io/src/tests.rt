@@ -1,6 +1,6 @@
 //! Tests of the calls that reading an input and writing a report make, through a device. No clause states these calls.
 
-use crate::{Calls, Device, RunError, read_to_limit, write_report};
+use crate::{Calls, Device, Failed, ReadError, read_past_limit, write_report};
 
 const BLOCK: &[u8] = &[b'a'; 8192];
 
@@ -15,20 +15,20 @@ fn device(left: &'static [u8]) -> Device<Calls> {
 
 #[test]
 fn makes_these_calls_alone(rt: HostRuntime) {
-    let cases: [(&[u8], &[u8], Result<usize, RunError>); 5] = [
-        (b"rr", b"wf", Ok(8192)),
-        (b"x", b"", Err(RunError::Read)),
-        (b"rx", b"", Err(RunError::Read)),
-        (b"rr", b"x", Err(RunError::Write)),
-        (b"rr", b"wx", Err(RunError::Write)),
+    // The result of reading: the input's length and the result of writing the report, or an error.
+    let cases: [(&[u8], &[u8], Result<(usize, Result<(), Failed>), ReadError>); 5] = [
+        (b"rr", b"wf", Ok((8192, Ok(())))),
+        (b"x", b"", Err(ReadError::Read)),
+        (b"rx", b"", Err(ReadError::Read)),
+        (b"rr", b"x", Ok((8192, Err(Failed)))),
+        (b"rr", b"wx", Ok((8192, Err(Failed)))),
     ];
     for (reads, writes, answer) in cases {
         let (mut source, mut sink) = (device(reads), device(writes));
-        let read = read_to_limit(rt.alloc(), &mut source);
-        let got = read.and_then(|input| {
-            write_report(&mut sink, REPORT)?;
-            Ok(input.len())
-        });
+        let got = read_past_limit(rt.alloc(), &mut source).map(|input| (
+            input.len(),
+            write_report(&mut sink, REPORT),
+        ));
         let left = (source.inner.left.len(), sink.inner.left.len());
         assert!(rt; got == answer && left == (0, 0), "{got:?}, {left:?} left");
     }

@@ -16,11 +16,11 @@ use Rattle.mime.specs.declared.scan.fault.ParseError.{ParseError}
 use Rattle.mime.specs.declared.scan.fault.ParseError.TheVariants.{InvalidToken}
 use Rattle.mime_lines.specs.declared.mode.Mode.{Mode}
 use Rattle.mime_lines.specs.Program.{mode_named}
-use Rattle.mime_lines.specs.Report.{param_rows, value_rows, item_rows, ReportsText, ReportsLine, ReportsLines, IsReportOf}
-use Rattle.mime_lines.specs.Report.ReportsText.{read, rejected, listed}
-use Rattle.mime_lines.specs.Report.ReportsLine.{not_text, is_text}
-use Rattle.mime_lines.specs.Report.ReportsLines.{no_more, line_more}
-use Rattle.mime_io.specs.Lines.{row, suffix_row}
+use Rattle.mime_lines.specs.Report.{suffix_row, param_rows, value_rows, item_rows, ReportsText, ReportsLine, ReportsLines, IsReportOf}
+use Rattle.mime_lines.specs.Report.ReportsText.{reports_value, reports_fault, reports_items}
+use Rattle.mime_lines.specs.Report.ReportsLine.{reports_no_text, reports_text}
+use Rattle.mime_lines.specs.Report.ReportsLines.{no_line_left, line_more}
+use Rattle.mime_io.specs.Lines.{row}
 use lib.Utf8.{encode}
 
 -- A value with a suffix and a parameter has a row for each.
@@ -51,6 +51,11 @@ list_names_a_mode = refl
 capitals_name_no_mode : mode_named (codes "LIST") ≡ None
 capitals_name_no_mode = refl
 
+-- A suffix has a row, even if it is empty, and none has none.
+suffix_rows : (suffix_row (Some (codes "xml")) ≡ codes "suffix xml\n") × (suffix_row (Some []) ≡ codes "suffix \n")
+    × (suffix_row None ≡ [])
+suffix_rows = (refl, refl, refl)
+
 -- A value without a suffix and parameters has no rows for them.
 rows_left_out : (suffix_row None ≡ []) × (param_rows [] ≡ [])
 rows_left_out = (refl, refl)
@@ -74,11 +79,11 @@ reads_text = record {
 -- The report on a line has the rows of its value.
 report_of_line : IsReportOf Mode.Parts (codes "a/b\n") (codes "ok a/b\ntype a\nsubtype b\n")
 unfolding encode
-report_of_line = line_more (is_text (codes "a/b", (refl, refl)) (read text_value reads_text)) no_more
+report_of_line = line_more (reports_text (codes "a/b", (refl, refl)) (reports_value text_value reads_text)) no_line_left
 
 -- Bytes that aren't UTF-8 are reported as not text.
 report_of_bytes : (mode : Mode) → ¬ (IsUtf8 (255 ∷ [])) → ReportsLine mode (255 ∷ []) (codes "not text\n")
-report_of_bytes mode not_utf8 = not_text not_utf8
+report_of_bytes mode not_utf8 = reports_no_text not_utf8
 
 -- A text with a fault is rejected.
 rejected_by_laws : CompletedIsRejected → AcceptedIsViable → (text : List ℕ) (fault : ParseError) → IsFault text fault
@@ -91,31 +96,31 @@ rejected_by_laws completed viable text fault lacks = completed text fault lacks
 -- A text has one report.
 one_report : OneReading → OneFault → CompletedIsRejected → AcceptedIsViable → OneCut
     → (mode : Mode) (text first second : List ℕ) → ReportsText mode text first → ReportsText mode text second → first ≡ second
-one_report reading one completed viable cut mode text first second (read value reads) (read other again) =
+one_report reading one completed viable cut mode text first second (reports_value value reads) (reports_value other again) =
     ap value_rows (reading text value other reads again)
-one_report reading one completed viable cut mode text first second (read value reads) (rejected fault is) =
+one_report reading one completed viable cut mode text first second (reports_value value reads) (reports_fault fault is) =
     absurd (rejected_by_laws completed viable text fault is (value, reads))
-one_report reading one completed viable cut mode text first second (rejected fault is) (read value reads) =
+one_report reading one completed viable cut mode text first second (reports_fault fault is) (reports_value value reads) =
     absurd (rejected_by_laws completed viable text fault is (value, reads))
-one_report reading one completed viable cut mode text first second (rejected fault is) (rejected other also) =
+one_report reading one completed viable cut mode text first second (reports_fault fault is) (reports_fault other also) =
     let only = one text (rejected_by_laws completed viable text fault is) in
     ap (λ it. row (codes "bad ") (error_text it)) (only.2 fault is ∙ sym (only.2 other also))
-one_report reading one completed viable cut mode text first second (listed items rest is) (listed others left also) =
+one_report reading one completed viable cut mode text first second (reports_items items rest is) (reports_items others left also) =
     let only = cut text in ap item_rows ((only.3 items rest is).0 ∙ sym (only.3 others left also).0)
 
 -- A line has one report: no text is reported as not text.
 one_report-line : (mode : Mode) (line first second : List ℕ)
     → ((text rows others : List ℕ) → ReportsText mode text rows → ReportsText mode text others → rows ≡ others)
     → ReportsLine mode line first → ReportsLine mode line second → first ≡ second
-one_report-line mode line first second one (not_text isnt) (not_text too) = refl
-one_report-line mode line first second one (not_text isnt) (is_text utf8 report) = absurd (isnt utf8)
-one_report-line mode line first second one (is_text utf8 report) (not_text isnt) = absurd (isnt utf8)
-one_report-line mode line first second one (is_text utf8 report) (is_text too other) = one line first second report other
+one_report-line mode line first second one (reports_no_text isnt) (reports_no_text too) = refl
+one_report-line mode line first second one (reports_no_text isnt) (reports_text utf8 report) = absurd (isnt utf8)
+one_report-line mode line first second one (reports_text utf8 report) (reports_no_text isnt) = absurd (isnt utf8)
+one_report-line mode line first second one (reports_text utf8 report) (reports_text too other) = one line first second report other
 
 -- Lines have one report.
 one_report-lines : (mode : Mode) (lines : List (List ℕ)) (first second : List ℕ)
     → ((line rows others : List ℕ) → ReportsLine mode line rows → ReportsLine mode line others → rows ≡ others)
     → ReportsLines mode lines first → ReportsLines mode lines second → first ≡ second
-one_report-lines mode lines first second one no_more no_more = refl
+one_report-lines mode lines first second one no_line_left no_line_left = refl
 one_report-lines mode lines first second one (line_more report more) (line_more other others) =
     cc (one _ _ _ report other, one_report-lines mode _ _ _ one more others)

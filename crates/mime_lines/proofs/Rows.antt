@@ -8,11 +8,12 @@ use Rattle.mime.specs.Faults.{IsFault, Explains}
 use Rattle.mime.specs.declared.scan.fault.ParseError.{ParseError}
 use Rattle.mime.specs.declared.scan.fault.ParseError.TheVariants.{NoMemory}
 use Rattle.std.specs.Str.{IsUtf8}
-use Rattle.mime_io.specs.{Lines.lines_of, Lines.row, Inner.Adds}
+use Rattle.mime_io.specs.Lines.{lines_of, row}
+use Rattle.mime_lines.specs.Inner.{Adds}
 use Rattle.mime_lines.specs.Report.{param_rows, item_row, item_rows, ReportsText, ReportsLine, ReportsLines}
-use Rattle.mime_lines.specs.Report.ReportsText.{listed}
-use Rattle.mime_lines.specs.Report.ReportsLine.{is_text}
-use Rattle.mime_lines.specs.Report.ReportsLines.{no_more, line_more}
+use Rattle.mime_lines.specs.Report.ReportsText.{reports_items}
+use Rattle.mime_lines.specs.Report.ReportsLine.{reports_text}
+use Rattle.mime_lines.specs.Report.ReportsLines.{no_line_left, line_more}
 use Rattle.mime_lines.specs.declared.mode.Mode.{Mode}
 
 -- These are the rows of what `Params` yields.
@@ -26,11 +27,17 @@ given_rows-items_of [] = refl
 given_rows-items_of ((name, value) ∷ pairs) =
     ap (λ rows. row (codes "param ") (name ++ (codes "=" ++ value)) ++ rows) (given_rows-items_of pairs)
 
+-- What a call that succeeds added is the report.
+pub reported : {E : Type 0} (R : List ℕ → Type 0) (result : Result (Unit {0}) E) (rows old new : List ℕ) → R rows
+    → OnOk result (new ≡ old ++ rows) → OnOk result (Adds R old new)
+reported R (Ok done) rows old new report added = (rows, report, added)
+reported R (Err error) rows old new report added = tt
+
 -- The report on a text is the report on its line.
 pub reported-line : {E : Type 0} (result : Result (Unit {0}) E) (mode : Mode) (text line old new : List ℕ) → text ≡ line
     → IsUtf8 line → OnOk result (Adds (ReportsText mode text) old new) → OnOk result (Adds (ReportsLine mode line) old new)
 reported-line (Ok done) mode text line old new is utf8 (rows, report, added) =
-    (rows, is_text utf8 (subst (λ t. ReportsText mode t rows) is report), added)
+    (rows, reports_text utf8 (subst (λ t. ReportsText mode t rows) is report), added)
 reported-line (Err error) mode text line old new is utf8 added = tt
 
 -- A line's report goes before that on the lines after it.
@@ -49,7 +56,7 @@ pub ReportsLines-end : (mode : Mode) (input rest report : List ℕ) → lines_of
     → ReportsLines mode (lines_of input) report
 ReportsLines-end mode input rest report none whole =
     subst (λ text. ReportsLines mode (lines_of input) text) (append-nil report)
-    (whole [] (subst (λ lines. ReportsLines mode lines []) (sym none) no_more))
+    (whole [] (subst (λ lines. ReportsLines mode lines []) (sym none) no_line_left))
 
 -- ---- items
 
@@ -76,7 +83,7 @@ pub listing-end : (text left old new : List ℕ) → IsListing text left old new
     → Adds (ReportsText Mode.List text) old new
 listing-end text left old new listing (rest, cut) =
     let all = listing.onward [] rest cut in
-    (item_rows all.0, listed all.0 rest all.1, sym (append-nil new) ∙ sym all.2)
+    (item_rows all.0, reports_items all.0 rest all.1, sym (append-nil new) ∙ sym all.2)
 
 -- If no parameters are left, all rows are added.
 pub param_rows-end : (old new : List ℕ) (all left : List Item) (pairs : List (List ℕ × List ℕ)) → left ≡ []

@@ -1,3 +1,5 @@
 -- the trusted files
 pub mod Report
 pub mod Program
+-- private
+pub mod Inner

@@ -1,7 +1,8 @@
 //! Reports on each line of standard input: a media type or, with the argument `list`, a list of media types.
 #![tactic(auto)]
 
-ghost use Rattle.std.specs.Prelude.{◌≡◌, ◌<◌, ◌≤◌, Some, None, IsSomeAnd, slice_get, string_bytes};
+ghost use Rattle.std.specs.Prelude.{◌≡◌, ◌<◌, ◌≤◌, Some, None, IsSomeAnd, OnOk, OnErr, slice_get, string_bytes};
+ghost use Rattle.std.specs.Process.{exit_status};
 ghost use Rattle.std.specs.Vec.Iter.{into_iter_items, into_iter_len};
 ghost use Rattle.mime_lines.specs.Program.{mode_named};
 
@@ -13,7 +14,6 @@ mod tests;
 
 pub use crate::mode::{Mode, copies_are_same};
 pub use crate::program::run;
-use mime_io::ended;
 pub use mime_io::{Device, Failed, RunError, Sink, Source};
 use std::env;
 use std::env::Args;
@@ -34,6 +34,21 @@ fn asked_mode(mut arguments: Args) -> Option<Mode>
     match arguments.next() {
         None => Some(Mode::Parts),
         Some(word) => (word.as_str() == "list").then_some(Mode::List),
+    }
+}
+
+/// Returns the exit status of a run with the result `outcome`: 0 if it succeeded, 1 if it failed. If it failed, prints
+/// the error on standard error.
+fn ended(rt: &impl Eprint, outcome: Result<(), RunError>) -> ExitCode
+    ensures done { OnOk outcome (exit_status result ≡ 0) }
+    ensures stopped { OnErr outcome (exit_status result ≡ 1) }
+{
+    match outcome {
+        Ok(()) => ExitCode::SUCCESS,
+        Err(error) => {
+            let _ = eprintln!(rt; "{error}");
+            ExitCode::FAILURE
+        }
     }
 }
 

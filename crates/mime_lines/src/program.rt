@@ -7,7 +7,7 @@ ghost use Rattle.mime_lines.specs.Report.{IsReportOf};
 
 use crate::mode::Mode;
 use crate::report::report_of;
-use mime_io::{RunError, Sink, Source, read_to_limit, write_report};
+use mime_io::{LIMIT, ReadError, RunError, Sink, Source, read_past_limit, write_report};
 use std::alloc::Global;
 
 /// Reads a source to its end, and then writes the report on its bytes to a sink. For `a/b` the report is the three
@@ -40,9 +40,16 @@ pub fn run<S: Source, T: Sink>(
     // Nothing is written before the report is complete.
     ensures untouched { IfErr result (λ error. error ≢ RunError.Write → sink.new ≡ sink.old) }
 {
-    let input = read_to_limit(alloc, source)?;
+    let input = match read_past_limit(alloc, source) {
+        Ok(input) => input,
+        Err(ReadError::Read) => return Err(RunError::Read),
+        Err(ReadError::NoMemory) => return Err(RunError::NoMemory),
+    };
+    if input.len() > LIMIT {
+        return Err(RunError::TooLong);
+    }
     let Ok(report) = report_of(alloc, input.as_slice(), mode) else {
         return Err(RunError::NoMemory);
     };
-    write_report(sink, report.as_str().as_bytes())
+    write_report(sink, report.as_str().as_bytes()).map_err(|_| RunError::Write)
 }

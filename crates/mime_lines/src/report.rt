@@ -2,9 +2,9 @@
 
 ghost use Rattle.std.specs.Prelude.{◌≡◌, ◌++◌, OnOk, IfOk, string_bytes};
 ghost use Rattle.mime.specs.Values.{suffix_of};
-ghost use Rattle.mime_io.specs.Inner.{Adds};
-ghost use Rattle.mime_io.specs.Lines.{row, suffix_row};
-ghost use Rattle.mime_lines.specs.Report.{param_rows, value_rows};
+ghost use Rattle.mime_io.specs.Lines.{row};
+ghost use Rattle.mime_lines.specs.Inner.{Adds};
+ghost use Rattle.mime_lines.specs.Report.{suffix_row, param_rows, value_rows};
 ghost use Rattle.mime_lines.specs.Report.{ReportsText, ReportsLine, IsReportOf};
 
 use crate::mode::Mode;

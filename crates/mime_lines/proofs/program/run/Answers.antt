@@ -2,8 +2,5 @@
 use Rattle.std.proofs.Common.{rules}
 use Rattle.mime_lines.proofs.program.run.Goals as goal
 
-pub returns-in_err-input-clause-untouched : goal.returns-in_err-input-clause-untouched
-returns-in_err-input-clause-untouched = search rules
-
 pub returns-in_default-clause-untouched : goal.returns-in_default-clause-untouched
 returns-in_default-clause-untouched = search rules

@@ -1,4 +1,4 @@
--- What the programs' code says on the way.
+-- What only contracts of this crate say.
 use Rattle.std.specs.Prelude.{◌≡◌, List, ℕ, ◌++◌}
 
 -- what was added to the old bytes is a report
