@@ -4,9 +4,13 @@ use crate::device::Device;
 use std::io;
 use std::io::{Read, Write};
 
-/// A reader or a writer that expects the calls in `left`, in order: `r` is a read that returns `input` or, as the last call, the end, `w` a
-/// write of the whole `report`, `o` another write, `f` a flush, and `x` a call of any kind that fails. After any other call it expects `?`,
-/// which is no call.
+/// A reader or a writer that expects the calls in `left`, a letter each. After any other call it expects `?`, which is no call.
+///
+/// - `r`: a read that returns `input` or, as the last call, the end
+/// - `w`: a write of the whole `report`
+/// - `o`: another write
+/// - `f`: a flush
+/// - `x`: a call of any kind that fails
 #[derive(Drop)]
 pub struct Calls {
     /// The calls that are still expected.

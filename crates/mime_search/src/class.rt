@@ -12,15 +12,15 @@ pub const BLOCK: usize = 16;
 #[derive(Clone, Copy)]
 pub struct Range(pub u8, pub u8);
 
-/// The bytes at which a search stops: the bytes in any of three ranges, or all other bytes. Before a byte is compared
-/// with `folded`, the bits of `fold` are set in the byte. If `fold` is 32, a `folded` of `a` to `z` includes the capitals.
+/// A search stops at the bytes in three ranges or, unless `inside`, at all others. Before a byte is compared with `folded`, the bits of
+/// `fold` are set in the byte. If `fold` is 32, a `folded` of `a` to `z` includes the capitals.
 #[derive(Clone, Copy)]
 pub struct Class {
     pub fold: u8,
     pub folded: Range,
     pub second: Range,
     pub third: Range,
-    /// Whether a search stops at the bytes in the ranges. If not, it stops at all other bytes.
+    /// Whether a search stops at the bytes in the ranges.
     pub inside: bool,
 }
 

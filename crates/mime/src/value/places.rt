@@ -12,8 +12,8 @@ pub(crate) struct Places {
     pub(crate) slash: usize,
     pub(crate) pair_count: usize,
     /// The position of the plus before the suffix, or 0 if there is none.
-    // This field is last, at the offset where an error of `from_str` has its byte. LLVM writes a constant at this
-    // offset in parts, unless the constant is 0 and is beside other constants.
+    // This field is last, since reading gets slower if it isn't: an error of `from_str` has its byte at this offset, and LLVM writes a
+    // constant there in parts, unless it is 0 beside other constants.
     pub(crate) plus: usize,
 }
 
