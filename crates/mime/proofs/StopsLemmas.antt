@@ -1,5 +1,5 @@
 -- The bytes that a search for the end of a token, or of quoted text, passes.
-use Rattle.std.proofs.Common.{◌≡◌, ℕ, ◌<◌, List, [], ◌∷◌, length, Bool, true, false, not, refl, sym, ap, ◌∙◌, arith, inl, inr}
+use Rattle.std.proofs.Common.{◌≡◌, ℕ, ◌<◌, List, [], ◌∷◌, length, take, Bool, true, false, not, refl, sym, ap, ◌∙◌, subst, arith, inl, inr}
 use Rattle.std.specs.Prelude.{◌||◌, ◌↔◌, nat_lt}
 use Rattle.std.specs.{Char.to_ascii_lowercase, List.list_all, List.prefix_len, List.range_with_len, Int.Bits.bit_or, Int.Bits.or_zero_r}
 use Rattle.std.proofs.lemmas.Bool.{lt-ltb, cases_lt, not-true, true≢false}
@@ -62,3 +62,16 @@ pub no_capital_found : (text : List ℕ) → (end_of_run CAPITALS text 0 ≡ len
 no_capital_found text =
     let low = low_bytes (λ b. not (is_stop CAPITALS b)) are_low text in
     (λ all. low.0 (omega (arith, all)), λ same. omega (arith, low.1 same))
+
+-- Bytes before the first one that isn't in lowercase are in lowercase.
+low_before : (class : ℕ → Bool) → ((b : ℕ) → (class b ≡ true) ↔ (to_ascii_lowercase b ≡ b)) → (bytes : List ℕ)
+    → lowered (take (prefix_len class bytes) bytes) ≡ take (prefix_len class bytes) bytes
+low_before class low [] = refl
+low_before class low (b ∷ bytes) = grind (arith, nat_tests, one-add (prefix_len class bytes), (low b).0, low_before class low bytes)
+
+-- There is no capital before the one that is found.
+pub no_capital_before : (text : List ℕ) → let end = end_of_run CAPITALS text 0 in lowered (take end text) ≡ take end text
+no_capital_before text =
+    let is_low : ℕ → Bool = λ b. not (is_stop CAPITALS b) in
+    let same : prefix_len is_low text ≡ end_of_run CAPITALS text 0 = omega arith in
+    subst (λ n. lowered (take n text) ≡ take n text) same (low_before is_low are_low text)

@@ -47,6 +47,22 @@ pub(crate) fn has_capital(bytes: &[u8]) -> bool
     first_stop(bytes, 0, &CAPITALS) < bytes.len()
 }
 
+/// Returns a position before which there is no ASCII capital: that of the first capital, or the length if there is no capital. It is 0 if
+/// there is one among more than 128 bytes.
+#[inline(always)]
+fn first_capital(bytes: &[u8]) -> usize
+    ensures { lowered (take result bytes.now) ≡ take result bytes.now }
+{
+    if bytes.len() > 8 * BLOCK {
+        return if has_capital_far(bytes) {
+            0
+        } else {
+            bytes.len()
+        };
+    }
+    first_stop(bytes, 0, &CAPITALS)
+}
+
 /// Lowercases `bytes[from..to]`.
 #[inline]
 fn lowercase_range(bytes: &mut [u8], from: usize, to: usize)
@@ -116,17 +132,17 @@ pub(crate) fn lowercase_text(bytes: &mut [u8], text: &str, semicolon: usize, cou
 }
 
 /// Returns `true` if the only capitals of a string with one pair, after position `semicolon`, are in a value that keeps them, as in
-/// `multipart/form-data; boundary=X`.
+/// `multipart/form-data; boundary=X`. There is no capital before position `capital`.
 #[inline(always)]
-fn has_low_start(text: &str, semicolon: usize) -> bool
-    requires { slice_get text.now semicolon ≡ Some semicolon_byte }
+fn has_low_start(text: &str, semicolon: usize, capital: usize) -> bool
+    requires parted { slice_get text.now semicolon ≡ Some semicolon_byte }
+    requires low { lowered (take capital text.now) ≡ take capital text.now }
     ensures { IsTrue result → with_pairs_lowered 1 semicolon text.now ≡ text.now }
 {
     let list = Rest::of(text, semicolon + 1);
     let pair = cut_before(&list, 0);
     let start = text.len() - list.len() + pair.value_start;
-    let end = start + low_len(pair.name, pair.value.len());
-    !has_capital(&text.as_bytes()[..end])
+    start + low_len(pair.name, pair.value.len()) <= capital
 }
 
 /// Returns a copy of a string with `count` pairs after position `semicolon`, with the parts in lowercase that ignore case.
@@ -147,7 +163,8 @@ fn lowercased(
     Ok(unsafe { String::from_utf8_unchecked(bytes) })
 }
 
-/// Returns the same as `keep_pairs`. This function isn't inlined: most strings have no capital.
+/// Returns the same as `keep_pairs`. There is no capital before position `capital`. This function isn't inlined: most strings have no
+/// capital.
 #[cold]
 #[inline(never)]
 fn keep_with_capitals(
@@ -155,12 +172,14 @@ fn keep_with_capitals(
     text: &str,
     semicolon: usize,
     count: usize,
+    capital: usize,
 ) -> Result<String, AllocError>
     requires parted { slice_get text.now semicolon ≡ Some semicolon_byte }
     requires some { 0 < count }
+    requires low { lowered (take capital text.now) ≡ take capital text.now }
     ensures { IfOk result (λ kept. string_bytes kept ≡ with_pairs_lowered count semicolon text.now) }
 {
-    if count == 1 && has_low_start(text, semicolon) {
+    if count == 1 && has_low_start(text, semicolon, capital) {
         String::from_str(alloc, text)
     } else {
         lowercased(alloc, text, semicolon, count)
@@ -179,10 +198,11 @@ fn keep_pairs(
     requires some { 0 < count }
     ensures { IfOk result (λ kept. string_bytes kept ≡ with_pairs_lowered count semicolon text.now) }
 {
-    if !has_capital(text.as_bytes()) {
+    let capital = first_capital(text.as_bytes());
+    if capital == text.len() {
         return String::from_str(alloc, text);
     }
-    keep_with_capitals(alloc, text, semicolon, count)
+    keep_with_capitals(alloc, text, semicolon, count, capital)
 }
 
 /// Returns the positions of a string's parts in its kept text, which has no semicolon if there is no parameter.
