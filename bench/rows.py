@@ -120,7 +120,7 @@ def others():
     yield Row("content_type of application/json, application/json", "field", "application/json, application/json", most=340)
     for label, spaces, most in (("a space", 1, 450), ("2 KB of spaces", 2_048, 5_500)):
         yield Row(f"content_type of an open string and {label}", "field", f'text/html; charset="utf-8{" " * spaces}', most=most)
-    yield Row("content_type of a form's upload, 68 bytes", "field", UPLOAD, most=770)
+    yield Row("content_type of a form's upload, 68 bytes", "field", UPLOAD, most=740)
     yield Row("Accept of jQuery, and the best of four offers", "negotiate", JQUERY, "\n".join(OFFERS), most=2_050)
     yield Row("covers: another version, and two more parameters", "covers", "application/json; version=2", VERSIONED)
     yield Row("covers: profiles that differ at the end", "covers", *profiles("sz"), most=520)
