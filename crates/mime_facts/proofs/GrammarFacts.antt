@@ -62,7 +62,7 @@ texts = (refl, refl, refl, refl, refl, refl)
 -- A token has one byte or more, and only token bytes.
 tokens : AreTokenBytes [] × IsToken (codes "x-a") × ¬ (AreTokenBytes (codes "a b")) × ¬ (IsToken (codes "a b")) × ¬ (IsToken [])
 unfolding is_token_byte
-tokens = (refl, refl, (λ is. false≢true is), (λ is. false≢true is), λ is. is)
+tokens = (refl, refl, (λ is. false≢true is), (λ is. false≢true is), λ is. false≢true is)
 
 -- Content pairs each backslash, and has no quote but after one.
 contents : IsContent [] × IsContent (codes "\\\"x") × ¬ (IsContent (codes "x\"")) × ¬ (IsContent (codes "x\\"))

@@ -2,10 +2,10 @@
 -- media types, values that aren't, their faults, and what is printed of a value.
 use Rattle.mime_http.proofs.Common.{Parameter, SyntaxTree, IsUtf8-nil, HttpExplains, HttpReads, InvalidToken, IsBoundary, IsBoundaryOf}
 use Rattle.mime_http.proofs.Common.{IsContent-taken, IsHttpFault, IsHttpMediaType, IsPrinted, List, MediaType, media_of, MissingQuote}
-use Rattle.mime_http.proofs.Common.{MissingSubtype, MissingValue, NeedsMemory, None, Parts, [], anew, ap, arith, as_it_stands, bytes_eq}
-use Rattle.mime_http.proofs.Common.{bytes_eq-Decides, codes, escaped, false, final, is_quoted_byte, is_token_byte, is_token_value, length}
-use Rattle.mime_http.proofs.Common.{listed, others, quoted, refl, same_Some, stopped-from_walk, sym, text_of_pair, text_of_pairs, trimmed}
-use Rattle.mime_http.proofs.Common.{true, true≢false, unescaped, with_pair, with_pairs, ℕ, ◌++◌, ◌∙◌, ◌∷◌, ◌≡◌, ◌≢◌}
+use Rattle.mime_http.proofs.Common.{MissingSubtype, MissingValue, ValueNeedsMemory, None, Parts, [], anew, ap, arith, as_it_stands}
+use Rattle.mime_http.proofs.Common.{bytes_eq, bytes_eq-Decides, codes, escaped, false, final, is_quoted_byte, is_token_byte, is_token}
+use Rattle.mime_http.proofs.Common.{length, listed, others, quoted, refl, same_Some, stopped-from_walk, sym, text_of_pair, text_of_pairs}
+use Rattle.mime_http.proofs.Common.{trimmed, true, true≢false, unescaped, with_pair, with_pairs, ℕ, ◌++◌, ◌∙◌, ◌∷◌, ◌≡◌, ◌≢◌}
 use Rattle.mime_http.specs.{declared.value.FieldError.TheVariants.Invalid, declared.value.FieldError.TheVariants.NotUtf8}
 use Rattle.mime_http.specs.{declared.value.FieldError.TheVariants.NoMemory as OutOfMemory, HttpFaults.fault_position}
 use Rattle.mime_http.proofs.{Around.white_more, Around.put_ascii, HttpLaws.one_printed_text, HttpLaws.short_needs_none, HttpLaws.anew_needs}
@@ -115,8 +115,8 @@ abbrev letter_parts : List ℕ → Parts
 letter_parts letters = record { top = codes "a"; sub = codes "b"; pairs = (codes "p", letters) ∷ [] }
 
 -- A value that prints 41 bytes needs memory. One that prints 40 needs none, nor does what is no media type.
-memory : NeedsMemory (lettered (codes "abcdefghijklmnopqrstuvwxyzabcdefgh"))
-    × ¬ (NeedsMemory (lettered (codes "abcdefghijklmnopqrstuvwxyzabcdefg"))) × ¬ (NeedsMemory (codes "a b"))
+memory : ValueNeedsMemory (lettered (codes "abcdefghijklmnopqrstuvwxyzabcdefgh"))
+    × ¬ (ValueNeedsMemory (lettered (codes "abcdefghijklmnopqrstuvwxyzabcdefg"))) × ¬ (ValueNeedsMemory (codes "a b"))
 unfolding is_token_byte is_quoted_byte
 memory =
     let value : List ℕ = lettered (codes "abcdefghijklmnopqrstuvwxyzabcdefg") in
@@ -148,7 +148,7 @@ contents = (refl, differ _ _ refl, refl, differ _ _ refl)
 -- ---- parameters
 
 -- `utf-8` is a token; `a b` and nothing aren't. A token is written as it is, and any other value in quotes, with its backslashes.
-written : (is_token_value (codes "utf-8") ≡ true) × (is_token_value (codes "a b") ≡ false) × (is_token_value [] ≡ false)
+written : (is_token (codes "utf-8") ≡ true) × (is_token (codes "a b") ≡ false) × (is_token [] ≡ false)
     × (text_of_pair (codes "charset", codes "utf-8") ≡ codes "; charset=utf-8")
     × (text_of_pair (codes "charset", codes "utf-8") ≢ codes "; charset=\"utf-8\"")
     × (text_of_pair (codes "p", codes "a\\\"b") ≡ codes "; p=\"a\\\"b\"") × (text_of_pair (codes "p", []) ≡ codes "; p=\"\"")

@@ -11,7 +11,7 @@ unfoldable pub use Rattle.mime.specs.Bytes.{is_quoted_byte, is_token_byte}
 pub use Rattle.mime.specs.Faults.{EndsIn, Explains, completion_of, last_byte_of, IsDeadAt}
 pub use Rattle.mime.specs.Grammar.{AreParameters, AreSpaces, AreTokenBytes, IsContent, IsParameter, IsToken, Parameter, Parameters}
 pub use Rattle.mime.specs.Grammar.{SyntaxTree, Tail, blank, final, is_space, listed, more, no_byte, no_list, plain, quoted, quoted_pair}
-pub use Rattle.mime.specs.Grammar.{text_byte, text_of, text_of_list, text_of_parameter, text_of_tail}
+pub use Rattle.mime.specs.Grammar.{is_token, text_byte, text_of, text_of_list, text_of_parameter, text_of_tail}
 pub use Rattle.mime.specs.Items.{IsFirstAccepted, Item, item_of, item_seen, items_of, name_seen, name_text}
 pub use Rattle.mime.specs.Values.{IsAccepted, MediaType, OwnedMedia, Reads, essence_of, is_charset, kept_text, lowered, lowered_list}
 pub use Rattle.mime.specs.Values.{lowered_parameter, lowered_tail, lowered_tree, lowered_value, pair_of, pairs_of_list, pairs_of_tail}
@@ -24,7 +24,7 @@ pub use Rattle.mime.specs.Names.{NameIs}
 pub use Rattle.mime.specs.declared.scan.fault.ParseError.{ParseError}
 pub use Rattle.mime_http.specs.Forms.{form_of, is_plain, text_in}
 pub use Rattle.mime_http.specs.HeaderLaws.{OneHttpFault, OneHttpReading, OnePrintedText, PlainIsHttp, PrintedIsRead}
-pub use Rattle.mime_http.specs.HttpFaults.{HttpExplains, IsHttpFault, IsHttpViable, NeedsMemory}
+pub use Rattle.mime_http.specs.HttpFaults.{HttpExplains, IsHttpFault, IsHttpViable, ValueNeedsMemory}
 pub use Rattle.mime_http.specs.HttpList.{AreBetweenCommas, AreSorted, BeginsPiece, FirstBad, Header, IsFirstBad, IsHeader, IsInString}
 pub use Rattle.mime_http.specs.HttpList.{IsPiece, IsPrinted, a_bad, a_range, after_blank, after_range, anew, bad_here, as_it_stands, comma}
 pub use Rattle.mime_http.specs.HttpList.{line_end, lines_or_any, no_line, no_text, opens_string, piece_byte, piece_end, piece_string}
@@ -45,7 +45,7 @@ pub use Rattle.mime_http.specs.Reader.{Answer, Holds, IsClosedAt, IsEssenceAt, I
 pub use Rattle.mime_http.specs.Reader.{answer_at, answer_at_end, answer_from, answer_of, before_semicolon, before_type, fault_at, in_name}
 pub use Rattle.mime_http.specs.Reader.{in_string, in_subtype, in_type, in_value, media_of, next, next_after, read, rejected, text_of_parts}
 pub use Rattle.mime_http.specs.Reader.{with_parameter}
-pub use Rattle.mime_http.specs.Written.{WrittenIsMeant, escaped, is_token_value, others, quote_of, text_of_pair, text_of_pairs, with_pair}
+pub use Rattle.mime_http.specs.Written.{WrittenIsMeant, escaped, others, quote_of, text_of_pair, text_of_pairs, with_pair}
 pub use Rattle.mime_http.specs.Written.{with_pairs}
 pub use Rattle.mime_http.specs.Boundary.{IsBoundary, IsBoundaryOf, is_bchar}
 pub use Rattle.mime_http.specs.Digits.{read_number, worth}

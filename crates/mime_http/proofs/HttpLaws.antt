@@ -3,7 +3,7 @@ use Rattle.mime_http.proofs.Common.{Explains, InvalidToken, NoMemory, ParseError
 use Rattle.mime_http.proofs.Common.{Reads, [], answer_of, arith, length, media_of, read, subst, text_of_parts, ℕ, ◌≡◌, IsPrinted, MediaType}
 use Rattle.mime_http.proofs.Common.{OneHttpReading, OnePrintedText, PrintedIsRead, anew, ap, as_it_stands, one_reading, sym, trimmed}
 use Rattle.mime_http.proofs.Common.{with_pairs, ◌∙◌, kept_is_read, HttpReads, Err, HttpExplains, IfErr, IsAccepted, IsHttpMediaType}
-use Rattle.mime_http.proofs.Common.{NeedsMemory, Ok, Result, codes, is_token_byte, refl, ◌<◌, ◌≤◌, IsOk}
+use Rattle.mime_http.proofs.Common.{ValueNeedsMemory, Ok, Result, codes, is_token_byte, refl, ◌<◌, ◌≤◌, IsOk}
 use Rattle.mime_http.proofs.Around.{put_ascii, put_one, put_token, reads_around}
 use Rattle.mime_http.proofs.ReadBack.{answered_is_http}
 use Rattle.mime_http.proofs.ReadForth.{AreFound, http_is_answered}
@@ -76,7 +76,7 @@ pub stands : (value : List ℕ) (media : MediaType) → Reads (trimmed value) me
 stands value media reads = (reads_around value media (plain_is_http (trimmed value) media reads), as_it_stands value media reads)
 
 -- A value that the library reads without the white space around it needs memory if more than 40 bytes of it are kept.
-pub stands_needs : (value : List ℕ) → Explains (trimmed value) NoMemory → NeedsMemory value
+pub stands_needs : (value : List ℕ) → Explains (trimmed value) NoMemory → ValueNeedsMemory value
 stands_needs value (media, reads, long) =
     let (is, printed) = stands value media reads in (media, is, printed, long)
 
@@ -89,13 +89,13 @@ module _ {value text : List ℕ} (parts : Parts) (isnt : ¬ (IsAccepted (trimmed
       rw is (answered_is_http value parts answered, anew value (media_of parts) isnt refl)
 
   -- The value needs memory if that is long.
-  pub anew_needs : 40 < length text → NeedsMemory value
+  pub anew_needs : 40 < length text → ValueNeedsMemory value
   anew_needs long =
       let (is, printed) = anew_is (media_of parts) (rw same (written_reads value parts answered)) in
       (media_of parts, is, printed, omega (arith, long, ap length same, written_length parts))
 
   -- It does if reading what is written does.
-  pub reading_needs : Explains text NoMemory → NeedsMemory value
+  pub reading_needs : Explains text NoMemory → ValueNeedsMemory value
   reading_needs (media, reads, long) =
       let (is, printed) = anew_is media reads in (media, is, printed, long)
 
@@ -110,7 +110,7 @@ error_is_memory value field.NoMemory utf8 is why = refl
 
 -- A media type of which at most 40 bytes are printed needs no memory.
 pub short_needs_none : (value : List ℕ) (media : MediaType) → HttpReads value media → IsPrinted value media
-    → length media.kept ≤ 40 → ¬ (NeedsMemory value)
+    → length media.kept ≤ 40 → ¬ (ValueNeedsMemory value)
 short_needs_none value media reads printed few (other, is, stands, long) =
     let same = one_printed_text value media other reads printed is stands in
     absurd (omega (arith, few, long, ap (λ (it : MediaType). length it.kept) same))

@@ -7,12 +7,11 @@ use Rattle.mime_http.proofs.Common.{IsStringFault, IsToken, Parts, after_semicol
 use Rattle.mime_http.proofs.Common.{append_assoc, arith, awaits_after, awaits_after-append, before_semicolon, cases_lt, drop, drop-drop}
 use Rattle.mime_http.proofs.Common.{drop_more, drop_of_length-le, drop_split, false, fault_at, flat_map-append, get_or-drop, if◌then◌else◌}
 use Rattle.mime_http.proofs.Common.{in_name, in_ranges, in_string, in_subtype, in_value, is_quoted_byte, is_quoted_text_byte, is_space}
-use Rattle.mime_http.proofs.Common.{is_bchar, is_token_byte, is_token_value, length, length-drop, length-take-le, nat_tests, list_all}
+use Rattle.mime_http.proofs.Common.{is_bchar, is_token_byte, is_token, length, length-drop, length-take-le, nat_tests, list_all}
 use Rattle.mime_http.proofs.Common.{list_all-append, list_all-wider, next, no_byte, not, prefix_len, prefix_len_stops, quoted_pair, refl}
 use Rattle.mime_http.proofs.Common.{rejected, slice_index, slice_range, take, take-add, take-append-drop, take_all, text_byte, text_of_pair}
 use Rattle.mime_http.proofs.Common.{text_of_parts, true, with_parameter, ℕ, ◌++◌, ◌+◌, ◌-◌, ◌<◌, ◌∙◌, ◌∷◌, ◌≡◌, ◌≢◌, ◌≤◌, not-true}
 use Rattle.mime_http.proofs.Common.{content-awaits, is_stop}
-use Rattle.mime_http.proofs.Written.{token_from_test}
 use Rattle.mime_http.proofs.ReadBack.{content_more}
 use Rattle.mime_http.proofs.Runs.{EndsToken, KeepsSpace, content_ends, name_begins, no_way, on_content, on_subtype, on_value, one_byte}
 use Rattle.mime_http.proofs.Runs.{over_white, subtype_ends, value_ends}
@@ -201,20 +200,15 @@ pub token_part : (value : List ℕ) (from to : ℕ) → from < to → to ≤ len
     → IsToken (slice_range value from to)
 token_part value from to some within run = token_from_test (slice_range value from to) (grind (arith, length-part value from to, run.all))
 
--- A token passes the test for a token.
-pub token_value : (bytes : List ℕ) → IsToken bytes → is_token_value bytes ≡ true
-token_value [] is = absurd is
-token_value (b ∷ bytes) is = is
-
--- Bytes pass no test for a token with another byte among them.
+-- Bytes are no token with another byte among them.
 no_token_with : (before : List ℕ) (b : ℕ) (bytes : List ℕ) → is_token_byte b ≡ false
-    → is_token_value (before ++ (b ∷ bytes)) ≡ false
+    → is_token (before ++ (b ∷ bytes)) ≡ false
 no_token_with [] b bytes isnt = rw isnt refl
 no_token_with (c ∷ before) b bytes isnt = grind (arith, list_all-append is_token_byte before (b ∷ bytes), isnt)
 
--- Bytes after a run of token bytes, or no bytes, pass no test for a token.
+-- Bytes after a run of token bytes, or no bytes, are no token.
 pub no_token_value : (value : List ℕ) (from plain to : ℕ) → IsRun is_token_byte value from plain → plain ≤ to
-    → to < length value → (from < plain → plain ≢ to) → is_token_value (slice_range value from to) ≡ false
+    → to < length value → (from < plain → plain ≢ to) → is_token (slice_range value from to) ≡ false
 no_token_value value from plain to run most within other =
     let after = parts_joined value plain (plain + 1) to in
     grind (arith, parts_joined value from plain to, after, one_part value plain, run.stops, no_token_with, no_part, cases_lt)

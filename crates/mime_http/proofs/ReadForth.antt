@@ -1,5 +1,5 @@
 -- What HTTP writes is read, byte by byte, as the media type that it is; what is read is safe in a header, and in UTF-8.
-use Rattle.mime_http.proofs.Common.{AllByRecursion, IsUtf8-append, cond_both, is_token_value, text_of_pair, text_of_pairs, length-append}
+use Rattle.mime_http.proofs.Common.{AllByRecursion, IsUtf8-append, cond_both, is_token, text_of_pair, text_of_pairs, length-append}
 use Rattle.mime_http.proofs.Common.{AreHttpParameters, AreSpaces, AreTokenBytes-from_token, HttpReads, IsHttpParameter, IsSafePair, IsToken}
 use Rattle.mime_http.proofs.Common.{IsUtf8, IsUtf8-nil, List, MediaType, Parts, Some, State, [], after_semicolon, and_parts, answer_at_end}
 use Rattle.mime_http.proofs.Common.{answer_from, answer_of, ap, append-nil, append_assoc, arith, before_semicolon, content-from_token}
@@ -16,7 +16,7 @@ use Rattle.mime_http.proofs.Runs.{subtype_ends, type_begins, value_ends, keeps_a
 utf8_pair : (name value : List ℕ) → IsToken name → IsUtf8 value → IsUtf8 (text_of_pair (name, value))
 utf8_pair name value named utf8 =
     let quoted = put_one 34 [] (omega arith) IsUtf8-nil in
-    let quote = cond_both (is_token_value value) [] (34 ∷ []) IsUtf8 (λ token. IsUtf8-nil) (λ other. quoted) in
+    let quote = cond_both (is_token value) [] (34 ∷ []) IsUtf8 (λ token. IsUtf8-nil) (λ other. quoted) in
     put_ascii (59 ∷ 32 ∷ []) _ (omega arith)
     (put_token name _ named (put_one 61 _ (omega arith) (IsUtf8-append _ _ quote (IsUtf8-append value _ utf8 quote))))
 
