@@ -1,15 +1,12 @@
 -- What a text is read as: the value of a tree, and the parts that callers see.
 use Rattle.std.specs.Prelude.{◌≡◌, ◌<◌, ℕ, ◌+◌, Bool, List, [], ◌∷◌, ◌++◌, length, take, drop, slice_range, Option, Some, None, unwrap_or}
 use Rattle.std.specs.Prelude.{if◌then◌else◌, ◌==◌, codes}
-use Rattle.std.specs.Str.{str_to_ascii_lowercase, bytes_eq}
+use Rattle.std.specs.Str.{bytes_eq}
 use Rattle.std.specs.Option.{option_or, option_map}
 use Rattle.mime.specs.Bytes.{slash_byte, plus_byte}
 use Rattle.mime.specs.Grammar.{Parameter, plain, quoted, Parameters, blank, final, more, Tail, no_list, listed, SyntaxTree, text_of}
 use Rattle.mime.specs.Grammar.{IsWellFormed}
-
--- the text with each ASCII capital replaced by its lowercase letter
-abbrev pub lowered : List ℕ → List ℕ
-lowered text = str_to_ascii_lowercase text
+pub use Rattle.mime_search.specs.IgnoringCase.{lowered}
 
 -- whether a parameter's name is `charset`, ignoring ASCII case
 abbrev pub is_charset : List ℕ → Bool
