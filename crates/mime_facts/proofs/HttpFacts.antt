@@ -1,7 +1,7 @@
 -- Worked facts of the pages `HttpMediaType`, `HttpFaults` and `HttpList`, and of `Unescaped`, `Written` and `Boundary`: values that are
 -- media types, values that aren't, their faults, and what is printed of a value.
 use Rattle.mime_http.proofs.Common.{Parameter, SyntaxTree, IsUtf8-nil, HttpExplains, HttpReads, InvalidToken, IsBoundary, IsBoundaryOf}
-use Rattle.mime_http.proofs.Common.{IsContent-taken, IsHttpFault, IsHttpMediaType, IsPrinted, List, MediaType, media_of, MissingQuote}
+use Rattle.mime_http.proofs.Common.{IsContent-taken, IsHttpFault, IsHttpMediaType, IsPrinted, List, MediaType, media_of_parts, MissingQuote}
 use Rattle.mime_http.proofs.Common.{MissingSubtype, MissingValue, ValueNeedsMemory, None, Parts, [], anew, ap, arith, as_it_stands}
 use Rattle.mime_http.proofs.Common.{bytes_eq, bytes_eq-Decides, codes, escaped, false, final, is_quoted_byte, is_token_byte, is_token}
 use Rattle.mime_http.proofs.Common.{length, listed, others, quoted, refl, same_Some, stopped-from_walk, sym, text_of_pair, text_of_pairs}
@@ -122,7 +122,7 @@ memory =
     let value : List ℕ = lettered (codes "abcdefghijklmnopqrstuvwxyzabcdefg") in
     let parts = letter_parts (codes "abcdefghijklmnopqrstuvwxyzabcdefg") in
     let isnt = stopped-from_walk (codes "a/b;;p=abcdefghijklmnopqrstuvwxyzabcdefg") refl in
-    let (reads, printed) = anew_is {value = value} parts isnt refl refl (media_of parts) (written_reads value parts refl) in (
+    let (reads, printed) = anew_is {value = value} parts isnt refl refl (media_of_parts parts) (written_reads value parts refl) in (
       anew_needs (letter_parts (codes "abcdefghijklmnopqrstuvwxyzabcdefgh"))
           (stopped-from_walk (codes "a/b;;p=abcdefghijklmnopqrstuvwxyzabcdefgh") refl) refl refl (omega arith),
       short_needs_none _ _ reads printed (omega arith),

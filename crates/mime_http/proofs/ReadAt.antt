@@ -10,7 +10,7 @@ use Rattle.mime_http.proofs.Common.{in_name, in_ranges, in_string, in_subtype, i
 use Rattle.mime_http.proofs.Common.{is_bchar, is_token_byte, is_token, length, length-drop, length-take-le, nat_tests, list_all}
 use Rattle.mime_http.proofs.Common.{list_all-append, list_all-wider, next, no_byte, not, prefix_len, prefix_len_stops, quoted_pair, refl}
 use Rattle.mime_http.proofs.Common.{rejected, slice_index, slice_range, take, take-add, take-append-drop, take_all, text_byte, text_of_pair}
-use Rattle.mime_http.proofs.Common.{text_of_parts, true, with_parameter, ℕ, ◌++◌, ◌+◌, ◌-◌, ◌<◌, ◌∙◌, ◌∷◌, ◌≡◌, ◌≢◌, ◌≤◌, not-true}
+use Rattle.mime_http.proofs.Common.{text_of_parts, true, parts_with, ℕ, ◌++◌, ◌+◌, ◌-◌, ◌<◌, ◌∙◌, ◌∷◌, ◌≡◌, ◌≢◌, ◌≤◌, not-true}
 use Rattle.mime_http.proofs.Common.{content-awaits, is_stop}
 use Rattle.mime_http.proofs.ReadBack.{content_more}
 use Rattle.mime_http.proofs.Runs.{EndsToken, KeepsSpace, content_ends, name_begins, no_way, on_content, on_subtype, on_value, one_byte}
@@ -170,13 +170,13 @@ content_on value from at to least most before after = grind (arith, parts_joined
 -- Content is read as a parameter's value, up to after the quote that closes it.
 pub over_content : (parts : Parts) (name value : List ℕ) (from close : ℕ) → IsClosedAt value from close
     → answer_at value (in_string parts name []) from
-    ≡ answer_at value (before_semicolon (with_parameter parts name (slice_range value from close))) (close + 1)
+    ≡ answer_at value (before_semicolon (parts_with parts name (slice_range value from close))) (close + 1)
 unfolding is_quoted_byte
 over_content parts name value from close closed =
     let content : List ℕ = slice_range value from close in
     let within : close ≤ length value = omega (arith, closed.within) in
     let first = over value from close (in_string parts name []) (in_string parts name content) closed.least within in
-    let last = over_byte value close (in_string parts name content) (before_semicolon (with_parameter parts name content)) closed.within in
+    let last = over_byte value close (in_string parts name content) (before_semicolon (parts_with parts name content)) closed.within in
     grind (arith, first, on_content closed.content parts name [] refl, last, closed.quote, content_ends closed.content)
 
 -- A fault after content is the string's.
@@ -228,7 +228,7 @@ over_name parts value from to some within run = grind (arith, over, name_begins,
 -- Reading goes on over a parameter's value.
 pub over_value : (parts : Parts) (name value : List ℕ) (from to : ℕ) → from < to → to ≤ length value
     → IsRun is_token_byte value from to → answer_at value (in_value parts name []) from
-    ≡ answer_at value (before_semicolon (with_parameter parts name (slice_range value from to))) to
+    ≡ answer_at value (before_semicolon (parts_with parts name (slice_range value from to))) to
 over_value parts name value from to some within run = grind (arith, over, on_value, value_ends, token_part, token_ends)
 
 -- ---- white space
@@ -248,5 +248,5 @@ nothing_between parts value at space token = grind (arith, drop_more, at_end, ca
 
 -- One parameter more is written after the others.
 pub one_written : (parts : Parts) (name content : List ℕ)
-    → text_of_parts parts ++ text_of_pair (name, content) ≡ text_of_parts (with_parameter parts name content)
+    → text_of_parts parts ++ text_of_pair (name, content) ≡ text_of_parts (parts_with parts name content)
 one_written parts name content = grind (arith, flat_map-append, append-nil, append_assoc)

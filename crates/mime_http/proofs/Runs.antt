@@ -3,7 +3,7 @@ use Rattle.mime_http.proofs.Common.{AreSpaces, AreTokenBytes, Bool, InvalidToken
 use Rattle.mime_http.proofs.Common.{after_semicolon, append-nil, awaits_after, awaits_after-append, takes_all, append_assoc, answer_from}
 use Rattle.mime_http.proofs.Common.{arith, before_semicolon, before_type, in_name, in_string, in_subtype, in_type, in_value, is_space}
 use Rattle.mime_http.proofs.Common.{is_token_byte, length, list_all, list_all-append, nat_tests, next, refl, rejected, true, false}
-use Rattle.mime_http.proofs.Common.{with_parameter, ℕ, ⊤, ◌++◌, ◌+◌, ◌∷◌, ◌≡◌, content-closed, content-taken}
+use Rattle.mime_http.proofs.Common.{parts_with, ℕ, ⊤, ◌++◌, ◌+◌, ◌∷◌, ◌≡◌, content-closed, content-taken}
 
 -- White space after white space is white space.
 pub spaces-append : (n m : List ℕ) → AreSpaces n → AreSpaces m → AreSpaces (n ++ m)
@@ -101,7 +101,7 @@ subtype_ends top (s ∷ sub) is at (b ∷ bytes) ends = rw ends refl
 
 -- After a value that ends, reading goes on as after the parts so far.
 pub value_ends : (parts : Parts) (name value : List ℕ) → IsToken value → (at : ℕ) (bytes : List ℕ) → EndsToken bytes
-    → answer_from (in_value parts name value) at bytes ≡ answer_from (before_semicolon (with_parameter parts name value)) at bytes
+    → answer_from (in_value parts name value) at bytes ≡ answer_from (before_semicolon (parts_with parts name value)) at bytes
 value_ends parts name [] is at bytes ends = absurd is
 value_ends parts name (v ∷ value) is at [] ends = refl
 value_ends parts name (v ∷ value) is at (b ∷ bytes) ends = rw ends refl
@@ -124,5 +124,5 @@ on_content {content} is parts name done none at bytes = grind (arith, on_open, c
 
 -- A quote ends it.
 pub content_ends : {content : List ℕ} → IsContent content → (parts : Parts) (name : List ℕ)
-    → next (in_string parts name content) 34 ≡ Some (before_semicolon (with_parameter parts name content))
+    → next (in_string parts name content) 34 ≡ Some (before_semicolon (parts_with parts name content))
 content_ends {content} is parts name = rw (content-closed content is) refl

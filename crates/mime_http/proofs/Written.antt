@@ -3,7 +3,7 @@ use Rattle.mime_http.proofs.Common.{SyntaxTree, if◌then◌else◌, AllByRecurs
 use Rattle.mime_http.proofs.Common.{IsToken-lowered, List, MediaType, Parameter, Parameters, Parts, Reads, [], append-nil, append_assoc}
 use Rattle.mime_http.proofs.Common.{arith, bytes_eq, false, final, is_token_byte, is_token, length, length-append, length-lowered}
 use Rattle.mime_http.proofs.Common.{list_all-lowered, listed, lowered, lowered-lowered, lowered_list, lowered_value, lowered_value-either}
-use Rattle.mime_http.proofs.Common.{lowered_value-lowered, map, media_of, more, nat_tests, no_list, not, others, pairs_of_list}
+use Rattle.mime_http.proofs.Common.{lowered_value-lowered, map, media_of_parts, more, nat_tests, no_list, not, others, pairs_of_list}
 use Rattle.mime_http.proofs.Common.{pairs_of_tail-lowered, plain, quoted, refl, text_of_list, text_of_pair, text_of_pairs, text_of_parts}
 use Rattle.mime_http.proofs.Common.{true, with_pair, ℕ, ◌++◌, ◌∷◌, ◌≡◌, Item, NameIs, bytes_eq-Decides, false_from_ne_true, items_of, ◌+◌}
 use Rattle.mime_http.proofs.Common.{◌≤◌, Decides, filter, lowered_pair}
@@ -61,11 +61,11 @@ lowered_all (name, value) (next ∷ pairs) = grind (arith, test-either name valu
 
 -- A type, a subtype and safe pairs are read as they are written.
 pub parts_are_read : (parts : Parts) → IsToken parts.top → IsToken parts.sub → AllByRecursion IsSafePair parts.pairs
-    → Reads (text_of_parts parts) (media_of parts)
+    → Reads (text_of_parts parts) (media_of_parts parts)
 parts_are_read parts is_top is_sub safe = go parts.pairs safe
   where
     go : (pairs : List (List ℕ × List ℕ)) → AllByRecursion IsSafePair pairs
-        → Reads (text_of_parts (record parts { pairs = pairs })) (media_of (record parts { pairs = pairs }))
+        → Reads (text_of_parts (record parts { pairs = pairs })) (media_of_parts (record parts { pairs = pairs }))
     go [] safe =
         let tree : SyntaxTree = record { top = parts.top; sub = parts.sub; tail = no_list } in
         record { tree = tree; well_formed = (is_top, is_sub, tt); spelled = refl; valued = grind (arith, append-nil) }
@@ -102,7 +102,7 @@ with_pair_is_read text value name content reads safe named is =
     let all = all_others IsSafePair name value.pairs (name, content) safe.pairs (named, is) in
     let written = parts_are_read low (IsToken-lowered tree.top reads.well_formed.0) (IsToken-lowered tree.sub reads.well_formed.1) all in
     let same : text_of_parts low ≡ value.essence ++ text_of_pairs pairs = grind (arith, reads.valued, append_assoc) in
-    let media : media_of low ≡ with_pair value (lowered name) (lowered_value name content) =
+    let media : media_of_parts low ≡ with_pair value (lowered name) (lowered_value name content) =
     grind (arith, reads.valued, lowered-lowered, length-lowered, others_stay, pairs_of_tail-lowered) in
     rw (same, media) at written
 
