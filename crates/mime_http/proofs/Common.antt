@@ -34,23 +34,19 @@ pub use Rattle.mime_http.specs.HttpMediaType.{semicolon_and, with_string, with_t
 pub use Rattle.mime_http.specs.LineCut.{AreHeld, At, Held, Outside, Takes, nothing_held, pieces_of, with_bad, with_range, after, cut}
 pub use Rattle.mime_http.specs.LineCut.{cut_after, before_mark, cut_from, ends_piece, is_mark, piece_len, Equals, Paired, IsNextOutside}
 pub use Rattle.mime_http.specs.ListLaws.{AreElements, AreHttpLists, AreSame, BadIsAlone, HttpListsAreRead, OneCutOfLines, OneFirstBad}
-pub use Rattle.mime_http.specs.ListLaws.{OneHeader}
-pub use Rattle.mime_http.specs.ListLaws.{ReadAreHttpLists, element, nothing}
-pub use Rattle.mime_http.specs.Ranges.{AreInOrder, Rank, best_offer, closeness, closest, demanded, first_value, given_weight, has, merit}
-pub use Rattle.mime_http.specs.Ranges.{rank_cmp}
+pub use Rattle.mime_http.specs.ListLaws.{OneHeader, ReadAreHttpLists, element, nothing}
+pub use Rattle.mime_http.specs.Ranges.{AreInOrder, Rank, best_offer, closeness, closest, demanded, first_value, given_weight, has}
+pub use Rattle.mime_http.specs.Ranges.{is_demanded, merit, rank_cmp}
 pub use Rattle.mime_http.specs.RangesLaws.{BestIsAcceptable, BestIsFirst, BestIsRankedFirst, NoneIsBest, OneOrderOfOffers, OneRanking}
-pub use Rattle.mime_http.specs.RangesLaws.{QvaluesAre}
-pub use Rattle.mime_http.specs.RangesLaws.{ClosestIsClosest, CoversItself, IsAtMost, IsQvalue, MeanTheSame, MeaningCounts}
+pub use Rattle.mime_http.specs.RangesLaws.{QvaluesAre, ClosestIsClosest, CoversItself, IsAtMost, IsQvalue, MeanTheSame, MeaningCounts}
 pub use Rattle.mime_http.specs.RangesLaws.{StrangerChangesNothing, WeightIsNumber, meaning_of, one_digit, one_dot, three_digits, two_digits}
 pub use Rattle.mime_http.specs.RangesLaws.{zero_dot}
 pub use Rattle.mime_http.specs.Reader.{Answer, RoomHolds, IsClosedAt, IsEssenceAt, IsParameterAt, IsStringFault, Parts, State}
 pub use Rattle.mime_http.specs.Reader.{after_semicolon}
 pub use Rattle.mime_http.specs.Reader.{answer_at, answer_at_end, answer_from, answer_of, before_semicolon, before_type, fault_at, in_name}
 pub use Rattle.mime_http.specs.Reader.{in_string, in_subtype, in_type, in_value, media_of_parts, next, next_after, read, rejected}
-pub use Rattle.mime_http.specs.Reader.{text_of_parts}
-pub use Rattle.mime_http.specs.Reader.{parts_with}
-pub use Rattle.mime_http.specs.Written.{WrittenIsMeant, escaped, others, quote_of, text_of_pair, text_of_pairs, with_pair}
-pub use Rattle.mime_http.specs.Written.{with_pairs}
+pub use Rattle.mime_http.specs.Reader.{text_of_parts, parts_with}
+pub use Rattle.mime_http.specs.Written.{WrittenIsMeant, escaped, others, quote_of, text_of_pair, text_of_pairs, with_pair, with_pairs}
 pub use Rattle.mime_http.specs.Boundary.{IsBoundary, IsBoundaryOf, is_bchar}
 pub use Rattle.mime_http.specs.Digits.{read_number, worth}
 pub use Rattle.mime_http.specs.HttpPrinted.{field_error_text}
