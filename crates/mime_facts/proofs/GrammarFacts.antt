@@ -80,7 +80,13 @@ parameters :
     × ¬ (IsParameter (plain (codes "p") [])) × ¬ (IsParameter (quoted [] (codes "x") []))
     × ¬ (IsParameter (quoted (codes "p") [] (codes "x")))
 unfolding is_token_byte is_quoted_byte
-parameters = ((refl, refl), (refl, IsContent-taken [] refl refl, refl), (λ is. is.1), (λ is. is.0), λ is. false≢true is.2)
+parameters = (
+  (refl, refl),
+  (refl, IsContent-taken [] refl refl, refl),
+  (λ is. false≢true is.1),
+  (λ is. false≢true is.0),
+  λ is. false≢true is.2,
+)
 
 -- The spaces before a parameter are spaces, and the rest of its list is well formed too.
 lists :
@@ -102,4 +108,4 @@ trees :
     × ¬ (IsWellFormed (record { top = codes "a"; sub = []; tail = no_list }))
     × ¬ (IsWellFormed (record { top = codes "a"; sub = codes "b"; tail = listed (blank (codes "x")) }))
 unfolding is_token_byte
-trees = (tt, (refl, refl, tt), (λ is. is.0), (λ is. is.1), λ is. false≢true is.2)
+trees = (tt, (refl, refl, tt), (λ is. false≢true is.0), (λ is. false≢true is.1), λ is. false≢true is.2)

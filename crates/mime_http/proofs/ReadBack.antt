@@ -115,13 +115,13 @@ module _ (b : ℕ) (front : List ℕ) where
   after_state (in_type top) is = grind (arith, cond_both, token_more, AreTokenBytes-from_token, more b is.1, eqb-true)
   after_state (in_subtype top (s ∷ sub)) is =
       let whole = essence_read is.0 is.1 is.2 in
-      grind (arith, cond_both, token_more, more b is.2, append_assoc, space_after, opened, eqb-true, whole)
+      grind (arith, cond_both, one_more is_token_byte (s ∷ sub) b is.1, more b is.2, append_assoc, space_after, opened, eqb-true, whole)
   after_state (before_semicolon parts) is = grind (arith, cond_both, space_after, opened, eqb-true)
   after_state (after_semicolon parts) is = grind (arith, cond_both, space_inside, token_more, behind, opened, opened_is_whole, eqb-true)
   after_state (in_name parts name) is = grind (arith, cond_both, token_more, AreTokenBytes-from_token, more b is.1, eqb-true)
   after_state (in_value parts name (v ∷ value)) is =
       let whole = parameter_after name (v ∷ value) (with_token name (v ∷ value) is.0 is.1) is.2 in
-      grind (arith, cond_both, token_more, more b is.2, append_assoc, space_after, opened, eqb-true, whole)
+      grind (arith, cond_both, one_more is_token_byte (v ∷ value) b is.1, more b is.2, append_assoc, space_after, opened, eqb-true, whole)
   after_state (in_string parts name content) is =
       let whole = λ (closed : IsContent content).
       parameter_after {parts = parts} {front = front ++ (b ∷ [])} name content (with_string name content is.0 closed) in
