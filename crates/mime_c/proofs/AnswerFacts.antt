@@ -15,8 +15,7 @@ use Rattle.mime_c.specs.{Answers.number_of_error, Answers.found_at, Answers.foun
 use Rattle.mime_c.specs.{Answers.has_room, Answers.has_no_room, Answers.is_read, Answers.fails, Answers.TextExplains, Answers.are_written}
 use Rattle.mime_c.specs.{Answers.ReadsTo, Answers.ListNeedsMemory, Answers.ListsTo, Answers.is_listed, Answers.Compares}
 use Rattle.mime_c.specs.{Answers.are_compared, declared.MimeFound.MimeFound, declared.TheConstants.MIME_OK}
-use Rattle.mime_c.specs.{declared.TheConstants.MIME_NO_MEMORY}
-use Rattle.mime_c.specs.{declared.TheConstants.MIME_NOT_UTF8, declared.TheConstants.MIME_NO_ROOM}
+use Rattle.mime_c.specs.{declared.TheConstants.MIME_NO_MEMORY, declared.TheConstants.MIME_NOT_UTF8, declared.TheConstants.MIME_NO_ROOM}
 use Rattle.mime_c.proofs.OneOutcome.{reads_to_one, lists_to_one, compares_as_one}
 
 -- ---- strings

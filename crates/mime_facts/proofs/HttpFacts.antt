@@ -3,14 +3,15 @@
 use Rattle.mime_http.proofs.Common.{Parameter, SyntaxTree, IsUtf8-nil, HttpExplains, HttpReads, InvalidToken, IsBoundary, IsBoundaryOf}
 use Rattle.mime_http.proofs.Common.{IsContent-taken, IsHttpFault, IsHttpMediaType, IsPrinted, List, MediaType, media_of_parts, MissingQuote}
 use Rattle.mime_http.proofs.Common.{MissingSubtype, MissingValue, ValueNeedsMemory, None, Parts, [], anew, ap, arith, as_it_stands}
-use Rattle.mime_http.proofs.Common.{bytes_eq, bytes_eq-Decides, codes, escaped, false, final, is_quoted_byte, is_token_byte, is_token}
+use Rattle.mime_http.proofs.Common.{codes, escaped, false, final, is_quoted_byte, is_token_byte, is_token}
 use Rattle.mime_http.proofs.Common.{length, listed, others, quoted, refl, same_Some, stopped-from_walk, sym, text_of_pair, text_of_pairs}
-use Rattle.mime_http.proofs.Common.{trimmed, true, true≢false, unescaped, with_pair, with_pairs, ℕ, ◌++◌, ◌∙◌, ◌∷◌, ◌≡◌, ◌≢◌}
+use Rattle.mime_http.proofs.Common.{trimmed, true, true≢false, unescaped, with_pair, with_pairs, ℕ, ◌++◌, ◌∷◌, ◌≡◌, ◌≢◌}
 use Rattle.mime_http.specs.{declared.value.FieldError.TheVariants.Invalid, declared.value.FieldError.TheVariants.NotUtf8}
 use Rattle.mime_http.specs.{declared.value.FieldError.TheVariants.NoMemory as OutOfMemory, HttpFaults.fault_position}
 use Rattle.mime_http.proofs.{Around.white_more, Around.put_ascii, HttpLaws.one_printed_text, HttpLaws.short_needs_none, HttpLaws.anew_needs}
 use Rattle.mime_http.proofs.{HttpLaws.anew_is, HttpLaws.written_reads, ReadBack.answered_is_http, ReadFaults.answered_fault}
 use Rattle.mime_http.proofs.{ReadFaults.fault_answered, ReadFaults.rejected_is_none as none}
+use Rattle.mime_facts.proofs.ValueFacts.{differ}
 
 -- This is ` text/HTML ;; charset="UTF-8" `.
 abbrev value : List ℕ
@@ -135,10 +136,6 @@ unfolding is_token_byte
 reasons = (λ why. memory.2 why.1, (put_ascii (codes "a b") [] (omega arith) IsUtf8-nil, answered_fault (codes "a b") _ refl))
 
 -- ---- quoted content
-
--- Bytes that aren't equal differ.
-differ : (text other : List ℕ) → bytes_eq text other ≡ false → text ≢ other
-differ text other is same = true≢false (sym ((bytes_eq-Decides text other).1 same) ∙ is)
 
 -- `a\"b\\` means `a"b\`, and not itself; what is written for `a"b\` is `a\"b\\`, and for a quote not a quote.
 contents : (unescaped (codes "a\\\"b\\\\") ≡ codes "a\"b\\") × (unescaped (codes "\\\"") ≢ codes "\\\"")

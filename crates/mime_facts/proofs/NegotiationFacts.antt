@@ -2,8 +2,7 @@
 use Rattle.mime_http.proofs.Common.{IsUtf8-nil, append-nil, text_of_parts, AreHttpLists, AreSorted, Header, IsFirstBad, IsHeader}
 use Rattle.mime_http.proofs.Common.{IsHttpMediaType, IsPiece, IsQvalue, List, MediaType, Parts, [], a_range, after_range, answer_of, ap}
 use Rattle.mime_http.proofs.Common.{arith, as_it_stands, bad_here, codes, cut, get_or, is_token_byte, length, map, media_of_parts, no_text}
-use Rattle.mime_http.proofs.Common.{read}
-use Rattle.mime_http.proofs.Common.{refl, sym, thousandths_of, trimmed, true≢false, two_digits, ℕ, ◌∷◌, ◌≡◌}
+use Rattle.mime_http.proofs.Common.{read, refl, sym, thousandths_of, trimmed, true≢false, two_digits, ℕ, ◌∷◌, ◌≡◌}
 use Rattle.mime_http.{specs.HttpList.blank, proofs.Around.AreAscii, proofs.Around.put_ascii, proofs.Numbers.weight_is_number}
 use Rattle.mime_http.{proofs.Cuts.cut_of_piece, proofs.Cuts.are_cut, proofs.Lists.one_first_bad, proofs.Lists.one_header}
 use Rattle.mime_http.{proofs.Lists.http_lists_are_read, proofs.Lists.read_are_http_lists, proofs.Lists.bad_is_alone}

@@ -2,8 +2,7 @@
 -- whether a request and its response accept each other's content (15.5.16). docs/RULES.md says the same in words.
 use Rattle.std.specs.Prelude.{◌≡◌, ◌≢◌, ◌<◌, ℕ, ◌+◌, ◌-◌, Bool, true, false, List, [], ◌∷◌, ◌++◌, ◌==◌, ◌||◌, ◌&&◌, not}
 use Rattle.std.specs.Prelude.{Option, Some, None, Result, Ok, Err, MatchOption, MatchResult, option_and_then, option_map, is_some}
-use Rattle.std.specs.Prelude.{unwrap_or}
-use Rattle.std.specs.Prelude.{map, flat_map, take, drop, length, slice_get, replicate, nat_lt, if◌then◌else◌, codes}
+use Rattle.std.specs.Prelude.{unwrap_or, map, flat_map, take, drop, length, slice_get, replicate, nat_lt, if◌then◌else◌, codes}
 use Rattle.std.specs.Char.{is_ascii_graphic}
 use Rattle.std.specs.Fmt.{decimal, digits}
 use Rattle.std.specs.List.{FoldsTo, enumerate_from}

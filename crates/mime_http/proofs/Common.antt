@@ -3,7 +3,8 @@ pub use Rattle.mime.proofs.HandedOut.{IsContent-closed, IsOpenContent-push, acce
 pub use Rattle.mime.proofs.HandedOut.{content-closed, content-taken, dead-from_stop, lowered_pair, regroup, rejected-from_fault}
 pub use Rattle.mime.proofs.HandedOut.{stop-from_walk, takes_all-any, with_closed, IsOpenContent, awaits_after, continues, takes_all}
 pub use Rattle.mime.proofs.HandedOut.{AreTokenBytes-from_token, IsContent-taken, IsToken-lowered, accepted_or_rejected, content-from_token}
-pub use Rattle.mime.proofs.HandedOut.{in_ranges, length-lowered, list_all-lowered, list_all-wider, lowered-lowered, lowered_value-either}
+pub use Rattle.mime.proofs.HandedOut.{are_quoted_text, in_ranges, length-lowered, list_all-lowered, list_all-wider, lowered-lowered}
+pub use Rattle.mime.proofs.HandedOut.{lowered_value-either}
 pub use Rattle.mime.proofs.HandedOut.{lowered_value-lowered, one_reading, pairs_of_tail-lowered, slice_get-prefix, stopped-from_walk}
 pub use Rattle.mime.proofs.HandedOut.{kept_is_read, by_option, Begun, ClosedParameters, awaits_after-append, grow, BegunList, list_at}
 pub use Rattle.mime.proofs.HandedOut.{not_viable-at_dead, one_fault, tree_of, viable-from_walk, walk, walk-accepted, walk_from}

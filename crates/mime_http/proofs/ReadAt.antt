@@ -6,7 +6,8 @@ use Rattle.mime_http.proofs.Common.{Bool, one-add, InvalidToken, IsClosedAt, IsC
 use Rattle.mime_http.proofs.Common.{IsStringFault, IsToken, Parts, after_semicolon, answer_at, answer_at_end, answer_from, ap, append-nil}
 use Rattle.mime_http.proofs.Common.{append_assoc, arith, awaits_after, awaits_after-append, before_semicolon, cases_lt, drop, drop-drop}
 use Rattle.mime_http.proofs.Common.{drop_more, drop_of_length-le, drop_split, false, fault_at, flat_map-append, get_or-drop, if◌then◌else◌}
-use Rattle.mime_http.proofs.Common.{in_name, in_ranges, in_string, in_subtype, in_value, is_quoted_byte, is_quoted_text_byte, is_space}
+use Rattle.mime_http.proofs.Common.{are_quoted_text, in_name, in_ranges, in_string, in_subtype, in_value, is_quoted_byte}
+use Rattle.mime_http.proofs.Common.{is_quoted_text_byte, is_space}
 use Rattle.mime_http.proofs.Common.{is_bchar, is_token_byte, is_token, length, length-drop, length-take-le, nat_tests, list_all}
 use Rattle.mime_http.proofs.Common.{list_all-append, list_all-wider, next, no_byte, not, prefix_len, prefix_len_stops, quoted_pair, refl}
 use Rattle.mime_http.proofs.Common.{rejected, slice_index, slice_range, take, take-add, take-append-drop, take_all, text_byte, text_of_pair}
@@ -97,11 +98,6 @@ rest_decides bytes n is =
     list_all-wider plain is_bchar are_bchars (take n bytes) (rw same (run_all plain bytes)) in
     grind (arith, rest, first, list_all-append is_bchar (take n bytes) (drop n bytes), take-append-drop n bytes)
 
--- The bytes that a search for the end of quoted text passes may occur in quoted text.
-pub are_text_bytes : (b : ℕ) → not (is_stop TEXT_STOPS b) ≡ true → is_quoted_text_byte b ≡ true
-unfolding is_quoted_byte
-are_text_bytes b go = in_ranges TEXT_STOPS is_quoted_text_byte (omega arith) (omega arith) (omega arith) refl b (not-true _ go)
-
 -- Bytes of quoted text are content.
 pub text_content : (bytes : List ℕ) → list_all is_quoted_text_byte bytes ≡ true → IsContent bytes
 text_content [] all = no_byte
@@ -153,7 +149,7 @@ pub text_after : (value : List ℕ) (at to : ℕ) → at < length value → is_q
     → to ≡ run_end (λ b. not (is_stop TEXT_STOPS b)) value (at + 1) → list_all is_quoted_text_byte (slice_range value at to) ≡ true
 text_after value at to within text is =
     let run = run_is (λ b. not (is_stop TEXT_STOPS b)) value (at + 1) to is in
-    let rest = list_all-wider _ is_quoted_text_byte are_text_bytes (slice_range value (at + 1) to) run.all in
+    let rest = list_all-wider _ is_quoted_text_byte are_quoted_text (slice_range value (at + 1) to) run.all in
     grind (arith, parts_joined value at (at + 1) to, run.least, one_part value at within, rest)
 
 -- A backslash and a byte that it can pair are content.
@@ -198,7 +194,7 @@ goes_nowhere parts name content b none text quote backslash = grind (arith, nat_
 -- A run of bytes that may occur in a token is one, if there are any.
 pub token_part : (value : List ℕ) (from to : ℕ) → from < to → to ≤ length value → IsRun is_token_byte value from to
     → IsToken (slice_range value from to)
-token_part value from to some within run = token_from_test (slice_range value from to) (grind (arith, length-part value from to, run.all))
+token_part value from to some within run = grind (arith, length-part value from to, run.all)
 
 -- Bytes are no token with another byte among them.
 no_token_with : (before : List ℕ) (b : ℕ) (bytes : List ℕ) → is_token_byte b ≡ false

@@ -1,7 +1,6 @@
 -- The essence is written, and then each parameter that is read, up to a fault or the end.
 use Rattle.mime_http.proofs.Common.{RoomHolds, IsEssenceAt, List, Parts, after_semicolon, answer_at, answer_of, ap, ap₂, append_assoc}
-use Rattle.mime_http.proofs.Common.{codes}
-use Rattle.mime_http.proofs.Common.{append-nil, arith, before_semicolon, cases_lt, false, is_space, length, next, refl, slice_index}
+use Rattle.mime_http.proofs.Common.{codes, append-nil, arith, before_semicolon, cases_lt, false, is_space, length, next, refl, slice_index}
 use Rattle.mime_http.proofs.Common.{slice_range, subst, sym, text_of_parts, parts_with, [], ℕ, ◌+◌, ◌++◌, ◌<◌, ◌∙◌, ◌∷◌, ◌≡◌, ◌≤◌}
 use Rattle.mime_http.proofs.ReadAt.{length-part, nothing_between, one_written, over_byte, over_white_at, run_end, run_is}
 use Rattle.mime_http.proofs.Runs.{keeps_after, keeps_inside}
