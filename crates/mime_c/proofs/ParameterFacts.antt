@@ -29,7 +29,7 @@ replaced = refl
 
 -- A parameter has a name.
 no_name : (value : List ℕ) → ¬ (IsParameter [] value)
-no_name value is = is.named
+no_name value is = true≢false (sym is.named)
 
 -- A parameter's value has no line feed.
 no_line_feed : (name : List ℕ) → ¬ (IsParameter name (10 ∷ []))
