@@ -4,7 +4,9 @@
 pub use Rattle.mime.proofs.BytesLemmas.{list_all-wider, slice_get-prefix, boundary_after, AreTokenBytes-from_token, token-size, is_other}
 pub use Rattle.mime.proofs.BytesLemmas.{are_other-token}
 pub use Rattle.mime.proofs.ValueLemmas.Utf8.{high_bytes, length-in_part}
-pub use Rattle.mime.proofs.StopsLemmas.{in_ranges}
+pub use Rattle.mime.proofs.StopsLemmas.{are_quoted_text, in_ranges}
+-- What calls wrote, one after the other, is appended.
+pub use Rattle.mime.proofs.WriteLemmas.{appended, calls_then}
 -- Lowercase: it is idempotent, and keeps the length, a class that case doesn't matter to, and what a parameter's value is read as.
 pub use Rattle.mime.proofs.LowercaseLemmas.{lowered-lowered, list_all-lowered, IsToken-lowered, lowered_value-either, lowered_value-lowered}
 pub use Rattle.mime.proofs.LowercaseLemmas.{pairs_of_tail-lowered}

@@ -2,6 +2,7 @@
 pub mod BytesLemmas
 pub mod GrammarLemmas
 pub mod LowercaseLemmas
+pub mod WriteLemmas
 -- the sources
 pub mod ScanLemmas
 pub mod StopsLemmas

@@ -40,7 +40,7 @@ list_all-case class either bytes other is all =
 -- A token with letters of the other case is a token.
 pub IsToken-case : (bytes other : List ℕ) → lowered other ≡ lowered bytes → IsToken bytes → IsToken other
 unfolding is_token_byte
-IsToken-case [] other is token = absurd token
+IsToken-case [] other is token = absurd cc
 IsToken-case (b ∷ bytes) [] is token = absurd cc
 IsToken-case (b ∷ bytes) (c ∷ other) is token =
     list_all-case is_token_byte (λ x. grind (arith, nat_tests)) (b ∷ bytes) (c ∷ other) is token

@@ -1,7 +1,7 @@
 -- The laws of the cut, and of whole runs: what the calls of `next` on a `MimeIter` return, up to the first `None`.
-use Rattle.std.specs.Prelude.{◌≡◌, ◌≢◌, ◌<◌, ◌⊎◌, ℕ, Bool, ◌||◌, ◌==◌, IsTrue, List, [], ◌∷◌, ◌++◌, map, length, Result, Ok, Err}
+use Rattle.std.specs.Prelude.{◌≡◌, ◌≢◌, ◌⊎◌, ℕ, Bool, ◌||◌, ◌==◌, IsTrue, List, [], ◌∷◌, ◌++◌, map, Result, Ok, Err}
 use Rattle.std.specs.List.{AllByRecursion}
-use Rattle.mime.specs.Values.{MediaType, Reads, IsAccepted, IsRejected, OwnedMedia}
+use Rattle.mime.specs.Values.{MediaType, NeedsMemory, Reads, IsAccepted, IsRejected, OwnedMedia}
 use Rattle.mime.specs.Faults.{IsViable, IsUnclosed}
 use Rattle.std.specs.Char.{IsScalar, encode_utf8}
 use Rattle.std.specs.Str.{IsUtf8}
@@ -109,9 +109,9 @@ pub data AreGiven : List (Result OwnedMedia Bad) → List CutItem → Type 0 whe
   -- a bad piece for itself,
   a_piece : (piece : Bor (List ℕ)) (given : List (Result OwnedMedia Bad)) (items : List CutItem)
       → AreGiven given items → AreGiven (Err (Piece piece) ∷ given) (bad piece.now ∷ items)
-  -- and, at the end of what was yielded, out of memory for a good piece of which more than 40 bytes are kept
+  -- and, at the end of what was yielded, out of memory for a good piece that needs memory
   no_memory : (piece : List ℕ) (value : MediaType) (items : List CutItem)
-      → 40 < length value.kept → AreGiven (Err NoMemory ∷ []) (good piece value ∷ items)
+      → NeedsMemory value → AreGiven (Err NoMemory ∷ []) (good piece value ∷ items)
 
 -- A run yields the items of the cut of what was left.
 abbrev pub RunGivesCut : Type 0

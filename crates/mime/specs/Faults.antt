@@ -1,7 +1,7 @@
 -- Why a text is rejected: which texts may still become a media type, the longest prefix of a text that may, and its one fault.
 use Rattle.std.specs.Prelude.{◌≡◌, ℕ, ◌<◌, ◌≤◌, List, [], ◌∷◌, ◌++◌, length, take, slice_get, Option, Some, None, MatchOption, codes, ⊤}
 use Rattle.mime.specs.Bytes.{slash_byte, equals_byte}
-use Rattle.mime.specs.Values.{MediaType, Reads, IsAccepted}
+use Rattle.mime.specs.Values.{MediaType, NeedsMemory, Reads, IsAccepted}
 use Rattle.mime.specs.declared.scan.fault.ParseError.{ParseError}
 use Rattle.mime.specs.declared.scan.fault.ParseError.TheVariants.{MissingSlash, MissingSubtype, MissingEqual, MissingValue, MissingQuote}
 use Rattle.mime.specs.declared.scan.fault.ParseError.TheVariants.{InvalidToken, NoMemory}
@@ -62,7 +62,7 @@ abbrev pub IsFault : List ℕ → ParseError → Type 0
 IsFault text (InvalidToken pos byte) = IsDeadAt text pos byte
 IsFault text fault = Lacks text fault
 
--- why reading a text fails: by its fault, or out of memory, which happens only if it is accepted and more than 40 bytes are kept
+-- why reading a text fails: by its fault, or out of memory, which happens only if it is read as a media type that needs memory
 abbrev pub Explains : List ℕ → ParseError → Type 0
-Explains text NoMemory = (value : MediaType) × Reads text value × (40 < length value.kept)
+Explains text NoMemory = (value : MediaType) × Reads text value × NeedsMemory value
 Explains text fault = IsFault text fault

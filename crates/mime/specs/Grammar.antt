@@ -1,6 +1,6 @@
 -- The grammar of media types: the syntax trees, the text of each, and which trees are well formed
 -- (RFC 7231, 3.1.1.1, with the departures that docs/DIFFERENCES.md lists).
-use Rattle.std.specs.Prelude.{ℕ, List, [], ◌∷◌, ◌++◌, ◌==◌, ◌||◌, Bool, IsTrue, ⊤}
+use Rattle.std.specs.Prelude.{ℕ, List, [], ◌∷◌, ◌++◌, ◌==◌, ◌||◌, Bool, false, IsTrue, ⊤}
 use Rattle.std.specs.List.{list_all}
 use Rattle.mime.specs.Bytes.{is_token_byte, is_quoted_byte, is_quoted_text_byte, slash_byte, semicolon_byte, equals_byte, quote_byte}
 use Rattle.mime.specs.Bytes.{backslash_byte, space_byte, tab_byte}
@@ -60,9 +60,12 @@ abbrev pub AreTokenBytes : List ℕ → Type 0
 AreTokenBytes bytes = IsTrue (list_all is_token_byte bytes)
 
 -- token = 1*tchar
+abbrev pub is_token : List ℕ → Bool
+is_token [] = false
+is_token (b ∷ bytes) = list_all is_token_byte (b ∷ bytes)
+
 abbrev pub IsToken : List ℕ → Type 0
-IsToken [] = ⊥
-IsToken (b ∷ bytes) = AreTokenBytes (b ∷ bytes)
+IsToken bytes = IsTrue (is_token bytes)
 
 -- content = *( qdtext / quoted-pair ), with its backslashes (RFC 7230, 3.2.6)
 pub data IsContent : List ℕ → Type 0 where

@@ -1,6 +1,6 @@
 -- How contracts see a `MimeIter`, and what one call of its `next` returns.
-use Rattle.std.specs.Prelude.{◌≡◌, ℕ, ◌<◌, ◌≤◌, Bool, true, false, List, [], ◌∷◌, length, Option, Some, None, Result, Ok, Err, codes}
-use Rattle.mime.specs.Values.{MediaType, OwnedMedia}
+use Rattle.std.specs.Prelude.{◌≡◌, ℕ, ◌≤◌, Bool, true, false, List, [], ◌∷◌, length, Option, Some, None, Result, Ok, Err, codes}
+use Rattle.mime.specs.Values.{MediaType, NeedsMemory, OwnedMedia}
 use Rattle.mime.specs.Cut.{CutItem, good, bad, Cut, TakesSteps}
 use Rattle.mime.specs.declared.iter.Bad.{Bad}
 use Rattle.mime.specs.declared.iter.Bad.TheVariants.{Piece, NoMemory}
@@ -16,10 +16,10 @@ pub record Iteration : Type 0 where
 abbrev pub IsFirstItem : List ℕ → CutItem → List ℕ → Type 0
 IsFirstItem text item left = (items : List CutItem) (rest : List ℕ) → Cut left items rest → Cut text (item ∷ items) rest
 
--- the first item of the text's cut is a media type of which more than 40 bytes are kept, which needs memory
+-- the first item of the text's cut is a media type that needs memory
 abbrev pub FirstNeedsMemory : List ℕ → Type 0
 FirstNeedsMemory text = (piece : List ℕ) × (value : MediaType) × (items : List CutItem) × (rest : List ℕ)
-    × Cut text (good piece value ∷ items) rest × (40 < length value.kept)
+    × Cut text (good piece value ∷ items) rest × NeedsMemory value
 
 -- the text's cut has no item
 abbrev pub HasNoItem : List ℕ → Type 0

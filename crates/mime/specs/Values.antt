@@ -1,15 +1,12 @@
 -- What a text is read as: the value of a tree, and the parts that callers see.
-use Rattle.std.specs.Prelude.{◌≡◌, ℕ, ◌+◌, Bool, List, [], ◌∷◌, ◌++◌, length, take, drop, slice_range, Option, Some, None, unwrap_or}
+use Rattle.std.specs.Prelude.{◌≡◌, ◌<◌, ℕ, ◌+◌, Bool, List, [], ◌∷◌, ◌++◌, length, take, drop, slice_range, Option, Some, None, unwrap_or}
 use Rattle.std.specs.Prelude.{if◌then◌else◌, ◌==◌, codes}
-use Rattle.std.specs.Str.{str_to_ascii_lowercase, bytes_eq}
+use Rattle.std.specs.Str.{bytes_eq}
 use Rattle.std.specs.Option.{option_or, option_map}
 use Rattle.mime.specs.Bytes.{slash_byte, plus_byte}
 use Rattle.mime.specs.Grammar.{Parameter, plain, quoted, Parameters, blank, final, more, Tail, no_list, listed, SyntaxTree, text_of}
 use Rattle.mime.specs.Grammar.{IsWellFormed}
-
--- the text with each ASCII capital replaced by its lowercase letter
-abbrev pub lowered : List ℕ → List ℕ
-lowered text = str_to_ascii_lowercase text
+pub use Rattle.mime_search.specs.IgnoringCase.{lowered}
 
 -- whether a parameter's name is `charset`, ignoring ASCII case
 abbrev pub is_charset : List ℕ → Bool
@@ -65,6 +62,14 @@ pub record MediaType : Type 0 where
   pub plus : Option ℕ
   pub pairs : List (List ℕ × List ℕ)
   pub kept : List ℕ
+
+-- the most bytes of a kept text that a `Mime` stores in itself, without memory of its own
+abbrev pub most_in_place : ℕ
+most_in_place = 40
+
+-- a media type needs memory: more bytes of it are kept
+abbrev pub NeedsMemory : MediaType → Type 0
+NeedsMemory media = most_in_place < length media.kept
 
 -- the essence: type, slash and subtype
 abbrev pub essence_of : SyntaxTree → List ℕ

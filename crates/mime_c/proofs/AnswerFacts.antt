@@ -13,7 +13,8 @@ use Rattle.mime_http.specs.declared.value.FieldError.TheVariants as field
 use Rattle.mime_c.specs.{Strings.strings, Strings.ComeBack, Strings.texts_of, Strings.item_texts, Strings.overwritten, Answers.number_of}
 use Rattle.mime_c.specs.{Answers.number_of_error, Answers.found_at, Answers.found_of, Answers.found_of_error, Answers.nothing_found}
 use Rattle.mime_c.specs.{Answers.has_room, Answers.has_no_room, Answers.has_media, Answers.fails, Answers.TextExplains, Answers.are_written}
-use Rattle.mime_c.specs.{Answers.ReadsTo, Answers.NeedsMemory, Answers.ListsTo, Answers.is_listed, Answers.Compares, Answers.are_compared}
+use Rattle.mime_c.specs.{Answers.ReadsTo, Answers.ListNeedsMemory, Answers.ListsTo, Answers.is_listed, Answers.Compares}
+use Rattle.mime_c.specs.{Answers.are_compared}
 use Rattle.mime_c.specs.{declared.MimeFound.MimeFound, declared.TheConstants.MIME_OK, declared.TheConstants.MIME_NO_MEMORY}
 use Rattle.mime_c.specs.{declared.TheConstants.MIME_NOT_UTF8, declared.TheConstants.MIME_NO_ROOM}
 use Rattle.mime_c.proofs.OneOutcome.{reads_to_one, lists_to_one, compares_as_one}
@@ -145,12 +146,12 @@ reads_long = record {
 }
 
 -- The text of 41 bytes needs memory.
-long_needs : NeedsMemory long
+long_needs : ListNeedsMemory long
 unfolding long long_value
 long_needs = (good long long_value ∷ [], [], long, long_value, whole long long_value reads_long, (0, omega arith, refl), omega arith)
 
 -- The empty text needs no memory.
-pub empty_needs_none : ¬ (NeedsMemory [])
+pub empty_needs_none : ¬ (ListNeedsMemory [])
 empty_needs_none (items, rest, piece, media, cut, has, more) = search (cut_unique, empty-cut, rules)
 
 -- The byte 255 is no text by itself.

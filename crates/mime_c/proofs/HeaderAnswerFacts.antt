@@ -2,8 +2,9 @@
 use Rattle.std.proofs.Common.{◌≡◌, ℕ, true, false, List, [], ◌∷◌, ◌++◌, refl, arith, codes, None, rules}
 use Rattle.mime.specs.Values.{MediaType}
 use Rattle.mime_http.specs.HttpList.{line_end, no_line, blank, no_text, piece_end}
+use Rattle.mime_http.specs.Weight.{four_digits}
 use Rattle.mime_c.specs.{Strings.strings, Answers.nothing_found, Answers.has_no_room}
-use Rattle.mime_c.specs.{HeaderAnswers.HeaderReadsTo, HeaderAnswers.four_digits}
+use Rattle.mime_c.specs.{HeaderAnswers.HeaderReadsTo}
 use Rattle.mime_c.specs.{HeaderAnswers.range_texts, HeaderAnswers.AcceptsTo, HeaderAnswers.header_lines, HeaderAnswers.HaveNoEntry}
 use Rattle.mime_c.specs.{HeaderAnswers.are_offers, HeaderAnswers.BestIs, HeaderAnswers.none_is_best, HeaderAnswers.OrderIs}
 use Rattle.mime_c.specs.{HeaderAnswers.none_is_ordered, declared.MimeFound.MimeFound, declared.TheConstants.MIME_OK}

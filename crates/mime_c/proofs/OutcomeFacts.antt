@@ -15,7 +15,7 @@ use Rattle.mime_http.specs.declared.value.FieldError.TheVariants as field
 use Rattle.mime_c.specs.Strings.{strings, ComeBack, texts_of, item_texts, overwritten}
 use Rattle.mime_c.specs.Answers.{number_of_error, found_of_error, nothing_found, has_room, has_no_room, has_media, fails}
 use Rattle.mime_c.specs.Answers.{TextExplains, are_written}
-use Rattle.mime_c.specs.Answers.{ReadsTo, NeedsMemory, ListsTo, is_listed, has_no_memory, is_not_text, Compares, are_compared}
+use Rattle.mime_c.specs.Answers.{ReadsTo, ListNeedsMemory, ListsTo, is_listed, has_no_memory, is_not_text, Compares, are_compared}
 use Rattle.mime_c.specs.declared.MimeFound.{MimeFound}
 use Rattle.mime_c.specs.declared.TheConstants.{MIME_OK, MIME_NO_MEMORY}
 use Rattle.mime_c.proofs.AnswerFacts.{empty_needs_none}
@@ -39,7 +39,7 @@ reads_for_memory is (has_no_room short) = absurd (omega (arith, is))
 
 -- If memory runs out, `mime_list` had room, and its text has an item that needs memory.
 lists_for_memory : {text old : List ℕ} {n : ℕ} {held : List ℕ × ℕ} → n ≡ MIME_NO_MEMORY → ListsTo text old n held
-    → (held.1 ≡ 0) × (2 * length text ≤ length old) × IsUtf8 text × NeedsMemory text
+    → (held.1 ≡ 0) × (2 * length text ≤ length old) × IsUtf8 text × ListNeedsMemory text
 lists_for_memory is (has_room _ _ room (has_no_memory new utf8 needs)) = (refl, room, utf8, needs)
 lists_for_memory is (has_room _ _ room (is_listed items rest utf8 cut back)) = absurd (omega (arith, is))
 lists_for_memory is (has_room _ _ room (is_not_text isnt)) = absurd (omega (arith, is))

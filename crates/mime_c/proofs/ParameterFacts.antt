@@ -30,7 +30,7 @@ replaced = refl
 
 -- A parameter has a name.
 no_name : (value : List ℕ) → ¬ (CanBeParameter [] value)
-no_name value is = is.named
+no_name value is = true≢false (sym is.named)
 
 -- A parameter's value has no line feed.
 no_line_feed : (name : List ℕ) → ¬ (CanBeParameter name (10 ∷ []))

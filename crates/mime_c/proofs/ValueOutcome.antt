@@ -1,7 +1,7 @@
 -- Each call for one value has one outcome, unless memory runs out.
 use Rattle.std.proofs.Common.{◌≡◌, ◌≢◌, ℕ, ◌⊎◌, inl, inr, List, [], ◌∷◌, refl, sym, ◌∙◌, subst, arith, ⊎_elim, codes, rules}
 use Rattle.std.specs.Prelude.{bytes_eq}
-use Rattle.std.specs.{List.list_all, Option.option_map, Str.IsUtf8}
+use Rattle.std.specs.{List.list_all, Option.option_map}
 use Rattle.std.proofs.lemmas.Bool.{cases_Bool, true≢false}
 use Rattle.std.proofs.lemmas.Option.{same_Some, none-some}
 use Rattle.std.proofs.lemmas.Slice.Eq.{bytes_eq-Decides}
@@ -9,7 +9,7 @@ use Rattle.mime.specs.{Bytes.is_quoted_byte, Grammar.IsToken, Values.MediaType, 
 use Rattle.mime.proofs.HandedOut.{kept_is_safe, kept_is_read}
 use Rattle.mime_http.specs.Boundary.{IsBoundary, IsBoundaryOf}
 use Rattle.mime_http.specs.HttpMediaType.{HttpReads}
-use Rattle.mime_http.specs.HttpList.{IsPrinted}
+use Rattle.mime_http.specs.HttpList.{FieldReads}
 use Rattle.mime_http.specs.HttpFaults.{IsHttpFault, HttpExplains}
 use Rattle.mime_http.specs.Ranges.{first_value}
 use Rattle.mime_http.specs.Unescaped.{unescaped}
@@ -37,13 +37,9 @@ use Rattle.mime_c.proofs.ParameterRoom.{set_comes_back, boundary_comes_back}
 value_number : (value : List ℕ) (fault : ParseError) → IsHttpFault value fault → number_of fault ≢ MIME_NO_MEMORY
 value_number value fault is = search rules
 
--- What is read of a value.
-abbrev IsRead : List ℕ → MediaType → Type 0
-IsRead value media = IsUtf8 value × HttpReads value media × IsPrinted value media
-
 module _ (value : List ℕ) where
   -- A value that is read has no error.
-  never_both : (media : MediaType) (error : FieldError) → number_of_error error ≢ MIME_NO_MEMORY → IsRead value media
+  never_both : (media : MediaType) (error : FieldError) → number_of_error error ≢ MIME_NO_MEMORY → FieldReads value media
       → ¬ (HttpExplains value error)
   never_both media error some is = search (no_field_error, rules)
 
@@ -53,7 +49,7 @@ module _ (value : List ℕ) where
   one_fault_of one two h k why too = search (one_field_error, rules)
 
   -- A value is read, or has an error.
-  value_or_error : ((media : MediaType) × IsRead value media)
+  value_or_error : ((media : MediaType) × FieldReads value media)
       ⊎ ((error : FieldError) × (number_of_error error ≢ MIME_NO_MEMORY) × HttpExplains value error)
   value_or_error = ⊎_elim
       (λ utf8. ⊎_elim (λ is. inl (is.0, (utf8, is.1, is.2)))
@@ -63,7 +59,7 @@ module _ (value : List ℕ) where
       (utf8_or_not value)
 
   -- The reading of a value finds one media type or one error.
-  reading_of_value : IsReading (IsRead value) (HttpExplains value)
+  reading_of_value : IsReading (FieldReads value) (HttpExplains value)
   reading_of_value = record {
     either = value_or_error;
     one_media = λ one two is too. one_printed_text value two one too.1 too.2 is.1 is.2;

@@ -11,10 +11,10 @@ use Rattle.mime.specs.Runs as runs
 use Rattle.mime.proofs.HandedOut.{has_cut}
 use Rattle.mime_c.specs.Strings.{string_of, strings, parts_of, texts_of, item_text, item_texts}
 use Rattle.mime_c.specs.Writing.{HasWritten, Writes}
-use Rattle.mime_c.specs.HeaderAnswers.{four_digits, range_texts, ranges_texts}
+use Rattle.mime_c.specs.HeaderAnswers.{range_texts, ranges_texts}
 use Rattle.mime_c.specs.Answers.{has_room, ListsTo, is_listed, has_no_memory}
 use Rattle.mime_c.specs.declared.TheConstants.{MIME_OK, MIME_NO_MEMORY}
-use Rattle.mime_http.specs.Ranges.{weight_of}
+use Rattle.mime_http.specs.{Ranges.weight_of, Weight.four_digits}
 use Rattle.mime_c.proofs.{NoZero.pair_texts, NoZero.items_come_back, Room.items_fit, Room.strings_of_items}
 
 -- Bytes are written after others.

@@ -1,7 +1,7 @@
 -- What each call answers, and what the caller's buffer and structs hold then.
 use Rattle.std.specs.Prelude.{ℕ, ◌+◌, ◌*◌, ◌<◌, ◌≤◌, Bool, IsTrue, if◌then◌else◌, List, length, ◌↔◌, Contains}
 use Rattle.std.specs.Str.{IsUtf8, IsValidUpTo}
-use Rattle.mime.specs.Values.{MediaType, Reads, type_of, subtype_of}
+use Rattle.mime.specs.Values.{MediaType, NeedsMemory, Reads, type_of, subtype_of}
 use Rattle.mime.specs.Comparison.{Same}
 use Rattle.mime.specs.Faults.{Explains}
 use Rattle.mime.specs.Cut.{CutItem, good, Cut}
@@ -90,16 +90,16 @@ pub data AreWritten (old : List ℕ) (media : MediaType) : ℕ → List ℕ × M
 abbrev pub ReadsTo : List ℕ → List ℕ → ℕ → List ℕ × MimeFound → Type 0
 ReadsTo text old = InRoom (2 * length text + 2) old (old, nothing_found) (OfText text (λ found. (old, found)) (AreWritten old))
 
--- an item of the text's cut is a media type of which more than 40 bytes are kept
-abbrev pub NeedsMemory : List ℕ → Type 0
-NeedsMemory text = (items : List CutItem) × (rest piece : List ℕ) × (media : MediaType) × Cut text items rest
-    × Contains items (good piece media) × (40 < length media.kept)
+-- an item of the text's cut is a media type that needs memory
+abbrev pub ListNeedsMemory : List ℕ → Type 0
+ListNeedsMemory text = (items : List CutItem) × (rest piece : List ℕ) × (media : MediaType) × Cut text items rest
+    × Contains items (good piece media) × NeedsMemory media
 
 -- `mime_list` of a text, with the caller's buffer: the answer, and what the buffer holds then and how many bytes were written
 pub data AreListed (text old : List ℕ) : ℕ → List ℕ × ℕ → Type 0 where
   is_listed : (items : List CutItem) (rest : List ℕ) → IsUtf8 text → Cut text items rest → ComeBack (item_texts items)
       → AreListed text old MIME_OK (overwritten (strings (item_texts items)) old, length (strings (item_texts items)))
-  has_no_memory : (new : List ℕ) → IsUtf8 text → NeedsMemory text → AreListed text old MIME_NO_MEMORY (new, 0)
+  has_no_memory : (new : List ℕ) → IsUtf8 text → ListNeedsMemory text → AreListed text old MIME_NO_MEMORY (new, 0)
   is_not_text : ¬ (IsUtf8 text) → AreListed text old MIME_NOT_UTF8 (old, 0)
 
 abbrev pub ListsTo : List ℕ → List ℕ → ℕ → List ℕ × ℕ → Type 0

@@ -1,11 +1,10 @@
 -- What the calls for headers answer, and what the caller's buffer and structs hold then.
-use Rattle.std.specs.Prelude.{◌≡◌, ◌≢◌, ℕ, ◌+◌, ◌*◌, ◌/◌, ◌%◌, Bool, List, [], ◌∷◌, ◌++◌, length, if◌then◌else◌, Some, None, flat_map}
-use Rattle.std.specs.Str.{IsUtf8}
+use Rattle.std.specs.Prelude.{◌≡◌, ◌≢◌, ℕ, ◌+◌, ◌*◌, Bool, List, [], ◌∷◌, ◌++◌, length, if◌then◌else◌, Some, None, flat_map}
 use Rattle.mime.specs.Values.{MediaType}
-use Rattle.mime_http.specs.HttpMediaType.{HttpReads}
 use Rattle.mime_http.specs.HttpFaults.{HttpExplains}
-use Rattle.mime_http.specs.HttpList.{IsPrinted, Header, IsHeader, IsFirstBad}
+use Rattle.mime_http.specs.HttpList.{FieldReads, Header, IsHeader, IsFirstBad}
 use Rattle.mime_http.specs.Ranges.{weight_of, best_offer, AreInOrder}
+use Rattle.mime_http.specs.Weight.{four_digits}
 use Rattle.mime_c.specs.Strings.{strings, ComeBack, parts_of, overwritten}
 use Rattle.mime_c.specs.Answers.{nothing_found, InRoom, Succeeds, Of, AreWritten}
 use Rattle.mime_c.specs.declared.MimeFound.{MimeFound}
@@ -14,15 +13,11 @@ use Rattle.mime_c.specs.declared.TheConstants.{MIME_OK, MIME_NO_MEMORY, MIME_NOT
 -- a call reads a header's value as a media type that HTTP allows: it is printed as `mime_read` prints it, or anew if `mime_read` rejects it
 -- without the white space around it
 abbrev pub OfValue : {Held : Type 0} → List ℕ → (MimeFound → Held) → (MediaType → ℕ → Held → Type 0) → ℕ → Held → Type 0
-OfValue value failed Is = Of (λ media. IsUtf8 value × HttpReads value media × IsPrinted value media) (HttpExplains value) failed Is
+OfValue value failed Is = Of (FieldReads value) (HttpExplains value) failed Is
 
 -- `mime_content_type` of a value, with the caller's buffer: the answer, and what the buffer holds then and what is found
 abbrev pub HeaderReadsTo : List ℕ → List ℕ → ℕ → List ℕ × MimeFound → Type 0
 HeaderReadsTo value old = InRoom (3 * length value + 2) old (old, nothing_found) (OfValue value (λ found. (old, found)) (AreWritten old))
-
--- a number below 10,000 in four digits
-abbrev pub four_digits : ℕ → List ℕ
-four_digits n = (48 + n / 1000) ∷ (48 + n / 100 % 10) ∷ (48 + n / 10 % 10) ∷ (48 + n % 10) ∷ []
 
 -- the texts of a range: its weight in thousandths, its parts, and an empty one, which no name of a parameter is
 abbrev pub range_texts : MediaType → List (List ℕ)

@@ -14,7 +14,8 @@ ghost use Rattle.mime_c.specs.Writing.{Writes};
 ghost use Rattle.mime_c.specs.Answers.{number_of, number_of_error, found_of_error, found_of, TextExplains, ReadsTo, ListsTo, Compares};
 ghost use Rattle.mime_http.specs.HttpList.{Header, IsHeader};
 ghost use Rattle.mime_http.specs.Ranges.{weight_of};
-ghost use Rattle.mime_c.specs.HeaderAnswers.{HeaderReadsTo, four_digits, range_texts, AcceptsTo, header_lines, HaveNoEntry};
+ghost use Rattle.mime_http.specs.Weight.{four_digits};
+ghost use Rattle.mime_c.specs.HeaderAnswers.{HeaderReadsTo, range_texts, AcceptsTo, header_lines, HaveNoEntry};
 ghost use Rattle.mime_c.specs.HeaderAnswers.{OfOffers, BestIs, OrderIs};
 
 pub mod laws;

@@ -3,12 +3,11 @@ use Rattle.std.proofs.Common.{◌≡◌, ℕ, List, [], ◌∷◌, ◌++◌, len
 use Rattle.std.proofs.{Math.Seq.get_or-append_seam, lemmas.Option.same_Some}
 use Rattle.mime.specs.{Bytes.is_token_byte, Values.MediaType, Values.Reads, Faults.IsViable, Faults.IsLongestPrefix, Faults.completion_of}
 use Rattle.mime.specs.{Faults.last_byte_of, Faults.EndsIn, Faults.Lacks, Faults.IsUnclosed, Faults.IsDeadAt, Faults.IsFault}
-use Rattle.mime.specs.{Faults.Explains, declared.scan.fault.ParseError.ParseError, declared.scan.fault.ParseError.TheVariants.MissingSlash}
+use Rattle.mime.specs.{Faults.Explains, declared.scan.fault.ParseError.TheVariants.MissingSlash}
 use Rattle.mime.specs.{declared.scan.fault.ParseError.TheVariants.MissingSubtype, declared.scan.fault.ParseError.TheVariants.MissingEqual}
 use Rattle.mime.specs.{declared.scan.fault.ParseError.TheVariants.MissingValue, declared.scan.fault.ParseError.TheVariants.MissingQuote}
 use Rattle.mime.specs.{declared.scan.fault.ParseError.TheVariants.InvalidToken, declared.scan.fault.ParseError.TheVariants.NoMemory}
-use Rattle.mime.proofs.{GrammarLemmas.Faults.one_fault, GrammarLemmas.Faults.completed_is_rejected, GrammarLemmas.Faults.fault-from_lacks}
-use Rattle.mime.proofs.{GrammarLemmas.Readings.one_reading, GrammarLemmas.Readings.stopped-from_walk}
+use Rattle.mime.proofs.{GrammarLemmas.Faults.lacks_unique, GrammarLemmas.Readings.one_reading, GrammarLemmas.Readings.stopped-from_walk}
 use Rattle.mime.proofs.{GrammarLemmas.Viability.accepted_is_viable, GrammarLemmas.Viability.not_viable-at_dead}
 use Rattle.mime.proofs.{GrammarLemmas.Viability.prefix_unique, GrammarLemmas.Viability.viable-from_lacks}
 use Rattle.mime.proofs.{GrammarLemmas.Viability.lacks-from_walk}
@@ -53,12 +52,6 @@ ends_in_no_letter (prefix, is) =
     ap (λ t. get_or t (length prefix) 0) is ∙ get_or-append_seam prefix 97 [] 0 in
     absurd (omega (arith, sym (ap (λ n. get_or (codes "a/") n 0) size) ∙ at))
 
--- A text that lacks something lacks nothing else.
-lacks_alone : (text : List ℕ) (fault other : ParseError) → Lacks text fault → Lacks text other → fault ≡ other
-lacks_alone text fault other lacks also =
-    let one = one_fault text (completed_is_rejected text fault lacks) in
-    one.2 fault (fault-from_lacks text fault lacks) ∙ sym (one.2 other (fault-from_lacks text other also))
-
 -- A lone type lacks its slash.
 pub e_lacks_slash : Lacks (codes "e") MissingSlash
 unfolding is_token_byte
@@ -66,7 +59,7 @@ e_lacks_slash = lacks-from_walk (codes "e") _ refl refl
 
 -- A lone type has no open quotes.
 pub e_is_closed : ¬ (IsUnclosed (codes "e"))
-e_is_closed is = absurd (cc (lacks_alone (codes "e") MissingSlash MissingQuote e_lacks_slash is))
+e_is_closed is = absurd (cc (lacks_unique (codes "e") MissingSlash MissingQuote e_lacks_slash is))
 
 -- What lacks a subtype ends in its slash, and what lacks a value ends in its equals sign; an accepted text lacks nothing.
 what_is_lacking :
@@ -75,14 +68,14 @@ what_is_lacking :
 unfolding is_token_byte
 what_is_lacking = (
   no_subtype,
-  (λ is. absurd (cc (lacks_alone (codes "text/") MissingSubtype MissingValue no_subtype is))),
-  (λ is. absurd (cc (lacks_alone (codes "a/b;p=") MissingValue MissingSubtype no_value is))),
+  (λ is. absurd (cc (lacks_unique (codes "text/") MissingSubtype MissingValue no_subtype is))),
+  (λ is. absurd (cc (lacks_unique (codes "a/b;p=") MissingValue MissingSubtype no_value is))),
   λ is. stopped-from_walk (codes "A/Bx/x") refl is.0,
 )
 
 -- A quote that a backslash pairs closes no value.
 unclosed : IsUnclosed (codes "a/b;p=\"\\\"") × ¬ (IsUnclosed (codes "a/b;p"))
-unclosed = (no_quote, λ is. absurd (cc (lacks_alone (codes "a/b;p") MissingEqual MissingQuote no_equals is)))
+unclosed = (no_quote, λ is. absurd (cc (lacks_unique (codes "a/b;p") MissingEqual MissingQuote no_equals is)))
 
 -- The byte at fault and its position.
 dead : IsDeadAt (codes "a b") 1 32 × ¬ (IsDeadAt (codes "a b") 1 33) × ¬ (IsDeadAt (codes "a b") 2 98)

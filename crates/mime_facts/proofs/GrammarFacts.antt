@@ -62,7 +62,7 @@ texts = (refl, refl, refl, refl, refl, refl)
 -- A token has one byte or more, and only token bytes.
 tokens : AreTokenBytes [] × IsToken (codes "x-a") × ¬ (AreTokenBytes (codes "a b")) × ¬ (IsToken (codes "a b")) × ¬ (IsToken [])
 unfolding is_token_byte
-tokens = (refl, refl, (λ is. false≢true is), (λ is. false≢true is), λ is. is)
+tokens = (refl, refl, (λ is. false≢true is), (λ is. false≢true is), λ is. false≢true is)
 
 -- Content pairs each backslash, and has no quote but after one.
 contents : IsContent [] × IsContent (codes "\\\"x") × ¬ (IsContent (codes "x\"")) × ¬ (IsContent (codes "x\\"))
@@ -80,7 +80,13 @@ parameters :
     × ¬ (IsParameter (plain (codes "p") [])) × ¬ (IsParameter (quoted [] (codes "x") []))
     × ¬ (IsParameter (quoted (codes "p") [] (codes "x")))
 unfolding is_token_byte is_quoted_byte
-parameters = ((refl, refl), (refl, IsContent-taken [] refl refl, refl), (λ is. is.1), (λ is. is.0), λ is. false≢true is.2)
+parameters = (
+  (refl, refl),
+  (refl, IsContent-taken [] refl refl, refl),
+  (λ is. false≢true is.1),
+  (λ is. false≢true is.0),
+  λ is. false≢true is.2,
+)
 
 -- The spaces before a parameter are spaces, and the rest of its list is well formed too.
 lists :
@@ -102,4 +108,4 @@ trees :
     × ¬ (IsWellFormed (record { top = codes "a"; sub = []; tail = no_list }))
     × ¬ (IsWellFormed (record { top = codes "a"; sub = codes "b"; tail = listed (blank (codes "x")) }))
 unfolding is_token_byte
-trees = (tt, (refl, refl, tt), (λ is. is.0), (λ is. is.1), λ is. false≢true is.2)
+trees = (tt, (refl, refl, tt), (λ is. false≢true is.0), (λ is. false≢true is.1), λ is. false≢true is.2)

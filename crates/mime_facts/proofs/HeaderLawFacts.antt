@@ -76,7 +76,7 @@ header_bytes = (refl, λ are. false≢true are)
 -- A pair has a token and quoted content.
 which_pairs_are_safe : IsSafePair (codes "p", []) × ¬ (IsSafePair ([], codes "x")) × ¬ (IsSafePair (codes "p", codes "\""))
 unfolding is_token_byte is_quoted_byte
-which_pairs_are_safe = ((refl, IsContent-taken [] refl refl), (λ is. is.0), λ is. false≢true (content-taken _ is.1))
+which_pairs_are_safe = ((refl, IsContent-taken [] refl refl), (λ is. false≢true is.0), λ is. false≢true (content-taken _ is.1))
 
 -- A value with a line feed, without a type or a subtype, with a space in its suffix, or with a parameter without a name isn't safe.
 unsafe_values :
@@ -84,7 +84,13 @@ unsafe_values :
     × ¬ (IsSafe (record plain_value { essence = codes "a/" })) × ¬ (IsSafe (record two_pluses { essence = codes "a/b+c+ " }))
     × ¬ (IsSafe (record plain_value { pairs = ([], []) ∷ [] }))
 unfolding is_token_byte is_quoted_byte
-unsafe_values = ((λ is. false≢true is.kept), (λ is. is.top), (λ is. is.sub), (λ is. false≢true is.suffix), λ is. is.pairs.0.0)
+unsafe_values = (
+  (λ is. false≢true is.kept),
+  (λ is. false≢true is.top),
+  (λ is. false≢true is.sub),
+  (λ is. false≢true is.suffix),
+  λ is. false≢true is.pairs.0.0,
+)
 
 -- What is read of `A/B;P="x"`, and of `a/b+c+d`, is safe.
 safe_values : KeptIsSafe → IsSafe quoted_x × IsSafe two_pluses

@@ -1,16 +1,17 @@
 -- Worked facts of the pages `HttpMediaType`, `HttpFaults` and `HttpList`, and of `Unescaped`, `Written` and `Boundary`: values that are
 -- media types, values that aren't, their faults, and what is printed of a value.
 use Rattle.mime_http.proofs.Common.{Parameter, SyntaxTree, IsUtf8-nil, HttpExplains, HttpReads, InvalidToken, IsBoundary, IsBoundaryOf}
-use Rattle.mime_http.proofs.Common.{IsContent-taken, IsHttpFault, IsHttpMediaType, IsPrinted, List, MediaType, media_of, MissingQuote}
-use Rattle.mime_http.proofs.Common.{MissingSubtype, MissingValue, NeedsMemory, None, Parts, [], anew, ap, arith, as_it_stands, bytes_eq}
-use Rattle.mime_http.proofs.Common.{bytes_eq-Decides, codes, escaped, false, final, is_quoted_byte, is_token_byte, is_token_value, length}
-use Rattle.mime_http.proofs.Common.{listed, others, quoted, refl, same_Some, stopped-from_walk, sym, text_of_pair, text_of_pairs, trimmed}
-use Rattle.mime_http.proofs.Common.{true, true≢false, unescaped, with_pair, with_pairs, ℕ, ◌++◌, ◌∙◌, ◌∷◌, ◌≡◌, ◌≢◌}
+use Rattle.mime_http.proofs.Common.{IsContent-taken, IsHttpFault, IsHttpMediaType, IsPrinted, List, MediaType, media_of_parts, MissingQuote}
+use Rattle.mime_http.proofs.Common.{MissingSubtype, MissingValue, ValueNeedsMemory, None, Parts, [], anew, ap, arith, as_it_stands}
+use Rattle.mime_http.proofs.Common.{codes, escaped, false, final, is_quoted_byte, is_token_byte, is_token}
+use Rattle.mime_http.proofs.Common.{length, listed, others, quoted, refl, same_Some, stopped-from_walk, sym, text_of_pair, text_of_pairs}
+use Rattle.mime_http.proofs.Common.{trimmed, true, true≢false, unescaped, with_pair, with_pairs, ℕ, ◌++◌, ◌∷◌, ◌≡◌, ◌≢◌}
 use Rattle.mime_http.specs.{declared.value.FieldError.TheVariants.Invalid, declared.value.FieldError.TheVariants.NotUtf8}
 use Rattle.mime_http.specs.{declared.value.FieldError.TheVariants.NoMemory as OutOfMemory, HttpFaults.fault_position}
 use Rattle.mime_http.proofs.{Around.white_more, Around.put_ascii, HttpLaws.one_printed_text, HttpLaws.short_needs_none, HttpLaws.anew_needs}
 use Rattle.mime_http.proofs.{HttpLaws.anew_is, HttpLaws.written_reads, ReadBack.answered_is_http, ReadFaults.answered_fault}
 use Rattle.mime_http.proofs.{ReadFaults.fault_answered, ReadFaults.rejected_is_none as none}
+use Rattle.mime_facts.proofs.ValueFacts.{differ}
 
 -- This is ` text/HTML ;; charset="UTF-8" `.
 abbrev value : List ℕ
@@ -115,14 +116,14 @@ abbrev letter_parts : List ℕ → Parts
 letter_parts letters = record { top = codes "a"; sub = codes "b"; pairs = (codes "p", letters) ∷ [] }
 
 -- A value that prints 41 bytes needs memory. One that prints 40 needs none, nor does what is no media type.
-memory : NeedsMemory (lettered (codes "abcdefghijklmnopqrstuvwxyzabcdefgh"))
-    × ¬ (NeedsMemory (lettered (codes "abcdefghijklmnopqrstuvwxyzabcdefg"))) × ¬ (NeedsMemory (codes "a b"))
+memory : ValueNeedsMemory (lettered (codes "abcdefghijklmnopqrstuvwxyzabcdefgh"))
+    × ¬ (ValueNeedsMemory (lettered (codes "abcdefghijklmnopqrstuvwxyzabcdefg"))) × ¬ (ValueNeedsMemory (codes "a b"))
 unfolding is_token_byte is_quoted_byte
 memory =
     let value : List ℕ = lettered (codes "abcdefghijklmnopqrstuvwxyzabcdefg") in
     let parts = letter_parts (codes "abcdefghijklmnopqrstuvwxyzabcdefg") in
     let isnt = stopped-from_walk (codes "a/b;;p=abcdefghijklmnopqrstuvwxyzabcdefg") refl in
-    let (reads, printed) = anew_is {value = value} parts isnt refl refl (media_of parts) (written_reads value parts refl) in (
+    let (reads, printed) = anew_is {value = value} parts isnt refl refl (media_of_parts parts) (written_reads value parts refl) in (
       anew_needs (letter_parts (codes "abcdefghijklmnopqrstuvwxyzabcdefgh"))
           (stopped-from_walk (codes "a/b;;p=abcdefghijklmnopqrstuvwxyzabcdefgh") refl) refl refl (omega arith),
       short_needs_none _ _ reads printed (omega arith),
@@ -136,10 +137,6 @@ reasons = (λ why. memory.2 why.1, (put_ascii (codes "a b") [] (omega arith) IsU
 
 -- ---- quoted content
 
--- Bytes that aren't equal differ.
-differ : (text other : List ℕ) → bytes_eq text other ≡ false → text ≢ other
-differ text other is same = true≢false (sym ((bytes_eq-Decides text other).1 same) ∙ is)
-
 -- `a\"b\\` means `a"b\`, and not itself; what is written for `a"b\` is `a\"b\\`, and for a quote not a quote.
 contents : (unescaped (codes "a\\\"b\\\\") ≡ codes "a\"b\\") × (unescaped (codes "\\\"") ≢ codes "\\\"")
     × (escaped (codes "a\"b\\") ≡ codes "a\\\"b\\\\") × (escaped (codes "\"") ≢ codes "\"")
@@ -148,7 +145,7 @@ contents = (refl, differ _ _ refl, refl, differ _ _ refl)
 -- ---- parameters
 
 -- `utf-8` is a token; `a b` and nothing aren't. A token is written as it is, and any other value in quotes, with its backslashes.
-written : (is_token_value (codes "utf-8") ≡ true) × (is_token_value (codes "a b") ≡ false) × (is_token_value [] ≡ false)
+written : (is_token (codes "utf-8") ≡ true) × (is_token (codes "a b") ≡ false) × (is_token [] ≡ false)
     × (text_of_pair (codes "charset", codes "utf-8") ≡ codes "; charset=utf-8")
     × (text_of_pair (codes "charset", codes "utf-8") ≢ codes "; charset=\"utf-8\"")
     × (text_of_pair (codes "p", codes "a\\\"b") ≡ codes "; p=\"a\\\"b\"") × (text_of_pair (codes "p", []) ≡ codes "; p=\"\"")

@@ -1,8 +1,8 @@
 -- Worked facts of the pages `HttpList` and `Weight`: what is true of a text, and what is false.
 use Rattle.mime_http.proofs.Common.{IsUtf8-nil, append-nil, text_of_parts, AreHttpLists, AreSorted, Header, IsFirstBad, IsHeader}
 use Rattle.mime_http.proofs.Common.{IsHttpMediaType, IsPiece, IsQvalue, List, MediaType, Parts, [], a_range, after_range, answer_of, ap}
-use Rattle.mime_http.proofs.Common.{arith, as_it_stands, bad_here, codes, cut, get_or, is_token_byte, length, map, media_of, no_text, read}
-use Rattle.mime_http.proofs.Common.{refl, sym, thousandths_of, trimmed, true≢false, two_digits, ℕ, ◌∷◌, ◌≡◌}
+use Rattle.mime_http.proofs.Common.{arith, as_it_stands, bad_here, codes, cut, get_or, is_token_byte, length, map, media_of_parts, no_text}
+use Rattle.mime_http.proofs.Common.{read, refl, sym, thousandths_of, trimmed, true≢false, two_digits, ℕ, ◌∷◌, ◌≡◌}
 use Rattle.mime_http.{specs.HttpList.blank, proofs.Around.AreAscii, proofs.Around.put_ascii, proofs.Numbers.weight_is_number}
 use Rattle.mime_http.{proofs.Cuts.cut_of_piece, proofs.Cuts.are_cut, proofs.Lists.one_first_bad, proofs.Lists.one_header}
 use Rattle.mime_http.{proofs.Lists.http_lists_are_read, proofs.Lists.read_are_http_lists, proofs.Lists.bad_is_alone}
@@ -55,16 +55,16 @@ c_d = record { top = codes "c"; sub = codes "d"; pairs = [] }
 -- What is written as it is printed, but for the white space around it, is a range before others.
 as_range : (text : List ℕ) (parts : Parts) {texts bad : List (List ℕ)} {ranges : List MediaType} → AreAscii text
     → answer_of text ≡ read parts → text_of_parts parts ≡ trimmed text → AreSorted texts ranges bad
-    → AreSorted (text ∷ texts) (media_of parts ∷ ranges) bad
+    → AreSorted (text ∷ texts) (media_of_parts parts ∷ ranges) bad
 as_range text parts ascii answered same =
-    a_range text (media_of parts) _ _ _ (rw (append-nil text) at (put_ascii text [] ascii IsUtf8-nil))
-    (answered_is_http text parts answered) (as_it_stands text (media_of parts) (rw same at (written_reads text parts answered)))
+    a_range text (media_of_parts parts) _ _ _ (rw (append-nil text) at (put_ascii text [] ascii IsUtf8-nil))
+    (answered_is_http text parts answered) (as_it_stands text (media_of_parts parts) (rw same at (written_reads text parts answered)))
 
 -- Empty elements are no elements.
-two_elements : AreHttpLists (codes ",a/b , ,c/d" ∷ []) (media_of a_b ∷ media_of c_d ∷ [])
+two_elements : AreHttpLists (codes ",a/b , ,c/d" ∷ []) (media_of_parts a_b ∷ media_of_parts c_d ∷ [])
 unfolding is_token_byte
 two_elements = read_are_http_lists (codes ",a/b , ,c/d" ∷ [])
-    (record { ranges = media_of a_b ∷ media_of c_d ∷ []; bad = [] }) (record {
+    (record { ranges = media_of_parts a_b ∷ media_of_parts c_d ∷ []; bad = [] }) (record {
       pieces = _;
       cut = are_cut _;
       sorted = blank [] _ _ _ refl (as_range (codes "a/b ") a_b (omega arith) refl refl
@@ -78,7 +78,7 @@ not_media_type = rejected_is_none (codes " a b") _ refl
 
 -- An entry of two pieces is bad as a whole, also between two others.
 bad_between : IsHeader (codes "c/d, a b" ∷ codes "a/b " ∷ [])
-    (record { ranges = media_of c_d ∷ media_of a_b ∷ []; bad = codes "a b" ∷ [] })
+    (record { ranges = media_of_parts c_d ∷ media_of_parts a_b ∷ []; bad = codes "a b" ∷ [] })
 unfolding is_token_byte
 bad_between = (bad_is_alone (codes "c/d, a b" ∷ codes "a/b " ∷ []) (codes "c/d" ∷ codes "a/b " ∷ []) (codes "c/d" ∷ [])
     (codes "a/b " ∷ []) (codes " a b") _ _ [] [] (as_range (codes "c/d") c_d (omega arith) refl refl no_text)
@@ -93,7 +93,7 @@ not_a_list media is =
 
 -- A range prints no other text than its own.
 other_text : ¬ (IsHeader (codes "c/d, a b" ∷ codes "a/b " ∷ [])
-    (record { ranges = record (media_of c_d) { kept = codes "C/d" } ∷ media_of a_b ∷ []; bad = codes "a b" ∷ [] }))
+    (record { ranges = record (media_of_parts c_d) { kept = codes "C/d" } ∷ media_of_parts a_b ∷ []; bad = codes "a b" ∷ [] }))
 other_text is =
     let kept = λ (header : Header). get_or (get_or (map (λ (range : MediaType). range.kept) header.ranges) 0 []) 0 0 in
     absurd (omega (arith, ap kept (one_header _ _ _ bad_between is)))
@@ -105,7 +105,7 @@ first_bad = record {
   pieces = _;
   cut = are_cut _;
   first = after_range (codes "c/d") _ 0 (rw (append-nil (codes "c/d")) at (put_ascii (codes "c/d") [] (omega arith) IsUtf8-nil))
-      (media_of c_d, answered_is_http (codes "c/d") c_d refl)
+      (media_of_parts c_d, answered_is_http (codes "c/d") c_d refl)
       (bad_here (codes " a b") _ (λ blank. true≢false (sym blank)) (λ is. not_media_type is.1));
 }
 
@@ -120,7 +120,7 @@ any : Parts
 any = record { top = codes "*"; sub = codes "*"; pairs = [] }
 
 -- A request without the header accepts everything.
-no_line_accepts : IsHeader [] (record { ranges = media_of any ∷ []; bad = [] })
+no_line_accepts : IsHeader [] (record { ranges = media_of_parts any ∷ []; bad = [] })
 unfolding any is_token_byte
 no_line_accepts = record { pieces = _; cut = are_cut _; sorted = as_range (codes "*/*") any (omega arith) refl refl no_text }
 

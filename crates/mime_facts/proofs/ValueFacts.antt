@@ -1,13 +1,14 @@
 -- Texts and values for which each definition of a value, its parts, its items and its names is true, and others for which it is
 -- false, by computation.
-use Rattle.std.proofs.Common.{◌≡◌, ◌≢◌, ℕ, Bool, true, false, List, [], ◌∷◌, ◌++◌, map, Some, None, refl, sym, ap, ◌∙◌, codes}
+use Rattle.std.proofs.Common.{◌≡◌, ◌≢◌, ℕ, Bool, true, false, List, [], ◌∷◌, ◌++◌, map, Some, None, refl, sym, ap, ◌∙◌, arith, codes}
 use Rattle.std.proofs.{lemmas.Bool.true≢false, lemmas.Option.none-some, lemmas.Option.same_Some, lemmas.Slice.Eq.bytes_eq-Decides}
 use Rattle.std.specs.{Fmt.digits, Str.bytes_eq}
 use Rattle.mime.specs.{Bytes.is_token_byte, Grammar.plain, Grammar.quoted, Grammar.blank, Grammar.final, Grammar.more, Grammar.no_list}
 use Rattle.mime.specs.{Grammar.listed, Grammar.SyntaxTree, Values.MediaType, Values.lowered, Values.is_charset, Values.lowered_value}
 use Rattle.mime.specs.{Values.lowered_parameter, Values.lowered_list, Values.lowered_tail, Values.lowered_tree, Values.pair_of}
-use Rattle.mime.specs.{Values.pairs_of_list, Values.pairs_of_tail, Values.last_plus, Values.essence_of, Values.kept_text, Values.Reads}
-use Rattle.mime.specs.{Values.IsAccepted, Values.IsRejected, Values.type_of, Values.subtype_of, Values.suffix_of, Items.Item, Items.item_of}
+use Rattle.mime.specs.{Values.pairs_of_list, Values.pairs_of_tail, Values.last_plus, Values.essence_of, Values.kept_text}
+use Rattle.mime.specs.{Values.Reads, Values.NeedsMemory, Values.IsAccepted, Values.IsRejected, Values.type_of}
+use Rattle.mime.specs.{Values.subtype_of, Values.suffix_of, Items.Item, Items.item_of}
 use Rattle.mime.specs.{Items.items_of, Items.IsLowIf, Items.IsLowItem, Items.IsFirstAccepted, Items.item_seen, Items.name_seen}
 use Rattle.mime.specs.{Items.name_text, Names.NameIs, Names.name_table, Atoms.atom_text, Printed.fault_text, Printed.fault_text}
 use Rattle.mime.specs.{Printed.error_text, declared.atoms.Atom.TheVariants.STAR_STAR}
@@ -109,6 +110,10 @@ value_of_40 = media text_of_40 11 None [] text_of_40
 pub reads_40 : Reads text_of_40 value_of_40
 unfolding is_token_byte
 reads_40 = reads (codes "application") (codes "x-forty-bytes-of-text-in-all") no_list (refl, refl, tt)
+
+-- A media type of which 41 bytes are kept needs memory, and one of which 40 are kept needs none.
+needs : NeedsMemory (media text_of_41 11 None [] text_of_41) × ¬ (NeedsMemory value_of_40)
+needs = (omega arith, λ long. absurd (omega (arith, long)))
 
 -- A text of 41 bytes of which 40 are kept is read.
 pub reads_dropped : Reads (text_of_40 ++ codes ";") value_of_40

@@ -1,19 +1,19 @@
 -- The report on heads and offers: the rows of each `Content-Type`, of `Accept`, and of each offer (RFC 9110, 8.3, 12.5.1 and 15.5.7), and
 -- whether a request and its response accept each other's content (15.5.16). docs/RULES.md says the same in words.
-use Rattle.std.specs.Prelude.{◌≡◌, ◌≢◌, ◌<◌, ℕ, ◌+◌, ◌-◌, ◌/◌, ◌%◌, Bool, true, false, List, [], ◌∷◌, ◌++◌, ◌==◌, ◌||◌, ◌&&◌, not}
+use Rattle.std.specs.Prelude.{◌≡◌, ◌≢◌, ◌<◌, ℕ, ◌+◌, ◌-◌, Bool, true, false, List, [], ◌∷◌, ◌++◌, ◌==◌, ◌||◌, ◌&&◌, not}
 use Rattle.std.specs.Prelude.{Option, Some, None, Result, Ok, Err, MatchOption, MatchResult, option_and_then, option_map, is_some}
-use Rattle.std.specs.Prelude.{unwrap_or}
-use Rattle.std.specs.Prelude.{map, flat_map, drop, length, slice_get, replicate, nat_lt, if◌then◌else◌, codes}
+use Rattle.std.specs.Prelude.{unwrap_or, map, flat_map, take, drop, length, slice_get, replicate, nat_lt, if◌then◌else◌, codes}
 use Rattle.std.specs.Char.{is_ascii_graphic}
 use Rattle.std.specs.Fmt.{decimal, digits}
 use Rattle.std.specs.List.{FoldsTo, enumerate_from}
 use Rattle.std.specs.Option.{option_zip}
-use Rattle.std.specs.Str.{IsUtf8, bytes_eq}
+use Rattle.std.specs.Str.{bytes_eq}
 use Rattle.mime.specs.{Values.MediaType, Values.suffix_of}
-use Rattle.mime_http.specs.{Boundary.IsBoundaryOf, HttpFaults.HttpExplains, HttpFaults.fault_position, HttpMediaType.HttpReads}
-use Rattle.mime_http.specs.HttpList.{trimmed, AreBetweenCommas, IsPrinted, IsPiece, BeginsPiece}
+use Rattle.mime_http.specs.{Boundary.IsBoundaryOf, HttpFaults.HttpExplains, HttpFaults.fault_position}
+use Rattle.mime_http.specs.HttpList.{trimmed, AreBetweenCommas, FieldReads, IsPiece, BeginsPiece}
 use Rattle.mime_http.specs.{HttpPrinted.field_error_text, Lacks.begins, Lacks.is_quoted, Lacks.lacked, Ranges.weight_of, Ranges.first_value}
-use Rattle.mime_http.specs.{Ranking.is_qvalue, Ranking.IsRanking, Unescaped.unescaped, declared.ranking.RankedOffer.RankedOffer}
+use Rattle.mime_http.specs.{Ranking.is_qvalue, Ranking.IsRanking, Unescaped.unescaped, Weight.four_digits}
+use Rattle.mime_http.specs.declared.ranking.RankedOffer.{RankedOffer}
 use Rattle.mime_http.specs.{declared.value.FieldError.FieldError, declared.value.FieldError.TheVariants.NoMemory}
 use Rattle.mime_io.specs.{Lines.row, Stops.limit}
 use Rattle.mime_headers.specs.Head.{Field, Head, Item, head, stray, bare_lines, field_of, heads_of, is_alone, items_in, lines_under}
@@ -25,7 +25,7 @@ use Rattle.mime_headers.specs.declared.field.Name.TheVariants.{ContentType, Acce
 
 -- A value of a field is read as this media type, which is printed for the value, or is rejected with this error, which isn't `NoMemory`.
 abbrev pub IsRead : List ℕ → Result MediaType FieldError → Type 0
-IsRead value (Ok media) = IsUtf8 value × HttpReads value media × IsPrinted value media
+IsRead value (Ok media) = FieldReads value media
 IsRead value (Err error) = (error ≢ NoMemory) × HttpExplains value error
 
 -- What is known after some items: the report, whether all is good so far (each `Content-Type` is accepted, and each weight in an exchange
@@ -80,7 +80,7 @@ HasBoundary media boundary = MatchOption boundary ((bytes : List ℕ) → ¬ (Is
 
 -- a weight in thousandths as a number with three decimals, such as 0.800
 abbrev pub weight_text : ℕ → List ℕ
-weight_text weight = (48 + weight / 1000 % 10) ∷ 46 ∷ (48 + weight / 100 % 10) ∷ (48 + weight / 10 % 10) ∷ (48 + weight % 10) ∷ []
+weight_text weight = take 1 (four_digits weight) ++ (46 ∷ drop 1 (four_digits weight))
 
 -- whether RFC 9110, 12.4.2, allows the `q` of a range that is read of an entry: it is a qvalue, without quotes, or there is none
 unfoldable pub is_plain : List ℕ → MediaType → Bool

@@ -3,7 +3,8 @@ pub use Rattle.mime.proofs.HandedOut.{IsContent-closed, IsOpenContent-push, acce
 pub use Rattle.mime.proofs.HandedOut.{content-closed, content-taken, dead-from_stop, lowered_pair, regroup, rejected-from_fault}
 pub use Rattle.mime.proofs.HandedOut.{stop-from_walk, takes_all-any, with_closed, IsOpenContent, awaits_after, continues, takes_all}
 pub use Rattle.mime.proofs.HandedOut.{AreTokenBytes-from_token, IsContent-taken, IsToken-lowered, accepted_or_rejected, content-from_token}
-pub use Rattle.mime.proofs.HandedOut.{in_ranges, length-lowered, list_all-lowered, list_all-wider, lowered-lowered, lowered_value-either}
+pub use Rattle.mime.proofs.HandedOut.{are_quoted_text, in_ranges, length-lowered, list_all-lowered, list_all-wider, lowered-lowered}
+pub use Rattle.mime.proofs.HandedOut.{lowered_value-either}
 pub use Rattle.mime.proofs.HandedOut.{lowered_value-lowered, one_reading, pairs_of_tail-lowered, slice_get-prefix, stopped-from_walk}
 pub use Rattle.mime.proofs.HandedOut.{kept_is_read, by_option, Begun, ClosedParameters, awaits_after-append, grow, BegunList, list_at}
 pub use Rattle.mime.proofs.HandedOut.{not_viable-at_dead, one_fault, tree_of, viable-from_walk, walk, walk-accepted, walk_from}
@@ -11,7 +12,7 @@ unfoldable pub use Rattle.mime.specs.Bytes.{is_quoted_byte, is_token_byte}
 pub use Rattle.mime.specs.Faults.{EndsIn, Explains, completion_of, last_byte_of, IsDeadAt}
 pub use Rattle.mime.specs.Grammar.{AreParameters, AreSpaces, AreTokenBytes, IsContent, IsParameter, IsToken, Parameter, Parameters}
 pub use Rattle.mime.specs.Grammar.{SyntaxTree, Tail, blank, final, is_space, listed, more, no_byte, no_list, plain, quoted, quoted_pair}
-pub use Rattle.mime.specs.Grammar.{text_byte, text_of, text_of_list, text_of_parameter, text_of_tail}
+pub use Rattle.mime.specs.Grammar.{is_token, text_byte, text_of, text_of_list, text_of_parameter, text_of_tail}
 pub use Rattle.mime.specs.Items.{IsFirstAccepted, Item, item_of, item_seen, items_of, name_seen, name_text}
 pub use Rattle.mime.specs.Values.{IsAccepted, MediaType, OwnedMedia, Reads, essence_of, is_charset, kept_text, lowered, lowered_list}
 pub use Rattle.mime.specs.Values.{lowered_parameter, lowered_tail, lowered_tree, lowered_value, pair_of, pairs_of_list, pairs_of_tail}
@@ -24,7 +25,7 @@ pub use Rattle.mime.specs.Names.{NameIs}
 pub use Rattle.mime.specs.declared.scan.fault.ParseError.{ParseError}
 pub use Rattle.mime_http.specs.Forms.{form_of, is_plain, text_in}
 pub use Rattle.mime_http.specs.HeaderLaws.{OneHttpFault, OneHttpReading, OnePrintedText, PlainIsHttp, PrintedIsRead}
-pub use Rattle.mime_http.specs.HttpFaults.{HttpExplains, IsHttpFault, IsHttpViable, NeedsMemory}
+pub use Rattle.mime_http.specs.HttpFaults.{HttpExplains, IsHttpFault, IsHttpViable, ValueNeedsMemory}
 pub use Rattle.mime_http.specs.HttpList.{AreBetweenCommas, AreSorted, BeginsPiece, FirstBad, Header, IsFirstBad, IsHeader, IsInString}
 pub use Rattle.mime_http.specs.HttpList.{IsPiece, IsPrinted, a_bad, a_range, after_blank, after_range, anew, bad_here, as_it_stands, comma}
 pub use Rattle.mime_http.specs.HttpList.{line_end, lines_or_any, no_line, no_text, opens_string, piece_byte, piece_end, piece_string}
@@ -33,20 +34,20 @@ pub use Rattle.mime_http.specs.HttpMediaType.{AreHttpParameters, HttpReads, IsHt
 pub use Rattle.mime_http.specs.HttpMediaType.{semicolon_and, with_string, with_token}
 pub use Rattle.mime_http.specs.LineCut.{AreHeld, At, Held, Outside, Takes, nothing_held, pieces_of, with_bad, with_range, after, cut}
 pub use Rattle.mime_http.specs.LineCut.{cut_after, before_mark, cut_from, ends_piece, is_mark, piece_len, Equals, Paired, IsNextOutside}
-pub use Rattle.mime_http.specs.ListLaws.{AreElements, AreHttpLists, AreSame, BadIsAlone, HttpListsAreRead, OneCut, OneFirstBad, OneHeader}
-pub use Rattle.mime_http.specs.ListLaws.{ReadAreHttpLists, element, nothing}
-pub use Rattle.mime_http.specs.Ranges.{AreInOrder, Rank, best_offer, closeness, closest, demanded, first_value, given_weight, has, merit}
-pub use Rattle.mime_http.specs.Ranges.{rank_cmp}
-pub use Rattle.mime_http.specs.RangesLaws.{BestIsAcceptable, BestIsFirst, BestIsRankedFirst, NoneIsBest, OneOrder, OneRanking, QvaluesAre}
-pub use Rattle.mime_http.specs.RangesLaws.{ClosestIsClosest, CoversItself, IsAtMost, IsQvalue, MeanTheSame, MeaningCounts}
+pub use Rattle.mime_http.specs.ListLaws.{AreElements, AreHttpLists, AreSame, BadIsAlone, HttpListsAreRead, OneCutOfLines, OneFirstBad}
+pub use Rattle.mime_http.specs.ListLaws.{OneHeader, ReadAreHttpLists, element, nothing}
+pub use Rattle.mime_http.specs.Ranges.{AreInOrder, Rank, best_offer, closeness, closest, demanded, first_value, given_weight, has}
+pub use Rattle.mime_http.specs.Ranges.{is_demanded, merit, rank_cmp}
+pub use Rattle.mime_http.specs.RangesLaws.{BestIsAcceptable, BestIsFirst, BestIsRankedFirst, NoneIsBest, OneOrderOfOffers, OneRanking}
+pub use Rattle.mime_http.specs.RangesLaws.{QvaluesAre, ClosestIsClosest, CoversItself, IsAtMost, IsQvalue, MeanTheSame, MeaningCounts}
 pub use Rattle.mime_http.specs.RangesLaws.{StrangerChangesNothing, WeightIsNumber, meaning_of, one_digit, one_dot, three_digits, two_digits}
 pub use Rattle.mime_http.specs.RangesLaws.{zero_dot}
-pub use Rattle.mime_http.specs.Reader.{Answer, Holds, IsClosedAt, IsEssenceAt, IsParameterAt, IsStringFault, Parts, State, after_semicolon}
+pub use Rattle.mime_http.specs.Reader.{Answer, RoomHolds, IsClosedAt, IsEssenceAt, IsParameterAt, IsStringFault, Parts, State}
+pub use Rattle.mime_http.specs.Reader.{after_semicolon}
 pub use Rattle.mime_http.specs.Reader.{answer_at, answer_at_end, answer_from, answer_of, before_semicolon, before_type, fault_at, in_name}
-pub use Rattle.mime_http.specs.Reader.{in_string, in_subtype, in_type, in_value, media_of, next, next_after, read, rejected, text_of_parts}
-pub use Rattle.mime_http.specs.Reader.{with_parameter}
-pub use Rattle.mime_http.specs.Written.{WrittenIsMeant, escaped, is_token_value, others, quote_of, text_of_pair, text_of_pairs, with_pair}
-pub use Rattle.mime_http.specs.Written.{with_pairs}
+pub use Rattle.mime_http.specs.Reader.{in_string, in_subtype, in_type, in_value, media_of_parts, next, next_after, read, rejected}
+pub use Rattle.mime_http.specs.Reader.{text_of_parts, parts_with}
+pub use Rattle.mime_http.specs.Written.{WrittenIsMeant, escaped, others, quote_of, text_of_pair, text_of_pairs, with_pair, with_pairs}
 pub use Rattle.mime_http.specs.Boundary.{IsBoundary, IsBoundaryOf, is_bchar}
 pub use Rattle.mime_http.specs.Digits.{read_number, worth}
 pub use Rattle.mime_http.specs.HttpPrinted.{field_error_text}

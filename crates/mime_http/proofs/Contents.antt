@@ -5,8 +5,8 @@ use Rattle.mime_http.proofs.Common.{WrittenIsMeant, [], and_parts, ap, append-ni
 use Rattle.mime_http.proofs.Common.{get_or, if◌then◌else◌, is_bchar, is_quoted_byte, is_quoted_text_byte, is_token_byte, length, list_all}
 use Rattle.mime_http.proofs.Common.{list_all-wider, lowered, lowered_value, nat_tests, no_byte, not, quoted_pair, refl, suc, sym, take}
 use Rattle.mime_http.proofs.Common.{take-length, text_byte, true, unescaped, zero, ℕ, ◌&&◌, ◌*◌, ◌++◌, ◌+◌, ◌-◌, ◌<◌, ◌==◌, ◌||◌, ◌∙◌, ◌∷◌}
-use Rattle.mime_http.proofs.Common.{◌≡◌, ◌≢◌, ◌≤◌, Form, flat_map-append, text_of_pairs, Token, form_of, is_plain, is_token_value}
-use Rattle.mime_http.proofs.Common.{prefix_len, text_in, text_of_pair, is_ascii_uppercase}
+use Rattle.mime_http.proofs.Common.{◌≡◌, ◌≢◌, ◌≤◌, Form, flat_map-append, text_of_pairs, Token, form_of, is_plain, is_token}
+use Rattle.mime_http.proofs.Common.{are_quoted_text, prefix_len, text_in, text_of_pair, is_ascii_uppercase}
 use Rattle.mime.specs.Bytes.{backslash_byte}
 use Rattle.std.specs.Int.Bits.{or_zero_r}
 use Rattle.std.proofs.Common.{take-take, take_at, length-append}
@@ -18,9 +18,7 @@ use Rattle.mime_search.specs.declared.class.Class.{Class}
 use Rattle.mime_search.specs.declared.class.TheConstants.{TEXT_STOPS}
 use Rattle.mime_http.specs.declared.quoted.Form.TheVariants.{Quoted, Escaped}
 use Rattle.mime_http.proofs.Common.{Some, None}
-use Rattle.mime_http.proofs.Written.{token_from_test}
 use Rattle.mime_http.specs.declared.parameter.TheConstants.{CONTROLS}
-use Rattle.mime_http.proofs.ReadAt.{are_text_bytes}
 
 -- Bytes of quoted text need no backslash.
 pub plain_text : (bytes : List ℕ) → list_all is_quoted_text_byte bytes ≡ true → escaped bytes ≡ bytes
@@ -133,7 +131,7 @@ whole_run class (b ∷ bytes) = grind (arith, nat_tests, one-add (prefix_len cla
 
 -- A value is a token exactly if a run of token bytes ends at its end, and has some.
 pub token_decides : (value : List ℕ)
-    → is_token_value value ≡ ((prefix_len is_token_byte value == length value) && nat_lt 0 (prefix_len is_token_byte value))
+    → is_token value ≡ ((prefix_len is_token_byte value == length value) && nat_lt 0 (prefix_len is_token_byte value))
 token_decides [] = refl
 token_decides (b ∷ value) = grind (arith, nat_tests, one-add (prefix_len is_token_byte value), whole_run is_token_byte (b ∷ value))
 
@@ -156,7 +154,7 @@ text_passed : (value : List ℕ) {plain text : ℕ} → plain ≡ 0 + prefix_len
     → text ≡ plain + prefix_len (λ b. not (is_stop TEXT_STOPS b)) (drop plain value) → text ≤ prefix_len is_quoted_text_byte value
 text_passed value {plain} {text} token is =
     let first = run_goes_on is_token_byte is_quoted_text_byte token_byte_text value 0 plain (omega arith) (omega (arith, token)) in
-    let next = run_goes_on (λ b. not (is_stop TEXT_STOPS b)) is_quoted_text_byte are_text_bytes value plain text in
+    let next = run_goes_on (λ b. not (is_stop TEXT_STOPS b)) is_quoted_text_byte are_quoted_text value plain text in
     omega (arith, first, next (omega (arith, is)) (omega (arith, is)))
 
 -- Bytes of quoted text are those of a quoted string that need no backslash.
@@ -165,8 +163,8 @@ quoted_text [] = refl
 quoted_text (b ∷ bytes) = grind (arith, nat_tests, quoted_text bytes)
 
 -- The bytes of a value that is a token may occur in a quoted string.
-token_safe : (value : List ℕ) → is_token_value value ≡ true → list_all is_quoted_byte value ≡ true
-token_safe value is = safe_text value (token_text value (token_from_test value is))
+token_safe : (value : List ℕ) → is_token value ≡ true → list_all is_quoted_byte value ≡ true
+token_safe value is = safe_text value (token_text value is)
 
 -- The run of token bytes, and what three searches find after it, decide the form of a value.
 pub form_found : {value bytes : List ℕ} → bytes ≡ value → ((i : ℕ) → get_or value i 0 < 256) → {plain text control special : ℕ}
@@ -238,9 +236,9 @@ special_written value text whole from at within special run is = search (nat_tes
 -- ---- what is written in a form
 
 -- Content that is kept is written as it is.
-pub kept_text : (name bytes : List ℕ)
-    → text_in (if is_token_value bytes then Token else Quoted) name bytes ≡ text_of_pair (name, bytes)
-kept_text name bytes = grind arith
+pub text_in-kept : (name bytes : List ℕ)
+    → text_in (if is_token bytes then Token else Quoted) name bytes ≡ text_of_pair (name, bytes)
+text_in-kept name bytes = grind arith
 
 -- What is written for a value is a token exactly if the value is one.
 all_tokens : (value : List ℕ) → list_all is_token_byte (escaped value) ≡ list_all is_token_byte value
@@ -260,6 +258,6 @@ pub last_written : (name value essence text : List ℕ) (pairs : List (List ℕ 
 last_written name value essence text pairs form is fits = grind (arith, form_text, flat_map-append, append-nil, append_assoc)
 
 -- The rules for how a token is written.
-pub ruleset token_written = (safe_text, plain_text, token_text, token_from_test)
+pub ruleset token_written = (safe_text, plain_text, token_text)
 
 pub ruleset boundary_written = (safe_text, plain_text, boundary_text)

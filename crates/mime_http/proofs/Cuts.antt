@@ -1,7 +1,7 @@
 -- Lines are cut in one way, and each line is; and how far a line's first piece goes.
 use Rattle.std.proofs.Common.{rules}
-use Rattle.mime_http.proofs.Common.{drop_of_length-le, AreBetweenCommas, At, BeginsPiece, IsInString, IsPiece, List, OneCut, Outside, []}
-use Rattle.mime_http.proofs.Common.{after, ap, append-nil, append_assoc, arith, nat_tests, comma, cond_both, cut, cut_from, ends_piece}
+use Rattle.mime_http.proofs.Common.{drop_of_length-le, AreBetweenCommas, At, BeginsPiece, IsInString, IsPiece, List, OneCutOfLines, Outside}
+use Rattle.mime_http.proofs.Common.{[], after, ap, append-nil, append_assoc, arith, nat_tests, comma, cond_both, cut, cut_from, ends_piece}
 use Rattle.mime_http.proofs.Common.{eqb-true, false, flat_map, line_end, no_line, opens_string, piece_byte, piece_end, piece_string, refl}
 use Rattle.mime_http.proofs.Common.{string_byte, string_end, string_pair, subst, sym, true, ℕ, ⊤, ◌++◌, ◌==◌, ◌∙◌, ◌∷◌, ◌≡◌, Equals, Paired}
 use Rattle.mime_http.proofs.Common.{before_mark, Bool, cond, cut_after, drop, drop-drop, drop_more, get_or, get_or-drop, is_mark, length}
@@ -279,5 +279,5 @@ are_cut [] = no_line
 are_cut (line ∷ lines) = is_cut (suc (length line)) line (omega arith) (are_cut lines)
 
 -- Lines are cut in one way.
-pub one_cut : OneCut
+pub one_cut : OneCutOfLines
 one_cut lines = (flat_map cut lines, are_cut lines, λ other is. only_cut is)

@@ -7,7 +7,8 @@ use Rattle.mime_http.proofs.Common.{first_value, has, if◌then◌else◌, items
 use Rattle.mime_http.proofs.Common.{unwrap_or, ℕ, ◌+◌, ◌∷◌, ◌≡◌, AreSpaces, Reads, SyntaxTree, ap, ap₂, drop, drop-append_seam, essence_of}
 use Rattle.mime_http.proofs.Common.{final, is_token_byte, listed, list_all-wider, nat_tests, one_reading, plain, is_ascii_digit, subst}
 use Rattle.mime_http.proofs.Common.{worth, text_of_tail, value_of, Bool, IsToken, ◌≢◌, CoversItself, MeaningCounts, and_from, map}
-use Rattle.mime_http.proofs.Common.{meaning_of, not, list_all-from_AllPass, get_or, All-filter, list_any_at, list_all-map, length-map}
+use Rattle.mime_http.proofs.Common.{meaning_of, is_demanded, list_all-from_AllPass, get_or, All-filter, list_any_at, list_all-map}
+use Rattle.mime_http.proofs.Common.{length-map}
 use Rattle.mime.{specs.declared.name.Name.Name, proofs.HandedOut.text_of-essence}
 use Rattle.mime_http.{specs.Digits.IsLoneWeight, specs.Digits.is_digit_or_dot, proofs.Written.lengths}
 use Rattle.mime_http.proofs.Numbers.{read_is}
@@ -25,8 +26,8 @@ found_in offer pairs =
 abbrev pub found_from : MediaType → ℕ → Option (List ℕ) → List Item → Option (ℕ × ℕ)
 found_from offer count weight [] = found_of count weight
 found_from offer count weight (item ∷ items) =
-    if bytes_eq item.name (codes "q") then found_from offer count (option_or weight (Some item.value)) items else
-    if has offer (item.name, item.value) then found_from offer (count + 1) weight items else None
+    if is_demanded item.name then (if has offer (item.name, item.value) then found_from offer (count + 1) weight items else None)
+    else found_from offer count (option_or weight (Some item.value)) items
 
 -- The items of a range's pairs decide what is found.
 pub found_after : (offer : MediaType) (count : ℕ) (weight : Option (List ℕ)) (pairs : List (List ℕ × List ℕ))
@@ -107,7 +108,7 @@ pub covers_itself : CoversItself
 covers_itself media =
     let same_bytes = λ (bytes : List ℕ). (bytes_eq-Decides bytes bytes).1 refl in
     let has_own = list_all-from_AllPass (has media) (demanded media.pairs)
-    (All-filter (λ pair. not (bytes_eq pair.0 (codes "q"))) (λ pair. has media pair ≡ true) media.pairs (λ k d within.
+    (All-filter (λ pair. is_demanded pair.0) (λ pair. has media pair ≡ true) media.pairs (λ k d within.
     let pair = get_or media.pairs k d in
     list_any_at (λ own. bytes_eq own.0 pair.0 && bytes_eq (unescaped own.1) (unescaped pair.1)) media.pairs k d within
     (and_from _ _ (same_bytes pair.0) (same_bytes (unescaped pair.1))))) in

@@ -24,4 +24,4 @@ pub use Rattle.mime_http.proofs.ReadForth.{http_is_answered}
 -- What is written of parameters is read as them.
 pub use Rattle.mime_http.proofs.Written.{with_pair_is_read, length-lowered_value}
 -- Private: a header's value read byte by byte by HTTP's own grammar (RFC 9110, 8.3.1 and 5.6.6), and what is written of a media type.
-pub use Rattle.mime_http.specs.Reader.{Answer, read, rejected, answer_of, media_of, text_of_parts}
+pub use Rattle.mime_http.specs.Reader.{Answer, read, rejected, answer_of, media_of_parts, text_of_parts}

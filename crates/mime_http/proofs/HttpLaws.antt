@@ -1,9 +1,10 @@
 -- What is printed of a header's value: one text, which is read as its one media type, and needs memory only if it is long.
 use Rattle.mime_http.proofs.Common.{Explains, InvalidToken, NoMemory, ParseError, rejected-from_fault, ◌≢◌, IsUtf8, IsUtf8-nil, List, Parts}
-use Rattle.mime_http.proofs.Common.{Reads, [], answer_of, arith, length, media_of, read, subst, text_of_parts, ℕ, ◌≡◌, IsPrinted, MediaType}
+use Rattle.mime_http.proofs.Common.{Reads, [], answer_of, arith, length, media_of_parts, read, subst, text_of_parts, ℕ, ◌≡◌, IsPrinted}
+use Rattle.mime_http.proofs.Common.{MediaType}
 use Rattle.mime_http.proofs.Common.{OneHttpReading, OnePrintedText, PrintedIsRead, anew, ap, as_it_stands, one_reading, sym, trimmed}
 use Rattle.mime_http.proofs.Common.{with_pairs, ◌∙◌, kept_is_read, HttpReads, Err, HttpExplains, IfErr, IsAccepted, IsHttpMediaType}
-use Rattle.mime_http.proofs.Common.{NeedsMemory, Ok, Result, codes, is_token_byte, refl, ◌<◌, ◌≤◌, IsOk}
+use Rattle.mime_http.proofs.Common.{ValueNeedsMemory, Ok, Result, codes, is_token_byte, refl, ◌<◌, ◌≤◌, IsOk}
 use Rattle.mime_http.proofs.Around.{put_ascii, put_one, put_token, reads_around}
 use Rattle.mime_http.proofs.ReadBack.{answered_is_http}
 use Rattle.mime_http.proofs.ReadForth.{AreFound, http_is_answered}
@@ -18,10 +19,10 @@ use Rattle.mime_http.specs.declared.value.FieldError.TheVariants as field
 
 -- The parts that are read of a value are found in it.
 are_found : (value : List ℕ) (parts : Parts) → answer_of value ≡ read parts → AreFound value parts
-are_found value parts is = grind (arith, http_is_answered value (media_of parts) (answered_is_http value parts is))
+are_found value parts is = grind (arith, http_is_answered value (media_of_parts parts) (answered_is_http value parts is))
 
 -- What is written of the parts of a value is read as their media type.
-pub written_reads : (value : List ℕ) (parts : Parts) → answer_of value ≡ read parts → Reads (text_of_parts parts) (media_of parts)
+pub written_reads : (value : List ℕ) (parts : Parts) → answer_of value ≡ read parts → Reads (text_of_parts parts) (media_of_parts parts)
 written_reads value parts is = grind (arith, are_found, parts_are_read)
 
 -- What is written of the parts of a value in UTF-8 is in UTF-8.
@@ -32,7 +33,7 @@ written_is_utf8 value parts utf8 is =
     put_token parts.top _ found.is_top (put_one 47 _ (omega arith) (put_token parts.sub _ found.is_sub (found.utf8 utf8)))
 
 -- As many bytes are written of parts as are kept of their media type.
-pub written_length : (parts : Parts) → length (media_of parts).kept ≡ length (text_of_parts parts)
+pub written_length : (parts : Parts) → length (media_of_parts parts).kept ≡ length (text_of_parts parts)
 written_length parts = grind (arith, lengths, length-pairs)
 
 -- ---- the laws
@@ -76,7 +77,7 @@ pub stands : (value : List ℕ) (media : MediaType) → Reads (trimmed value) me
 stands value media reads = (reads_around value media (plain_is_http (trimmed value) media reads), as_it_stands value media reads)
 
 -- A value that the library reads without the white space around it needs memory if more than 40 bytes of it are kept.
-pub stands_needs : (value : List ℕ) → Explains (trimmed value) NoMemory → NeedsMemory value
+pub stands_needs : (value : List ℕ) → Explains (trimmed value) NoMemory → ValueNeedsMemory value
 stands_needs value (media, reads, long) =
     let (is, printed) = stands value media reads in (media, is, printed, long)
 
@@ -85,17 +86,17 @@ module _ {value text : List ℕ} (parts : Parts) (isnt : ¬ (IsAccepted (trimmed
   -- What is written anew of a value that the library rejects is read as the value, which is printed so.
   pub anew_is : (media : MediaType) → Reads text media → HttpReads value media × IsPrinted value media
   anew_is media reads =
-      let is = one_reading (text_of_parts parts) media (media_of parts) (rw same at reads) (written_reads value parts answered) in
-      rw is (answered_is_http value parts answered, anew value (media_of parts) isnt refl)
+      let is = one_reading (text_of_parts parts) media (media_of_parts parts) (rw same at reads) (written_reads value parts answered) in
+      rw is (answered_is_http value parts answered, anew value (media_of_parts parts) isnt refl)
 
   -- The value needs memory if that is long.
-  pub anew_needs : 40 < length text → NeedsMemory value
+  pub anew_needs : 40 < length text → ValueNeedsMemory value
   anew_needs long =
-      let (is, printed) = anew_is (media_of parts) (rw same (written_reads value parts answered)) in
-      (media_of parts, is, printed, omega (arith, long, ap length same, written_length parts))
+      let (is, printed) = anew_is (media_of_parts parts) (rw same (written_reads value parts answered)) in
+      (media_of_parts parts, is, printed, omega (arith, long, ap length same, written_length parts))
 
   -- It does if reading what is written does.
-  pub reading_needs : Explains text NoMemory → NeedsMemory value
+  pub reading_needs : Explains text NoMemory → ValueNeedsMemory value
   reading_needs (media, reads, long) =
       let (is, printed) = anew_is media reads in (media, is, printed, long)
 
@@ -110,7 +111,7 @@ error_is_memory value field.NoMemory utf8 is why = refl
 
 -- A media type of which at most 40 bytes are printed needs no memory.
 pub short_needs_none : (value : List ℕ) (media : MediaType) → HttpReads value media → IsPrinted value media
-    → length media.kept ≤ 40 → ¬ (NeedsMemory value)
+    → length media.kept ≤ 40 → ¬ (ValueNeedsMemory value)
 short_needs_none value media reads printed few (other, is, stands, long) =
     let same = one_printed_text value media other reads printed is stands in
     absurd (omega (arith, few, long, ap (λ (it : MediaType). length it.kept) same))

@@ -3,7 +3,8 @@ use Rattle.std.proofs.Common.{rules}
 use Rattle.std.specs.Str.{is_utf8}
 use Rattle.std.proofs.lemmas.Str.{IsUtf8-from_is_utf8, is_utf8-from_IsUtf8}
 use Rattle.mime_http.proofs.Common.{Answer, FirstBad, Header, IsHeader, IsUtf8, OneFirstBad, after_blank, after_range, arith, bad_here, inl}
-use Rattle.mime_http.proofs.Common.{inr, length, lines_or_any, list_all, media_of, rejected, suc, true≢false, ◌⊎◌, ◌≢◌, At, Outside, State}
+use Rattle.mime_http.proofs.Common.{inr, length, lines_or_any, list_all, media_of_parts, rejected, suc, true≢false, ◌⊎◌, ◌≢◌, At, Outside}
+use Rattle.mime_http.proofs.Common.{State}
 use Rattle.mime_http.proofs.Common.{Parts, MatchOption, MatchOption-at_some, MissingSlash, by_option, next, ends_piece, after, answer_of}
 use Rattle.mime_http.proofs.Common.{answer_from, answer_at_end, read, before_type, in_subtype, in_value, in_string, is_quoted_byte, ◌+◌}
 use Rattle.mime_http.proofs.Common.{AreBetweenCommas, AreElements, AreSame, AreSorted, AreSpaces, BadIsAlone, BeginsPiece, HttpListsAreRead}
@@ -175,7 +176,7 @@ read_or_not value = by_answer (answer_of value) refl
   where
     by_answer : (answer : Answer) → answer_of value ≡ answer
         → ((media : MediaType) × HttpReads value media × IsPrinted value media) ⊎ ¬ (IsHttpMediaType value)
-    by_answer (read parts) is = let it = printed value (media_of parts) (answered_is_http value parts is) in inl (it.0, it.1, it.2)
+    by_answer (read parts) is = let it = printed value (media_of_parts parts) (answered_is_http value parts is) in inl (it.0, it.1, it.2)
     by_answer (rejected fault) is = inr (rejected_is_none value fault is)
 
 -- This is what texts are sorted as.

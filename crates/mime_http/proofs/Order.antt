@@ -1,6 +1,7 @@
 -- Offers that are sorted by their ranks are in order, of which the first is the best.
 use Rattle.std.proofs.Common.{rules}
-use Rattle.mime_http.proofs.Common.{BestIsRankedFirst, NoneIsBest, OneOrder, OneRanking, by_option, get_or_from_slice_get, option_map}
+use Rattle.mime_http.proofs.Common.{BestIsRankedFirst, NoneIsBest, OneOrderOfOffers, OneRanking, by_option, get_or_from_slice_get}
+use Rattle.mime_http.proofs.Common.{option_map}
 use Rattle.mime_http.proofs.Common.{slice_get_within, unwrap_or, AllPairs, All-contains, Option, best_offer, if◌then◌else◌, position}
 use Rattle.mime_http.proofs.Common.{slice_get, AreInOrder, Contains, IsDistinct, IsTotalOrder, List, MediaType, Ordering, Rank, Reverse, []}
 use Rattle.mime_http.proofs.Common.{ap, arith, back_total, false, flip_args, get_or, get_or_past, cases_Bool, inl, inr, is_gt, is_lt}
@@ -256,7 +257,7 @@ one_comes_first : (rank : ℕ → Rank) (x y : ℕ) → ComesBefore rank x y →
 one_comes_first rank x y before after = grind (arith, nat_tests, before, after)
 
 -- The offers that weigh more than 0 have at most one order.
-pub one_order : OneOrder
+pub one_order : OneOrderOfOffers
 one_order ranges offers order other are too =
     same_members (ComesBefore (merit_at ranges offers)) (one_comes_first (merit_at ranges offers)) order other are.best_first too.best_first
     (λ at is. (too.all at).1 ((are.all at).0 is)) (λ at is. (are.all at).1 ((too.all at).0 is))

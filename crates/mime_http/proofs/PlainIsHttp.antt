@@ -6,9 +6,9 @@ use Rattle.mime_http.proofs.Common.{InvalidToken, IsDeadAt, IsHttpFault, IsHttpM
 use Rattle.mime_http.proofs.Common.{Parameters, Parts, PlainIsHttp, Some, State, SyntaxTree, [], after_semicolon, answer_at_end}
 use Rattle.mime_http.proofs.Common.{answer_from, answer_of, append_assoc, append-nil, arith, before_semicolon, before_type, by_option}
 use Rattle.mime_http.proofs.Common.{completion_of, false, grow, in_name, in_string, in_subtype, in_type, in_value, is_space, last_byte_of}
-use Rattle.mime_http.proofs.Common.{length, list_at, media_of, more, next, none-some, not_viable-at_dead, one_fault, one_reading}
+use Rattle.mime_http.proofs.Common.{length, list_at, media_of_parts, more, next, none-some, not_viable-at_dead, one_fault, one_reading}
 use Rattle.mime_http.proofs.Common.{option_map, pair_of, pairs_of_list, read, refl, rejected, same_Some, sym, tree_of, true, value_of}
-use Rattle.mime_http.proofs.Common.{viable-from_walk, walk, walk-accepted, walk_from, with_pairs, with_parameter, ℕ, ⊤, ◌++◌, ◌+◌, ◌==◌}
+use Rattle.mime_http.proofs.Common.{viable-from_walk, walk, walk-accepted, walk_from, with_pairs, parts_with, ℕ, ⊤, ◌++◌, ◌+◌, ◌==◌}
 use Rattle.mime_http.proofs.Common.{◌∙◌, ◌∷◌, ◌≡◌, ◌≢◌, accepted-from_walk, dead-from_stop, stop-from_walk, with_closed}
 use Rattle.mime.proofs.HandedOut as walked
 use Rattle.mime.proofs.HandedOut.{ListState}
@@ -28,7 +28,7 @@ state_in parts (walked.in_spaces n) = after_semicolon parts
 state_in parts (walked.in_name n name) = in_name parts name
 state_in parts (walked.in_value n name value) = in_value parts name value
 state_in parts (walked.in_quotes n name content) = in_string parts name content
-state_in parts (walked.after_quotes n name content m) = before_semicolon (with_parameter parts name content)
+state_in parts (walked.after_quotes n name content m) = before_semicolon (parts_with parts name content)
 
 -- HTTP's state after the bytes that lead the library to its own state.
 abbrev state_of : Begun → State
@@ -95,7 +95,7 @@ plain_is_http value media reads =
     let own : Reads value (value_of tree) = grind (arith, accepted-from_walk value begun tree goes is) in
     let answered : answer_of value ≡ read (parts_of tree) =
     grind (arith, append-nil value, over_front value (walked.in_type []) begun goes 0 [], tree_ends begun tree is) in
-    let same : media_of (parts_of tree) ≡ with_pairs media media.pairs =
+    let same : media_of_parts (parts_of tree) ≡ with_pairs media media.pairs =
     grind (arith, pairs_of_tail-lowered tree.tail, one_reading value (value_of tree) media own reads) in
     white_more _ [] [] refl refl (rw same at (answered_is_http value (parts_of tree) answered)) (append-nil value)
 

@@ -6,13 +6,13 @@ use Rattle.mime_http.proofs.Common.{Bool, one-add, InvalidToken, IsClosedAt, IsC
 use Rattle.mime_http.proofs.Common.{IsStringFault, IsToken, Parts, after_semicolon, answer_at, answer_at_end, answer_from, ap, append-nil}
 use Rattle.mime_http.proofs.Common.{append_assoc, arith, awaits_after, awaits_after-append, before_semicolon, cases_lt, drop, drop-drop}
 use Rattle.mime_http.proofs.Common.{drop_more, drop_of_length-le, drop_split, false, fault_at, flat_map-append, get_or-drop, if◌then◌else◌}
-use Rattle.mime_http.proofs.Common.{in_name, in_ranges, in_string, in_subtype, in_value, is_quoted_byte, is_quoted_text_byte, is_space}
-use Rattle.mime_http.proofs.Common.{is_bchar, is_token_byte, is_token_value, length, length-drop, length-take-le, nat_tests, list_all}
+use Rattle.mime_http.proofs.Common.{are_quoted_text, in_name, in_ranges, in_string, in_subtype, in_value, is_quoted_byte}
+use Rattle.mime_http.proofs.Common.{is_quoted_text_byte, is_space}
+use Rattle.mime_http.proofs.Common.{is_bchar, is_token_byte, is_token, length, length-drop, length-take-le, nat_tests, list_all}
 use Rattle.mime_http.proofs.Common.{list_all-append, list_all-wider, next, no_byte, not, prefix_len, prefix_len_stops, quoted_pair, refl}
 use Rattle.mime_http.proofs.Common.{rejected, slice_index, slice_range, take, take-add, take-append-drop, take_all, text_byte, text_of_pair}
-use Rattle.mime_http.proofs.Common.{text_of_parts, true, with_parameter, ℕ, ◌++◌, ◌+◌, ◌-◌, ◌<◌, ◌∙◌, ◌∷◌, ◌≡◌, ◌≢◌, ◌≤◌, not-true}
+use Rattle.mime_http.proofs.Common.{text_of_parts, true, parts_with, ℕ, ◌++◌, ◌+◌, ◌-◌, ◌<◌, ◌∙◌, ◌∷◌, ◌≡◌, ◌≢◌, ◌≤◌, not-true}
 use Rattle.mime_http.proofs.Common.{content-awaits, is_stop}
-use Rattle.mime_http.proofs.Written.{token_from_test}
 use Rattle.mime_http.proofs.ReadBack.{content_more}
 use Rattle.mime_http.proofs.Runs.{EndsToken, KeepsSpace, content_ends, name_begins, no_way, on_content, on_subtype, on_value, one_byte}
 use Rattle.mime_http.proofs.Runs.{over_white, subtype_ends, value_ends}
@@ -98,11 +98,6 @@ rest_decides bytes n is =
     list_all-wider plain is_bchar are_bchars (take n bytes) (rw same (run_all plain bytes)) in
     grind (arith, rest, first, list_all-append is_bchar (take n bytes) (drop n bytes), take-append-drop n bytes)
 
--- The bytes that a search for the end of quoted text passes may occur in quoted text.
-pub are_text_bytes : (b : ℕ) → not (is_stop TEXT_STOPS b) ≡ true → is_quoted_text_byte b ≡ true
-unfolding is_quoted_byte
-are_text_bytes b go = in_ranges TEXT_STOPS is_quoted_text_byte (omega arith) (omega arith) (omega arith) refl b (not-true _ go)
-
 -- Bytes of quoted text are content.
 pub text_content : (bytes : List ℕ) → list_all is_quoted_text_byte bytes ≡ true → IsContent bytes
 text_content [] all = no_byte
@@ -154,7 +149,7 @@ pub text_after : (value : List ℕ) (at to : ℕ) → at < length value → is_q
     → to ≡ run_end (λ b. not (is_stop TEXT_STOPS b)) value (at + 1) → list_all is_quoted_text_byte (slice_range value at to) ≡ true
 text_after value at to within text is =
     let run = run_is (λ b. not (is_stop TEXT_STOPS b)) value (at + 1) to is in
-    let rest = list_all-wider _ is_quoted_text_byte are_text_bytes (slice_range value (at + 1) to) run.all in
+    let rest = list_all-wider _ is_quoted_text_byte are_quoted_text (slice_range value (at + 1) to) run.all in
     grind (arith, parts_joined value at (at + 1) to, run.least, one_part value at within, rest)
 
 -- A backslash and a byte that it can pair are content.
@@ -171,13 +166,13 @@ content_on value from at to least most before after = grind (arith, parts_joined
 -- Content is read as a parameter's value, up to after the quote that closes it.
 pub over_content : (parts : Parts) (name value : List ℕ) (from close : ℕ) → IsClosedAt value from close
     → answer_at value (in_string parts name []) from
-    ≡ answer_at value (before_semicolon (with_parameter parts name (slice_range value from close))) (close + 1)
+    ≡ answer_at value (before_semicolon (parts_with parts name (slice_range value from close))) (close + 1)
 unfolding is_quoted_byte
 over_content parts name value from close closed =
     let content : List ℕ = slice_range value from close in
     let within : close ≤ length value = omega (arith, closed.within) in
     let first = over value from close (in_string parts name []) (in_string parts name content) closed.least within in
-    let last = over_byte value close (in_string parts name content) (before_semicolon (with_parameter parts name content)) closed.within in
+    let last = over_byte value close (in_string parts name content) (before_semicolon (parts_with parts name content)) closed.within in
     grind (arith, first, on_content closed.content parts name [] refl, last, closed.quote, content_ends closed.content)
 
 -- A fault after content is the string's.
@@ -199,22 +194,17 @@ goes_nowhere parts name content b none text quote backslash = grind (arith, nat_
 -- A run of bytes that may occur in a token is one, if there are any.
 pub token_part : (value : List ℕ) (from to : ℕ) → from < to → to ≤ length value → IsRun is_token_byte value from to
     → IsToken (slice_range value from to)
-token_part value from to some within run = token_from_test (slice_range value from to) (grind (arith, length-part value from to, run.all))
+token_part value from to some within run = grind (arith, length-part value from to, run.all)
 
--- A token passes the test for a token.
-pub token_value : (bytes : List ℕ) → IsToken bytes → is_token_value bytes ≡ true
-token_value [] is = absurd is
-token_value (b ∷ bytes) is = is
-
--- Bytes pass no test for a token with another byte among them.
+-- Bytes are no token with another byte among them.
 no_token_with : (before : List ℕ) (b : ℕ) (bytes : List ℕ) → is_token_byte b ≡ false
-    → is_token_value (before ++ (b ∷ bytes)) ≡ false
+    → is_token (before ++ (b ∷ bytes)) ≡ false
 no_token_with [] b bytes isnt = rw isnt refl
 no_token_with (c ∷ before) b bytes isnt = grind (arith, list_all-append is_token_byte before (b ∷ bytes), isnt)
 
--- Bytes after a run of token bytes, or no bytes, pass no test for a token.
+-- Bytes after a run of token bytes, or no bytes, are no token.
 pub no_token_value : (value : List ℕ) (from plain to : ℕ) → IsRun is_token_byte value from plain → plain ≤ to
-    → to < length value → (from < plain → plain ≢ to) → is_token_value (slice_range value from to) ≡ false
+    → to < length value → (from < plain → plain ≢ to) → is_token (slice_range value from to) ≡ false
 no_token_value value from plain to run most within other =
     let after = parts_joined value plain (plain + 1) to in
     grind (arith, parts_joined value from plain to, after, one_part value plain, run.stops, no_token_with, no_part, cases_lt)
@@ -234,7 +224,7 @@ over_name parts value from to some within run = grind (arith, over, name_begins,
 -- Reading goes on over a parameter's value.
 pub over_value : (parts : Parts) (name value : List ℕ) (from to : ℕ) → from < to → to ≤ length value
     → IsRun is_token_byte value from to → answer_at value (in_value parts name []) from
-    ≡ answer_at value (before_semicolon (with_parameter parts name (slice_range value from to))) to
+    ≡ answer_at value (before_semicolon (parts_with parts name (slice_range value from to))) to
 over_value parts name value from to some within run = grind (arith, over, on_value, value_ends, token_part, token_ends)
 
 -- ---- white space
@@ -254,5 +244,5 @@ nothing_between parts value at space token = grind (arith, drop_more, at_end, ca
 
 -- One parameter more is written after the others.
 pub one_written : (parts : Parts) (name content : List ℕ)
-    → text_of_parts parts ++ text_of_pair (name, content) ≡ text_of_parts (with_parameter parts name content)
+    → text_of_parts parts ++ text_of_pair (name, content) ≡ text_of_parts (parts_with parts name content)
 one_written parts name content = grind (arith, flat_map-append, append-nil, append_assoc)

@@ -4,8 +4,8 @@ use Rattle.mime_http.proofs.Common.{Answer, arith, AreHttpParameters, AreSpaces,
 use Rattle.mime_http.proofs.Common.{IsContent, IsHttpParameter, IsToken, List, MatchOption, MatchOption-at_some, Option, Parts, Some, State}
 use Rattle.mime_http.proofs.Common.{[], after_semicolon, answer_at_end, answer_from, answer_of, append-nil, append_assoc, before_semicolon}
 use Rattle.mime_http.proofs.Common.{before_type, cond_both, eqb-true, in_name, in_string, in_subtype, in_type, in_value, is_space}
-use Rattle.mime_http.proofs.Common.{is_token_byte, list_all, list_all-append, map, map-append, media_of, next, no_byte, no_more}
-use Rattle.mime_http.proofs.Common.{quoted_pair, read, refl, rejected, semicolon, semicolon_and, subst, text_byte, true, with_parameter}
+use Rattle.mime_http.proofs.Common.{is_token_byte, list_all, list_all-append, map, map-append, media_of_parts, next, no_byte, no_more}
+use Rattle.mime_http.proofs.Common.{quoted_pair, read, refl, rejected, semicolon, semicolon_and, subst, text_byte, true, parts_with}
 use Rattle.mime_http.proofs.Common.{with_string, with_token, ℕ, ⊤, ◌++◌, ◌+◌, ◌∷◌, ◌≡◌, IsOpenContent, lowered_pair, IsContent-closed}
 use Rattle.mime_http.proofs.Common.{IsOpenContent-push}
 
@@ -84,9 +84,9 @@ space_after b space (whole before parameters after first top sub are last) =
 
 -- A media type may have a parameter after a semicolon.
 parameter_after : {parts : Parts} {bytes front : List ℕ} (name value : List ℕ) → IsHttpParameter bytes (lowered_pair (name, value))
-    → Behind (Opened parts) bytes front → Whole (with_parameter parts name value) front
+    → Behind (Opened parts) bytes front → Whole (parts_with parts name value) front
 parameter_after {parts} {bytes} name value is (behind _ (opened _ space (whole before parameters after first top sub are last) white)) =
-    subst (Whole (with_parameter parts name value)) (simp (append_assoc, append-nil))
+    subst (Whole (parts_with parts name value)) (simp (append_assoc, append-nil))
     (whole before (parameters ++ (after ++ (59 ∷ (space ++ (bytes ++ []))))) [] first top sub
     (rw (map-append lowered_pair parts.pairs ((name, value) ∷ []))
     (parameters_more are (semicolon_and after space bytes [] (lowered_pair (name, value)) [] last white is no_more))) refl)
@@ -115,13 +115,13 @@ module _ (b : ℕ) (front : List ℕ) where
   after_state (in_type top) is = grind (arith, cond_both, token_more, AreTokenBytes-from_token, more b is.1, eqb-true)
   after_state (in_subtype top (s ∷ sub)) is =
       let whole = essence_read is.0 is.1 is.2 in
-      grind (arith, cond_both, token_more, more b is.2, append_assoc, space_after, opened, eqb-true, whole)
+      grind (arith, cond_both, one_more is_token_byte (s ∷ sub) b is.1, more b is.2, append_assoc, space_after, opened, eqb-true, whole)
   after_state (before_semicolon parts) is = grind (arith, cond_both, space_after, opened, eqb-true)
   after_state (after_semicolon parts) is = grind (arith, cond_both, space_inside, token_more, behind, opened, opened_is_whole, eqb-true)
   after_state (in_name parts name) is = grind (arith, cond_both, token_more, AreTokenBytes-from_token, more b is.1, eqb-true)
   after_state (in_value parts name (v ∷ value)) is =
       let whole = parameter_after name (v ∷ value) (with_token name (v ∷ value) is.0 is.1) is.2 in
-      grind (arith, cond_both, token_more, more b is.2, append_assoc, space_after, opened, eqb-true, whole)
+      grind (arith, cond_both, one_more is_token_byte (v ∷ value) b is.1, more b is.2, append_assoc, space_after, opened, eqb-true, whole)
   after_state (in_string parts name content) is =
       let whole = λ (closed : IsContent content).
       parameter_after {parts = parts} {front = front ++ (b ∷ [])} name content (with_string name content is.0 closed) in
@@ -137,16 +137,16 @@ spelled_after state after b front goes is =
 -- ---- the whole value
 
 -- A media type of these parts is what HTTP writes.
-whole_is_http : {parts : Parts} {value : List ℕ} → Whole parts value → HttpReads value (media_of parts)
+whole_is_http : {parts : Parts} {value : List ℕ} → Whole parts value → HttpReads value (media_of_parts parts)
 whole_is_http {parts} (whole before parameters after first top sub are last) = grind arith
 
 -- The parts that are an answer are what HTTP writes.
-abbrev pub IsRead : List ℕ → Answer → Type 0
-IsRead value (read parts) = HttpReads value (media_of parts)
-IsRead value (rejected fault) = ⊤
+abbrev pub IsAnswer : List ℕ → Answer → Type 0
+IsAnswer value (read parts) = HttpReads value (media_of_parts parts)
+IsAnswer value (rejected fault) = ⊤
 
 -- The answer at the end is what HTTP writes.
-pub read_at_end : (state : State) (value : List ℕ) → Spells state value → IsRead value (answer_at_end state)
+pub read_at_end : (state : State) (value : List ℕ) → Spells state value → IsAnswer value (answer_at_end state)
 read_at_end (in_subtype top (s ∷ sub)) value is = whole_is_http (essence_read is.0 is.1 is.2)
 read_at_end (before_semicolon parts) value is = whole_is_http is
 read_at_end (after_semicolon parts) value is = whole_is_http (opened_is_whole is)
@@ -155,7 +155,7 @@ read_at_end other value is = tt
 
 -- The answer after more bytes is what HTTP writes.
 pub read_from : (bytes : List ℕ) (state : State) (at : ℕ) (front : List ℕ) → Spells state front
-    → IsRead (front ++ bytes) (answer_from state at bytes)
+    → IsAnswer (front ++ bytes) (answer_from state at bytes)
 read_from [] state at front is = rw (append-nil front) (read_at_end state front is)
 read_from (b ∷ bytes) state at front is =
     let rest = λ (after : State) (goes : next state b ≡ Some after).
@@ -163,5 +163,5 @@ read_from (b ∷ bytes) state at front is =
     grind (arith, rest, append_assoc)
 
 -- What is read of a value is what HTTP writes.
-pub answered_is_http : (value : List ℕ) (parts : Parts) → answer_of value ≡ read parts → HttpReads value (media_of parts)
-answered_is_http value parts is = subst (IsRead value) is (read_from value before_type 0 [] refl)
+pub answered_is_http : (value : List ℕ) (parts : Parts) → answer_of value ≡ read parts → HttpReads value (media_of_parts parts)
+answered_is_http value parts is = subst (IsAnswer value) is (read_from value before_type 0 [] refl)

@@ -2,10 +2,10 @@
 use Rattle.std.proofs.Common.{rules}
 use Rattle.mime_http.proofs.Common.{Answer, AreSpaces, not, ◌==◌, nat_tests, EndsIn, InvalidToken, IsHttpFault, IsHttpMediaType}
 use Rattle.mime_http.proofs.Common.{IsHttpViable, List, MissingQuote, MissingSubtype, MissingValue, NoMemory, None, OneHttpFault}
-use Rattle.mime_http.proofs.Common.{ParseError, Parts, State, [], awaits_after, list_all, true, with_parameter, answer_at_end, answer_from}
+use Rattle.mime_http.proofs.Common.{ParseError, Parts, State, [], awaits_after, list_all, true, parts_with, answer_at_end, answer_from}
 use Rattle.mime_http.proofs.Common.{answer_of, ap, append-nil, append_assoc, arith, before_type, by_option, false, codes, completion_of}
 use Rattle.mime_http.proofs.Common.{cons_option, in_name, in_string, in_subtype, in_type, in_value, is_quoted_byte, is_token_byte}
-use Rattle.mime_http.proofs.Common.{last_byte_of, length, length-append, media_of, next, read, refl, rejected, slice_get-prefix}
+use Rattle.mime_http.proofs.Common.{last_byte_of, length, length-append, media_of_parts, next, read, refl, rejected, slice_get-prefix}
 use Rattle.mime_http.proofs.Common.{slice_get_within, subst, suc, sym, take, take-append-add, take-append_seam, take-length, unwrap_or, ℕ}
 use Rattle.mime_http.proofs.Common.{⊤, ◌++◌, ◌+◌, ◌-◌, ◌∙◌, ◌∷◌, ◌≡◌, ◌≢◌, closed-letter, takes_all-any}
 use Rattle.mime_http.proofs.Runs.{no_way, one_byte}
@@ -24,7 +24,7 @@ ends_in bytes front b (behind before is) = (before ++ bytes, simp append_assoc)
 
 -- A letter and a quote close a quoted string, after a backslash, too.
 letter_closes : (parts : Parts) (name content : List ℕ) (at : ℕ)
-    → answer_from (in_string parts name content) at (codes "x\"") ≡ read (with_parameter parts name (content ++ (120 ∷ [])))
+    → answer_from (in_string parts name content) at (codes "x\"") ≡ read (parts_with parts name (content ++ (120 ∷ [])))
 unfolding is_quoted_byte
 letter_closes parts name content at = grind (arith, takes_all-any (awaits_after false content) (120 ∷ []) refl, closed-letter content)
 
@@ -139,7 +139,7 @@ completed value fault front same is =
 -- A fault of a value is the answer.
 pub fault_answered : (value : List ℕ) (fault : ParseError) → IsHttpFault value fault → answer_of value ≡ rejected fault
 fault_answered value (InvalidToken pos byte) dead = by_answer (answer_of value)
-    (λ parts e. absurd (not_viable ([], rw (append-nil value) (media_of parts, answered_is_http value parts e))))
+    (λ parts e. absurd (not_viable ([], rw (append-nil value) (media_of_parts parts, answered_is_http value parts e))))
     (λ fault e. e ∙ found fault (answered_fault value fault e))
   where
     not_viable : ¬ (IsHttpViable value)
@@ -162,7 +162,7 @@ no_fault value fault is has = rejected_is_none value fault (fault_answered value
 
 -- A value that is no media type has exactly one fault.
 pub one_http_fault : OneHttpFault
-one_http_fault value isnt = by_answer (answer_of value) (λ parts e. absurd (isnt (media_of parts, answered_is_http value parts e)))
+one_http_fault value isnt = by_answer (answer_of value) (λ parts e. absurd (isnt (media_of_parts parts, answered_is_http value parts e)))
     (λ fault e. (fault, answered_fault value fault e, λ other has. cc (fault_answered value other has, e)))
 
 -- ---- an open string

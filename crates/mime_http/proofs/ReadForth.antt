@@ -1,10 +1,11 @@
 -- What HTTP writes is read, byte by byte, as the media type that it is; what is read is safe in a header, and in UTF-8.
-use Rattle.mime_http.proofs.Common.{AllByRecursion, IsUtf8-append, cond_both, is_token_value, text_of_pair, text_of_pairs, length-append}
+use Rattle.mime_http.proofs.Common.{AllByRecursion, IsUtf8-append, cond_both, is_token, text_of_pair, text_of_pairs, length-append}
 use Rattle.mime_http.proofs.Common.{AreHttpParameters, AreSpaces, AreTokenBytes-from_token, HttpReads, IsHttpParameter, IsSafePair, IsToken}
 use Rattle.mime_http.proofs.Common.{IsUtf8, IsUtf8-nil, List, MediaType, Parts, Some, State, [], after_semicolon, and_parts, answer_at_end}
 use Rattle.mime_http.proofs.Common.{answer_from, answer_of, ap, append-nil, append_assoc, arith, before_semicolon, content-from_token}
-use Rattle.mime_http.proofs.Common.{is_quoted_byte, is_space, is_token_byte, length, map, media_of, next, no_more, read, refl, semicolon}
-use Rattle.mime_http.proofs.Common.{semicolon_and, subst, sym, with_pairs, with_parameter, with_string, with_token, ℕ, ◌++◌, ◌+◌, ◌∙◌, ◌∷◌}
+use Rattle.mime_http.proofs.Common.{is_quoted_byte, is_space, is_token_byte, length, map, media_of_parts, next, no_more, read, refl}
+use Rattle.mime_http.proofs.Common.{semicolon}
+use Rattle.mime_http.proofs.Common.{semicolon_and, subst, sym, with_pairs, parts_with, with_string, with_token, ℕ, ◌++◌, ◌+◌, ◌∙◌, ◌∷◌}
 use Rattle.mime_http.proofs.Common.{◌≡◌, before_type, lowered_pair, regroup}
 use Rattle.mime_http.proofs.Around.{around, past_ascii, put_ascii, spaces_ascii, past_token, put_one, put_token}
 use Rattle.mime_http.proofs.Runs.{EndsToken, KeepsSpace, content_ends, name_begins, on_content, on_subtype, on_value, space_is_no_token}
@@ -16,7 +17,7 @@ use Rattle.mime_http.proofs.Runs.{subtype_ends, type_begins, value_ends, keeps_a
 utf8_pair : (name value : List ℕ) → IsToken name → IsUtf8 value → IsUtf8 (text_of_pair (name, value))
 utf8_pair name value named utf8 =
     let quoted = put_one 34 [] (omega arith) IsUtf8-nil in
-    let quote = cond_both (is_token_value value) [] (34 ∷ []) IsUtf8 (λ token. IsUtf8-nil) (λ other. quoted) in
+    let quote = cond_both (is_token value) [] (34 ∷ []) IsUtf8 (λ token. IsUtf8-nil) (λ other. quoted) in
     put_ascii (59 ∷ 32 ∷ []) _ (omega arith)
     (put_token name _ named (put_one 61 _ (omega arith) (IsUtf8-append _ _ quote (IsUtf8-append value _ utf8 quote))))
 
@@ -27,7 +28,7 @@ record ReadsOne (text bytes : List ℕ) (pair : List ℕ × List ℕ) : Type 0 w
   safe : IsSafePair found
   utf8 : IsUtf8 (text ++ bytes) → IsUtf8 (text_of_pair found) × IsUtf8 bytes
   reads : (parts : Parts) (at : ℕ) → answer_from (after_semicolon parts) at (text ++ bytes)
-      ≡ answer_from (before_semicolon (with_parameter parts found.0 found.1)) (at + length text) bytes
+      ≡ answer_from (before_semicolon (parts_with parts found.0 found.1)) (at + length text) bytes
 
 -- Each parameter that HTTP writes is read as its pair.
 reads_one : {text : List ℕ} {pair : List ℕ × List ℕ} → IsHttpParameter text pair → (bytes : List ℕ) → EndsToken bytes
@@ -43,7 +44,7 @@ reads_one (with_token name value named valued) bytes ends = record {
   reads = λ parts at. (simp regroup (name_begins parts name named at (61 ∷ (value ++ bytes))))
       ∙ on_value parts name value (AreTokenBytes-from_token value valued) [] (at + length name + 1) bytes
       ∙ value_ends parts name value valued _ bytes ends
-      ∙ ap (λ to. answer_from (before_semicolon (with_parameter parts name value)) to bytes)
+      ∙ ap (λ to. answer_from (before_semicolon (parts_with parts name value)) to bytes)
       (omega (arith, length-append name (61 ∷ value)));
 }
 reads_one (with_string name content named is) bytes ends = record {
@@ -139,7 +140,7 @@ reads_on (semicolon_and b a parameter rest pair pairs first second is_one is) af
           let (here, rest) = one.utf8 (utf8_past b a (parameter ++ (rest ++ after)) first second is) in
           IsUtf8-append _ _ here (from.utf8 rest);
       reads = λ parts state between at.
-          let more = with_parameter parts one.found.0 one.found.1 in
+          let more = parts_with parts one.found.0 one.found.1 in
           after_white b a (parameter ++ (rest ++ after)) first second between at ∙ one.reads parts _
           ∙ from.reads more (before_semicolon more) (outside more) _ ∙ rw (append_assoc parts.pairs _ _) refl;
     })
@@ -153,7 +154,7 @@ pub record AreFound (value : List ℕ) (parts : Parts) : Type 0 where
 
 -- The parts of a value are read, which are those of the media type.
 pub http_is_answered : (value : List ℕ) (media : MediaType) → HttpReads value media
-    → (parts : Parts) × (answer_of value ≡ read parts) × (media_of parts ≡ with_pairs media media.pairs) × AreFound value parts
+    → (parts : Parts) × (answer_of value ≡ read parts) × (media_of_parts parts ≡ with_pairs media media.pairs) × AreFound value parts
 unfolding is_token_byte
 http_is_answered value media reads =
     let top = reads.top in

@@ -3,7 +3,7 @@ use Rattle.mime_http.proofs.Common.{AreSpaces, AreTokenBytes, Bool, InvalidToken
 use Rattle.mime_http.proofs.Common.{after_semicolon, append-nil, awaits_after, awaits_after-append, takes_all, append_assoc, answer_from}
 use Rattle.mime_http.proofs.Common.{arith, before_semicolon, before_type, in_name, in_string, in_subtype, in_type, in_value, is_space}
 use Rattle.mime_http.proofs.Common.{is_token_byte, length, list_all, list_all-append, nat_tests, next, refl, rejected, true, false}
-use Rattle.mime_http.proofs.Common.{with_parameter, ℕ, ⊤, ◌++◌, ◌+◌, ◌∷◌, ◌≡◌, content-closed, content-taken}
+use Rattle.mime_http.proofs.Common.{parts_with, ℕ, ⊤, ◌++◌, ◌+◌, ◌∷◌, ◌≡◌, content-closed, content-taken}
 
 -- White space after white space is white space.
 pub spaces-append : (n m : List ℕ) → AreSpaces n → AreSpaces m → AreSpaces (n ++ m)
@@ -75,13 +75,13 @@ on_value parts name (b ∷ run) all (v ∷ value) at bytes = grind (arith, on_va
 -- A token begins the type.
 pub type_begins : (token : List ℕ) → IsToken token → (at : ℕ) (bytes : List ℕ)
     → answer_from before_type at (token ++ bytes) ≡ answer_from (in_type token) (at + length token) bytes
-type_begins [] is at bytes = absurd is
+type_begins [] is at bytes = absurd cc
 type_begins (b ∷ token) is at bytes = grind (arith, bytes_go_on is_token_byte in_type (λ done b is. rw is refl) token)
 
 -- A token begins a parameter's name.
 pub name_begins : (parts : Parts) (token : List ℕ) → IsToken token → (at : ℕ) (bytes : List ℕ)
     → answer_from (after_semicolon parts) at (token ++ bytes) ≡ answer_from (in_name parts token) (at + length token) bytes
-name_begins parts [] is at bytes = absurd is
+name_begins parts [] is at bytes = absurd cc
 name_begins parts (b ∷ token) is at bytes =
     grind (arith, space_is_no_token b, bytes_go_on is_token_byte (in_name parts) (λ done b is. rw is refl) token)
 
@@ -95,14 +95,14 @@ EndsToken (b ∷ bytes) = is_token_byte b ≡ false
 -- After a subtype that ends, reading goes on as after the parts so far.
 pub subtype_ends : (top sub : List ℕ) → IsToken sub → (at : ℕ) (bytes : List ℕ) → EndsToken bytes
     → answer_from (in_subtype top sub) at bytes ≡ answer_from (before_semicolon (record { top = top; sub = sub; pairs = [] })) at bytes
-subtype_ends top [] is at bytes ends = absurd is
+subtype_ends top [] is at bytes ends = absurd cc
 subtype_ends top (s ∷ sub) is at [] ends = refl
 subtype_ends top (s ∷ sub) is at (b ∷ bytes) ends = rw ends refl
 
 -- After a value that ends, reading goes on as after the parts so far.
 pub value_ends : (parts : Parts) (name value : List ℕ) → IsToken value → (at : ℕ) (bytes : List ℕ) → EndsToken bytes
-    → answer_from (in_value parts name value) at bytes ≡ answer_from (before_semicolon (with_parameter parts name value)) at bytes
-value_ends parts name [] is at bytes ends = absurd is
+    → answer_from (in_value parts name value) at bytes ≡ answer_from (before_semicolon (parts_with parts name value)) at bytes
+value_ends parts name [] is at bytes ends = absurd cc
 value_ends parts name (v ∷ value) is at [] ends = refl
 value_ends parts name (v ∷ value) is at (b ∷ bytes) ends = rw ends refl
 
@@ -124,5 +124,5 @@ on_content {content} is parts name done none at bytes = grind (arith, on_open, c
 
 -- A quote ends it.
 pub content_ends : {content : List ℕ} → IsContent content → (parts : Parts) (name : List ℕ)
-    → next (in_string parts name content) 34 ≡ Some (before_semicolon (with_parameter parts name content))
+    → next (in_string parts name content) 34 ≡ Some (before_semicolon (parts_with parts name content))
 content_ends {content} is parts name = rw (content-closed content is) refl

@@ -1,27 +1,22 @@
 -- What is written of parameters is read as them, and is written item by item.
 use Rattle.mime_http.proofs.Common.{SyntaxTree, if◌then◌else◌, AllByRecursion, AreParameters, Bool, IsContent, IsSafe, IsSafePair, IsToken}
 use Rattle.mime_http.proofs.Common.{IsToken-lowered, List, MediaType, Parameter, Parameters, Parts, Reads, [], append-nil, append_assoc}
-use Rattle.mime_http.proofs.Common.{arith, bytes_eq, false, final, is_token_byte, is_token_value, length, length-append, length-lowered}
+use Rattle.mime_http.proofs.Common.{arith, bytes_eq, false, final, is_token_byte, is_token, length, length-append, length-lowered}
 use Rattle.mime_http.proofs.Common.{list_all-lowered, listed, lowered, lowered-lowered, lowered_list, lowered_value, lowered_value-either}
-use Rattle.mime_http.proofs.Common.{lowered_value-lowered, map, media_of, more, nat_tests, no_list, not, others, pairs_of_list}
+use Rattle.mime_http.proofs.Common.{lowered_value-lowered, map, media_of_parts, more, nat_tests, no_list, not, others, pairs_of_list}
 use Rattle.mime_http.proofs.Common.{pairs_of_tail-lowered, plain, quoted, refl, text_of_list, text_of_pair, text_of_pairs, text_of_parts}
 use Rattle.mime_http.proofs.Common.{true, with_pair, ℕ, ◌++◌, ◌∷◌, ◌≡◌, Item, NameIs, bytes_eq-Decides, false_from_ne_true, items_of, ◌+◌}
 use Rattle.mime_http.proofs.Common.{◌≤◌, Decides, filter, lowered_pair}
 
--- The test for a token holds for tokens alone.
-pub token_from_test : (value : List ℕ) → is_token_value value ≡ true → IsToken value
-token_from_test [] is = absurd cc
-token_from_test (b ∷ value) is = is
-
 -- A value is a token exactly if it is one in lowercase.
-test-lowered : (value : List ℕ) → is_token_value (lowered value) ≡ is_token_value value
+test-lowered : (value : List ℕ) → is_token (lowered value) ≡ is_token value
 unfolding is_token_byte
 test-lowered [] = refl
 test-lowered (b ∷ value) = list_all-lowered is_token_byte (λ x. grind (arith, nat_tests)) (b ∷ value)
 
 -- A value is a token exactly if it is one as it is kept under any name.
-test-either : (name value : List ℕ) → is_token_value (lowered_value name value) ≡ is_token_value value
-test-either name value = lowered_value-either (λ v. is_token_value v ≡ is_token_value value) name value refl (test-lowered value)
+test-either : (name value : List ℕ) → is_token (lowered_value name value) ≡ is_token value
+test-either name value = lowered_value-either (λ v. is_token v ≡ is_token value) name value refl (test-lowered value)
 
 -- A value has as many bytes as it is kept with.
 pub length-lowered_value : (name value : List ℕ) → length (lowered_value name value) ≡ length value
@@ -38,7 +33,7 @@ length-pairs ((name, value) ∷ pairs) = grind (arith, length-pairs pairs, test-
 
 -- The parameter of a pair: its value is a token, or in quotes.
 abbrev parameter_of : List ℕ × List ℕ → Parameter
-parameter_of (name, value) = if is_token_value value then plain name value else quoted name value []
+parameter_of (name, value) = if is_token value then plain name value else quoted name value []
 
 -- The list of the parameters of pairs, each after a space.
 abbrev list_of : List ℕ × List ℕ → List (List ℕ × List ℕ) → Parameters
@@ -48,8 +43,8 @@ list_of pair (next ∷ pairs) = more (32 ∷ []) (parameter_of pair) (list_of ne
 -- The parameters of safe pairs are well formed.
 well_formed_list : (pair : List ℕ × List ℕ) (pairs : List (List ℕ × List ℕ)) → AllByRecursion IsSafePair (pair ∷ pairs)
     → AreParameters (list_of pair pairs)
-well_formed_list (name, value) [] (is, all) = grind (arith, token_from_test)
-well_formed_list (name, value) (next ∷ pairs) (is, all) = grind (arith, token_from_test, well_formed_list next pairs)
+well_formed_list (name, value) [] (is, all) = grind arith
+well_formed_list (name, value) (next ∷ pairs) (is, all) = grind (arith, well_formed_list next pairs)
 
 -- The parameters of pairs are written as the pairs are, and read as the pairs.
 written_list : (pair : List ℕ × List ℕ) (pairs : List (List ℕ × List ℕ))
@@ -66,11 +61,11 @@ lowered_all (name, value) (next ∷ pairs) = grind (arith, test-either name valu
 
 -- A type, a subtype and safe pairs are read as they are written.
 pub parts_are_read : (parts : Parts) → IsToken parts.top → IsToken parts.sub → AllByRecursion IsSafePair parts.pairs
-    → Reads (text_of_parts parts) (media_of parts)
+    → Reads (text_of_parts parts) (media_of_parts parts)
 parts_are_read parts is_top is_sub safe = go parts.pairs safe
   where
     go : (pairs : List (List ℕ × List ℕ)) → AllByRecursion IsSafePair pairs
-        → Reads (text_of_parts (record parts { pairs = pairs })) (media_of (record parts { pairs = pairs }))
+        → Reads (text_of_parts (record parts { pairs = pairs })) (media_of_parts (record parts { pairs = pairs }))
     go [] safe =
         let tree : SyntaxTree = record { top = parts.top; sub = parts.sub; tail = no_list } in
         record { tree = tree; well_formed = (is_top, is_sub, tt); spelled = refl; valued = grind (arith, append-nil) }
@@ -107,7 +102,7 @@ with_pair_is_read text value name content reads safe named is =
     let all = all_others IsSafePair name value.pairs (name, content) safe.pairs (named, is) in
     let written = parts_are_read low (IsToken-lowered tree.top reads.well_formed.0) (IsToken-lowered tree.sub reads.well_formed.1) all in
     let same : text_of_parts low ≡ value.essence ++ text_of_pairs pairs = grind (arith, reads.valued, append_assoc) in
-    let media : media_of low ≡ with_pair value (lowered name) (lowered_value name content) =
+    let media : media_of_parts low ≡ with_pair value (lowered name) (lowered_value name content) =
     grind (arith, reads.valued, lowered-lowered, length-lowered, others_stay, pairs_of_tail-lowered) in
     rw (same, media) at written
 

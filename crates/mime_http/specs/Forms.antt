@@ -2,7 +2,8 @@
 use Rattle.std.specs.Prelude.{ℕ, Bool, List, [], ◌∷◌, ◌++◌, ◌||◌, ◌==◌, not, if◌then◌else◌, codes}
 use Rattle.std.specs.List.{list_all}
 use Rattle.mime.specs.Bytes.{is_quoted_text_byte, equals_byte, quote_byte, backslash_byte}
-use Rattle.mime_http.specs.Written.{escaped, is_token_value}
+use Rattle.mime.specs.Grammar.{is_token}
+use Rattle.mime_http.specs.Written.{escaped}
 use Rattle.mime_http.specs.declared.quoted.Form.{Form}
 use Rattle.mime_http.specs.declared.quoted.Form.TheVariants.{Token, Quoted, Escaped}
 
@@ -12,7 +13,7 @@ is_plain b = not (b == quote_byte || b == backslash_byte)
 
 -- how a value is written that a quoted string can mean
 abbrev pub form_of : List ℕ → Form
-form_of value = if is_token_value value then Token else (if list_all is_quoted_text_byte value then Quoted else Escaped)
+form_of value = if is_token value then Token else (if list_all is_quoted_text_byte value then Quoted else Escaped)
 
 -- what stands on both sides of a value, and the value between
 abbrev pub marks : Form → List ℕ

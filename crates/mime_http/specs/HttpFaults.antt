@@ -1,8 +1,8 @@
 -- Why a header's value is rejected: which values may still become a media type that HTTP allows, and its one fault. This is as in the file
 -- `Faults` of `mime`, with `IsHttpMediaType` for accepted.
-use Rattle.std.specs.Prelude.{◌≡◌, ℕ, ◌<◌, List, ◌++◌, length, slice_get, Some}
+use Rattle.std.specs.Prelude.{◌≡◌, ℕ, List, ◌++◌, length, slice_get, Some}
 use Rattle.std.specs.Str.{IsUtf8, IsValidUpTo}
-use Rattle.mime.specs.Values.{MediaType}
+use Rattle.mime.specs.Values.{MediaType, NeedsMemory}
 use Rattle.mime.specs.Faults.{IsLongest, LacksTo}
 use Rattle.mime.specs.declared.scan.fault.ParseError.{ParseError}
 use Rattle.mime.specs.declared.scan.fault.ParseError.TheVariants.{InvalidToken}
@@ -21,15 +21,15 @@ abbrev pub IsHttpFault : List ℕ → ParseError → Type 0
 IsHttpFault value (InvalidToken pos byte) = IsLongest IsHttpViable value pos × (slice_get value pos ≡ Some byte)
 IsHttpFault value fault = LacksTo IsHttpMediaType value fault
 
--- the value is a media type of which more than 40 bytes are printed
-abbrev pub NeedsMemory : List ℕ → Type 0
-NeedsMemory value = (media : MediaType) × HttpReads value media × IsPrinted value media × (40 < length media.kept)
+-- the value is a media type that needs memory for what is printed
+abbrev pub ValueNeedsMemory : List ℕ → Type 0
+ValueNeedsMemory value = (media : MediaType) × HttpReads value media × IsPrinted value media × NeedsMemory media
 
 -- why reading a value fails: the position at which it isn't UTF-8, its fault, or that memory ran out
 abbrev pub HttpExplains : List ℕ → FieldError → Type 0
 HttpExplains value (NotUtf8 pos) = ¬ (IsUtf8 value) × IsValidUpTo value pos
 HttpExplains value (Invalid fault) = IsUtf8 value × IsHttpFault value fault
-HttpExplains value NoMemory = IsUtf8 value × NeedsMemory value
+HttpExplains value NoMemory = IsUtf8 value × ValueNeedsMemory value
 
 -- the position at which a value fails: of the byte at fault, or the value's length if something is missing at its end or memory ran out
 abbrev pub fault_position : List ℕ → FieldError → ℕ

@@ -39,6 +39,10 @@ pub data IsPrinted : List ℕ → MediaType → Type 0 where
   anew : (value : List ℕ) (media : MediaType) → ¬ (IsAccepted (trimmed value)) → media ≡ with_pairs media media.pairs
       → IsPrinted value media
 
+-- a header's value is read as this media type: it is in UTF-8, HTTP allows it, and this is printed for it
+abbrev pub FieldReads : List ℕ → MediaType → Type 0
+FieldReads value media = IsUtf8 value × HttpReads value media × IsPrinted value media
+
 -- what texts are, in their order: only white space is nothing, OWS media-type OWS in UTF-8 is a range, and any other text is a bad entry.
 -- A range is printed like the value of a header with one media type
 pub data AreSorted : List (List ℕ) → List MediaType → List (List ℕ) → Type 0 where

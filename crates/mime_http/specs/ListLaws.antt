@@ -6,8 +6,8 @@ use Rattle.mime_http.specs.HttpMediaType.{HttpReads, IsHttpMediaType}
 use Rattle.mime_http.specs.HttpList.{lines_or_any, AreBetweenCommas, trimmed, AreSorted, IsPiece, BeginsPiece, Header, IsHeader, IsFirstBad}
 
 -- Lines have exactly one cut into pieces.
-abbrev pub OneCut : Type 0
-OneCut = (lines : List (List ℕ)) → ExactlyOne (AreBetweenCommas IsPiece BeginsPiece lines)
+abbrev pub OneCutOfLines : Type 0
+OneCutOfLines = (lines : List (List ℕ)) → ExactlyOne (AreBetweenCommas IsPiece BeginsPiece lines)
 
 -- texts that are elements, each a media range with its weight, or only white space
 pub data AreElements : List (List ℕ) → List MediaType → Type 0 where

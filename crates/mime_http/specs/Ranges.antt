@@ -22,9 +22,13 @@ named_parts range offer = if bytes_eq range.essence (codes "*/*") then Some 0 el
     if bytes_eq range.essence (type_of offer ++ codes "/*") then Some 1 else
     if bytes_eq range.essence offer.essence then Some 2 else None
 
--- a range's parameters other than `q`, before it and after it, each of which an offer must have
+-- whether a range demands its parameters of this name: those other than `q`, before it and after it
+abbrev pub is_demanded : List ℕ → Bool
+is_demanded name = not (bytes_eq name (codes "q"))
+
+-- the parameters that a range demands, each of which an offer must have
 abbrev pub demanded : List (List ℕ × List ℕ) → List (List ℕ × List ℕ)
-demanded pairs = filter (λ pair. not (bytes_eq pair.0 (codes "q"))) pairs
+demanded pairs = filter (λ pair. is_demanded pair.0) pairs
 
 -- an offer has a parameter if one of its own has the name, and a value that means the same (5.6.4). Only charsets are read in lowercase
 abbrev pub has : MediaType → List ℕ × List ℕ → Bool

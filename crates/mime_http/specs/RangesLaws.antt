@@ -56,8 +56,8 @@ NoneIsBest = (ranges offers : List MediaType)
     → (best_offer ranges offers ≡ None) ↔ ((offer : MediaType) → Contains offers offer → given_weight ranges offer ≡ 0)
 
 -- The offers that weigh more than 0 have at most one order, and all offers have at most one ranking.
-abbrev pub OneOrder : Type 0
-OneOrder = (ranges offers : List MediaType) (order other : List ℕ) → AreInOrder ranges offers order → AreInOrder ranges offers other
+abbrev pub OneOrderOfOffers : Type 0
+OneOrderOfOffers = (ranges offers : List MediaType) (order other : List ℕ) → AreInOrder ranges offers order → AreInOrder ranges offers other
     → order ≡ other
 
 abbrev pub OneRanking : Type 0

@@ -19,8 +19,8 @@ pub record Parts : Type 0 where
   pub pairs : List (List ℕ × List ℕ)
 
 -- the parts with one parameter more
-abbrev pub with_parameter : Parts → List ℕ → List ℕ → Parts
-with_parameter parts name value = record parts { pairs = parts.pairs ++ ((name, value) ∷ []) }
+abbrev pub parts_with : Parts → List ℕ → List ℕ → Parts
+parts_with parts name value = record parts { pairs = parts.pairs ++ ((name, value) ∷ []) }
 
 -- What is read of the bytes of a value so far: white space or nothing; a part of the type, of the subtype, of a parameter's name, of its
 -- value, or of a quoted string's content; or all before a semicolon or the end, or before the next parameter.
@@ -56,10 +56,10 @@ next (in_name parts name) b =
 next (in_value parts name []) b =
     if is_token_byte b then Some (in_value parts name (b ∷ [])) else if b == quote_byte then Some (in_string parts name []) else None
 next (in_value parts name (v ∷ value)) b =
-    if is_token_byte b then Some (in_value parts name ((v ∷ value) ++ (b ∷ []))) else next_after (with_parameter parts name (v ∷ value)) b
+    if is_token_byte b then Some (in_value parts name ((v ∷ value) ++ (b ∷ []))) else next_after (parts_with parts name (v ∷ value)) b
 next (in_string parts name content) b =
     if continues content b then Some (in_string parts name (content ++ (b ∷ []))) else
-    if b == quote_byte then Some (before_semicolon (with_parameter parts name content)) else None
+    if b == quote_byte then Some (before_semicolon (parts_with parts name content)) else None
 
 -- the answer: a media type of these parts, or the fault
 pub data Answer : Type 0 where
@@ -76,7 +76,7 @@ answer_at_end (before_semicolon parts) = read parts
 answer_at_end (after_semicolon parts) = read parts
 answer_at_end (in_name parts name) = rejected MissingEqual
 answer_at_end (in_value parts name []) = rejected MissingValue
-answer_at_end (in_value parts name (v ∷ value)) = read (with_parameter parts name (v ∷ value))
+answer_at_end (in_value parts name (v ∷ value)) = read (parts_with parts name (v ∷ value))
 answer_at_end (in_string parts name content) = rejected MissingQuote
 
 -- the answer from a state on, for the bytes that follow, of which the first stands at this position
@@ -92,8 +92,8 @@ answer_of value = answer_from before_type 0 value
 abbrev pub text_of_parts : Parts → List ℕ
 text_of_parts parts = parts.top ++ (slash_byte ∷ (parts.sub ++ text_of_pairs parts.pairs))
 
-abbrev pub media_of : Parts → MediaType
-media_of parts = with_pairs (value_of (record { top = parts.top; sub = parts.sub; tail = no_list })) (map lowered_pair parts.pairs)
+abbrev pub media_of_parts : Parts → MediaType
+media_of_parts parts = with_pairs (value_of (record { top = parts.top; sub = parts.sub; tail = no_list })) (map lowered_pair parts.pairs)
 
 -- the answer from a state and a position of a value on
 abbrev pub answer_at : List ℕ → State → ℕ → Answer
@@ -122,7 +122,7 @@ pub record IsClosedAt (value : List ℕ) (from close : ℕ) : Type 0 where
 pub record IsParameterAt (value name : List ℕ) (state : Parts → State) (from : ℕ) (spans : Spans) : Type 0 where
   pub content : List ℕ
   pub read : (parts : Parts)
-      → answer_at value (state parts) from ≡ answer_at value (before_semicolon (with_parameter parts name content)) spans.end
+      → answer_at value (state parts) from ≡ answer_at value (before_semicolon (parts_with parts name content)) spans.end
   pub written : quote_of content ++ (content ++ quote_of content) ≡ slice_range value spans.begin spans.last
   pub least : from ≤ spans.first
   pub apart : spans.first ≤ spans.begin
@@ -140,6 +140,6 @@ pub record IsEssenceAt (value : List ℕ) (from to : ℕ) : Type 0 where
   pub within : to ≤ length value
 
 -- a room holds the text of this length, if it has room for it
-pub record Holds (room : List ℕ) (len : ℕ) (text : List ℕ) : Type 0 where
+pub record RoomHolds (room : List ℕ) (len : ℕ) (text : List ℕ) : Type 0 where
   pub long : length text ≡ len
   pub held : len ≤ length room → take len room ≡ text

@@ -1,7 +1,8 @@
 -- A parameter written into a media type, and how a header then holds it (RFC 9110, 5.6.4, 5.6.6 and 8.3.1).
-use Rattle.std.specs.Prelude.{◌≡◌, ℕ, Bool, false, List, [], ◌∷◌, ◌++◌, flat_map, filter, not, if◌then◌else◌, ◌==◌, ◌||◌, codes}
-use Rattle.std.specs.{List.list_all, Str.bytes_eq}
-use Rattle.mime.specs.Bytes.{is_token_byte, equals_byte, quote_byte, backslash_byte}
+use Rattle.std.specs.Prelude.{◌≡◌, ℕ, List, [], ◌∷◌, ◌++◌, flat_map, filter, not, if◌then◌else◌, ◌==◌, ◌||◌, codes}
+use Rattle.std.specs.Str.{bytes_eq}
+use Rattle.mime.specs.Bytes.{equals_byte, quote_byte, backslash_byte}
+use Rattle.mime.specs.Grammar.{is_token}
 use Rattle.mime.specs.Values.{MediaType, lowered, lowered_value}
 use Rattle.mime_http.specs.Unescaped.{unescaped}
 
@@ -9,13 +10,9 @@ use Rattle.mime_http.specs.Unescaped.{unescaped}
 abbrev pub escaped : List ℕ → List ℕ
 escaped bytes = flat_map (λ b. if b == quote_byte || b == backslash_byte then backslash_byte ∷ b ∷ [] else b ∷ []) bytes
 
--- whether a value is a token, and what is written on both sides of it: nothing, or else a quote
-abbrev pub is_token_value : List ℕ → Bool
-is_token_value [] = false
-is_token_value (b ∷ value) = list_all is_token_byte (b ∷ value)
-
+-- what is written on both sides of a value: nothing if it is a token, else a quote
 abbrev pub quote_of : List ℕ → List ℕ
-quote_of value = if is_token_value value then [] else quote_byte ∷ []
+quote_of value = if is_token value then [] else quote_byte ∷ []
 
 -- a parameter after a semicolon and a space, and one after the other
 abbrev pub text_of_pair : List ℕ × List ℕ → List ℕ

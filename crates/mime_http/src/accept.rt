@@ -279,7 +279,7 @@ impl Accept {
     /// Returns the position of the offer with the highest weight, or `None` exactly if every offer weighs 0. Of offers with equal weights,
     /// these rules choose the best, in this order:
     /// 1. The offer with the more specific range wins: the range that names more parts (`text/*` names one) or, if both name equally many,
-    ///    more parameters other than `q`.
+    ///    demands more parameters.
     /// 2. The offer whose range is earlier in the header wins. Of equally specific ranges with the same weight, the last counts.
     /// 3. The earlier offer wins.
     ///

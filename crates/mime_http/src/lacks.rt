@@ -4,23 +4,23 @@ ghost use Rattle.std.specs.Prelude.{◌≡◌, false, find, length, not, option_
 ghost use Rattle.mime_http.specs.{Lacks.begins, Lacks.is_quoted, Lacks.lacked, Lacks.specificity, Ranges.demanded, Ranges.has};
 
 use crate::list::trim_start;
-use crate::range::{has, named_parts, param_count};
+use crate::range::{has, is_demanded, named_parts, param_count};
 use mime::{Mime, Name};
 
-/// Returns the first parameter of a range other than `q` that an offer lacks, or `None` if the offer has each.
+/// Returns the first parameter that a range demands and an offer lacks, or `None` if the offer has each.
 fn first_lacked<'r>(range: &'r Mime, offer: &Mime) -> Option<(Name<'r>, Name<'r>)>
     ensures { option_map (λ item. (item.0.text.now, item.1.text.now)) result
         ≡ find (λ pair. not (has offer.now.media pair)) (demanded range.now.media.pairs) }
 {
     for (name, value) in range.params() {
-        if name.text != "q" && !has(offer, name.text, value.text) {
+        if is_demanded(name.text) && !has(offer, name.text, value.text) {
             return Some((name, value));
         }
     }
     None
 }
 
-/// Returns the number of a range's parameters other than `q`.
+/// Returns the number of parameters that a range demands.
 fn demanded_count(range: &Mime) -> usize
     ensures { result ≡ length (demanded range.now.media.pairs) }
 {
@@ -28,7 +28,7 @@ fn demanded_count(range: &Mime) -> usize
     let most = param_count(range);
     let mut count = 0;
     for (name, _) in range.params() {
-        if name.text != "q" {
+        if is_demanded(name.text) {
             count += 1;
         }
     }
@@ -44,9 +44,10 @@ fn specificity(offer: &Mime, range: &Mime) -> Option<(u8, usize)>
     Some((named, demanded_count(range)))
 }
 
-/// Returns the first parameter, other than `q`, that a range demands and an offer lacks, if the range matches the offer's essence and is
-/// more specific than `decider`, the range that decides the offer's weight, if there is one (RFC 9110, 12.5.1). The range may lack further
-/// parameters, too. For the range `text/html;level=1`, the decider `text/*` and the offer `text/html`, this returns `level` and `1`.
+/// Returns the first parameter that a range demands and an offer lacks, if the range matches the offer's essence and is more specific than
+/// `decider`, the range that decides the offer's weight, if there is one (RFC 9110, 12.5.1). [`covers`](crate::covers) defines which
+/// parameters a range demands. The offer may lack further ones, too. For the range `text/html;level=1`, the decider `text/*` and the offer
+/// `text/html`, this returns `level` and `1`.
 pub fn lacked<'r>(
     range: &'r Mime,
     decider: Option<&Mime>,

@@ -3,9 +3,9 @@
 
 ghost use Rattle.std.specs.Prelude.{◌≡◌};
 ghost use Rattle.mime_http.specs.HeaderLaws.{PlainIsHttp, OneHttpReading, OnePrintedText, PrintedIsRead, OneHttpFault};
-ghost use Rattle.mime_http.specs.ListLaws.{OneCut, HttpListsAreRead, ReadAreHttpLists, OneHeader, OneFirstBad, BadIsAlone};
+ghost use Rattle.mime_http.specs.ListLaws.{OneCutOfLines, HttpListsAreRead, ReadAreHttpLists, OneHeader, OneFirstBad, BadIsAlone};
 ghost use Rattle.mime_http.specs.Written.{WrittenIsMeant};
-ghost use Rattle.mime_http.specs.RangesLaws.{ClosestIsClosest, BestIsAcceptable, BestIsFirst, NoneIsBest, OneOrder, OneRanking};
+ghost use Rattle.mime_http.specs.RangesLaws.{ClosestIsClosest, BestIsAcceptable, BestIsFirst, NoneIsBest, OneOrderOfOffers, OneRanking};
 ghost use Rattle.mime_http.specs.RangesLaws.{BestIsRankedFirst, CoversItself, MeaningCounts, StrangerChangesNothing, QvaluesAre};
 ghost use Rattle.mime_http.specs.RangesLaws.{WeightIsNumber};
 
@@ -42,7 +42,7 @@ pub fn one_http_fault()
 
 /// Lines can be cut into pieces in exactly one way. `a/b;p="x,y",c/d` is cut into two pieces.
 pub fn one_cut()
-    ensures { OneCut }
+    ensures { OneCutOfLines }
 {}
 
 /// A list that HTTP allows is read as its entries, none of them bad: `,a/b ,, c/d;q=0.5` has `a/b` and `c/d;q=0.5` (RFC 9110, 5.6.1.2).
@@ -97,7 +97,7 @@ pub fn none_is_best()
 
 /// The positions of the offers that weigh more than 0 are in order in only one way.
 pub fn one_order()
-    ensures { OneOrder }
+    ensures { OneOrderOfOffers }
 {}
 
 /// All offers are ranked in only one way.

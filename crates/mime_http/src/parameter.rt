@@ -3,10 +3,11 @@
 ghost use Rattle.std.specs.Prelude.{◌≡◌, ◌++◌, ◌∷◌, [], ◌↔◌, IsTrue, IfOk, IsOk, IfSome, None, OnOk, Some, is_some, if◌then◌else◌, codes};
 ghost use Rattle.std.specs.Prelude.{string_bytes, length};
 ghost use Rattle.std.specs.List.{list_all};
-ghost use Rattle.mime.specs.{Bytes.is_quoted_byte, Grammar.IsToken, HeaderLaws.AreHeaderBytes, Values.lowered, Values.lowered_value};
+ghost use Rattle.mime.specs.{Bytes.is_quoted_byte, Grammar.IsToken, Grammar.is_token, HeaderLaws.AreHeaderBytes};
+ghost use Rattle.mime.specs.{Values.lowered, Values.lowered_value};
 ghost use Rattle.mime_http.specs.Boundary.{IsBoundary};
 ghost use Rattle.mime_http.specs.Forms.{form_of, text_in};
-ghost use Rattle.mime_http.specs.Written.{escaped, is_token_value, text_of_pairs, others, with_pair};
+ghost use Rattle.mime_http.specs.Written.{escaped, text_of_pairs, others, with_pair};
 ghost use Rattle.mime_http.specs.declared.quoted.Form.TheVariants.{Token, Quoted};
 
 use crate::multipart::is_boundary;
@@ -29,7 +30,7 @@ static CONTROLS: Class = Class {
 
 /// Returns `true` if a string is a token.
 fn is_token_text(text: &str) -> bool
-    ensures { result ≡ is_token_value text.now }
+    ensures { result ≡ is_token text.now }
 {
     !text.is_empty() && token_end_far(text.as_bytes(), 0) == text.len()
 }
@@ -54,7 +55,7 @@ fn is_kept_as_written(name: &str, value: &str) -> bool
 
 /// Returns the form of a value that already has the backslashes that it needs.
 fn form_of_content(content: &str) -> Form
-    ensures { result ≡ (if is_token_value content.now then Token else Quoted) }
+    ensures { result ≡ (if is_token content.now then Token else Quoted) }
 {
     if is_token_text(content) {
         Form::Token

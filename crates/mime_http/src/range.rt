@@ -3,7 +3,8 @@
 ghost use Rattle.std.specs.Prelude.{◌≡◌, ◌++◌, Some, None, length, drop, option_map, is_some, if◌then◌else◌, codes, bytes_eq};
 ghost use Rattle.std.specs.List.{list_all};
 ghost use Rattle.mime.specs.{Items.name_text, Values.Reads};
-ghost use Rattle.mime_http.specs.{Ranges.first_value, Ranges.weight_of, Ranges.named_parts, Ranges.demanded, Ranges.has, Ranges.closeness};
+ghost use Rattle.mime_http.specs.{Ranges.first_value, Ranges.weight_of, Ranges.named_parts, Ranges.has, Ranges.closeness};
+ghost use Rattle.mime_http.specs.{Ranges.demanded, Ranges.is_demanded};
 
 use crate::meaning::mean_the_same;
 use crate::weights::{lone_weight, thousandths};
@@ -99,8 +100,16 @@ pub(crate) fn param_count(mime: &Mime) -> usize
     mime.params().size_hint().0
 }
 
-/// Returns the number of a range's parameters other than `q`, before and after the `q` (RFC 9110, 12.5.1), and the range's weight.
-/// Returns `None` if the offer lacks one of these parameters. This function isn't inlined, since most ranges have no parameters.
+/// Returns `true` if a range demands its parameters of this name: those other than `q`, before it and after it (RFC 9110, 12.5.1).
+#[inline(always)]
+pub(crate) fn is_demanded(name: &str) -> bool
+    ensures { result ≡ is_demanded name.now }
+{
+    name != "q"
+}
+
+/// Returns the number of parameters that a range demands, and the range's weight. Returns `None` if the offer lacks one of these
+/// parameters. This function isn't inlined, since most ranges have no parameters.
 #[inline(never)]
 fn demanded_among(range: &Mime, offer: &Mime) -> Option<(usize, u16)>
     ensures { result ≡ (if list_all (has offer.now.media) (demanded range.now.media.pairs)
@@ -111,12 +120,13 @@ fn demanded_among(range: &Mime, offer: &Mime) -> Option<(usize, u16)>
     let mut count = 0;
     let mut weight = None;
     for (name, value) in range.params() {
-        if name.text == "q" {
-            weight = weight.or(Some(value.text.as_bytes()));
-        } else if has(offer, name.text, value.text) {
+        if is_demanded(name.text) {
+            if !has(offer, name.text, value.text) {
+                return None;
+            }
             count += 1;
         } else {
-            return None;
+            weight = weight.or(Some(value.text.as_bytes()));
         }
     }
     Some((count, weight.map_or(1000, thousandths)))
@@ -148,8 +158,9 @@ pub(crate) fn demanded(range: &Mime, offer: &Mime) -> Option<(usize, u16)>
 }
 
 /// Returns `true` if a range covers an offer (RFC 9110, 12.5.1). `text/*` covers `text/html`. `text/html;level=1` covers
-/// `text/html;level=1`, but not `text/html`. The offer must have each parameter of the range except `q`, even those after the `q`, with a
-/// value that means the same. A backslash and the byte after it mean that byte. The case of a value matters, except for a charset.
+/// `text/html;level=1`, but not `text/html`. The offer must have each parameter that the range demands: all except `q`, even those after
+/// the `q`. Its value must mean the same. A backslash and the byte after it mean that byte. The case of a value matters, except for a
+/// charset.
 pub fn covers(range: &Mime, offer: &Mime) -> bool
     ensures { result ≡ is_some (closeness offer.now.media (0, range.now.media)) }
 {

@@ -6,7 +6,8 @@ ghost use Rattle.std.specs.List.{prefix_len};
 ghost use Rattle.mime.specs.Bytes.{is_token_byte, is_quoted_byte, is_quoted_text_byte, equals_byte, quote_byte};
 ghost use Rattle.mime.specs.Grammar.{is_space};
 ghost use Rattle.mime_search.specs.{Classes.IsStart, declared.class.TheConstants.TOKEN_STOPS};
-ghost use Rattle.mime_http.specs.Reader.{Parts, Holds, IsClosedAt, IsEssenceAt, IsFaultFrom, IsParameterAt, IsStringFault, after_semicolon};
+ghost use Rattle.mime_http.specs.Reader.{Parts, RoomHolds, IsClosedAt, IsEssenceAt, IsFaultFrom, IsParameterAt, IsStringFault};
+ghost use Rattle.mime_http.specs.Reader.{after_semicolon};
 ghost use Rattle.mime_http.specs.Reader.{answer_at, answer_of, before_semicolon, fault_at, in_value, read, rejected, text_of_parts};
 
 use crate::list::spaces_end;
@@ -234,7 +235,7 @@ fn last_semicolon(value: &[u8], from: usize) -> usize
 /// Writes bytes into the buffer `room` at position `len`, if they fit. Returns the position after them, whether or not they fit.
 fn put(room: &mut [u8], len: usize, bytes: &[u8]) -> usize
     requires { len + length bytes.now < 2 ^ 64 }
-    ensures holds { (text : List ℕ) → Holds room.old len text → Holds room.new result (text ++ bytes.now) }
+    ensures holds { (text : List ℕ) → RoomHolds room.old len text → RoomHolds room.new result (text ++ bytes.now) }
     ensures len { result ≡ len + length bytes.now }
     ensures room { length room.new ≡ length room.old }
 {
@@ -252,8 +253,8 @@ fn put_parameter(room: &mut [u8], len: usize, value: &[u8], name: usize, spans: 
     requires some { spans.begin ≤ spans.last }
     requires within { spans.last ≤ length value.now }
     requires fits { len + 2 + (spans.last - name) < 2 ^ 64 }
-    ensures holds { (text : List ℕ) → Holds room.old len text
-        → Holds room.new result (text ++ (codes "; " ++ (slice_range value.now name spans.first
+    ensures holds { (text : List ℕ) → RoomHolds room.old len text
+        → RoomHolds room.new result (text ++ (codes "; " ++ (slice_range value.now name spans.first
         ++ slice_range value.now spans.begin spans.last))) }
     ensures len { result ≤ len + 2 + (spans.last - name) }
     ensures room { length room.new ≡ length room.old }
@@ -271,7 +272,7 @@ fn put_parameter(room: &mut [u8], len: usize, value: &[u8], name: usize, spans: 
 /// text in it isn't complete. This doesn't allocate.
 pub(crate) fn write_anew(value: &[u8], room: &mut [u8]) -> Result<usize, ParseError>
     ensures answer { MatchResult result
-        (λ len. (parts : Parts) × (answer_of value.now ≡ read parts) × Holds room.new len (text_of_parts parts))
+        (λ len. (parts : Parts) × (answer_of value.now ≡ read parts) × RoomHolds room.new len (text_of_parts parts))
         (λ fault. answer_of value.now ≡ rejected fault) }
     ensures room { length room.new ≡ length room.old }
 {

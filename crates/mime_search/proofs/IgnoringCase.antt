@@ -12,7 +12,8 @@ use Rattle.std.proofs.lemmas.Bool.Decides.{nat_tests}
 use Rattle.std.proofs.lemmas.List.Sums.{AllPass-from_list_all, prefix_len-le-length, prefix_len_stops}
 use Rattle.std.proofs.lemmas.Simd.{length-zip2, get_or-zip2}
 use Rattle.std.specs.Prelude.{◌==◌, not, Option, None, Some, IfSome, IsTrue}
-use Rattle.mime_search.specs.Differences.{lowered, difference_bit, DifferFirstAt}
+use Rattle.mime_search.specs.Differences.{difference_bit}
+use Rattle.mime_search.specs.IgnoringCase.{lowered, FirstDifference}
 
 -- What holds of all bytes holds of each.
 pub at_byte : (p : ℕ → Bool) (b : ℕ) → b < 256 → list_all p (range_with_len 0 256) ≡ true → p b ≡ true
@@ -124,7 +125,7 @@ module _ (a b bits : List ℕ) (at : ℕ) (room : 16 ≤ length a) (other_room :
   no_bit none = let all : at ≡ 16 = omega (arith, few, none) in subst (λ n. take n (lowered a) ≡ take n (lowered b)) all same_before
 
   -- The bytes at the first bit differ.
-  pub first_bit : at < 16 → DifferFirstAt a b at
+  pub first_bit : at < 16 → FirstDifference a b at
   first_bit near =
       let stop : get_or bits at 0 ≡ 1 =
       (let stops = prefix_len_stops (λ b. not (b == 1)) bits 0 (omega (arith, near, bit_count, first)) in
@@ -155,8 +156,8 @@ module _ (a b : List ℕ) (from : ℕ) (before : take from (lowered a) ≡ take 
       take-add from n (lowered a) ∙ (λ i. before i ++ rest i) ∙ sym (take-add from n (lowered b))
 
   -- After equal bytes a difference is the first.
-  pub difference_onward : (n : ℕ) → DifferFirstAt (take (length a - from) (drop from a)) (take (length b - from) (drop from b)) n
-      → DifferFirstAt a b (from + n)
+  pub difference_onward : (n : ℕ) → FirstDifference (take (length a - from) (drop from a)) (take (length b - from) (drop from b)) n
+      → FirstDifference a b (from + n)
   difference_onward n d = record {
     within = omega (arith, d.within, ap length (take_rest a from), length-drop from a);
     within_other = omega (arith, d.within_other, ap length (take_rest b from), length-drop from b);
@@ -169,7 +170,7 @@ module _ (a b : List ℕ) (from : ℕ) (before : take from (lowered a) ≡ take 
 
 -- Texts of one length are the same ignoring ASCII case exactly if none is found.
 pub none_found : (a b : List ℕ) (found : Option ℕ) (none : Bool) → is_some found ≡ not none → length a ≡ length b
-    → IfSome found (DifferFirstAt a b) → (found ≡ None → length a ≡ length b → lowered a ≡ lowered b)
+    → IfSome found (FirstDifference a b) → (found ≡ None → length a ≡ length b → lowered a ≡ lowered b)
     → IsTrue none ↔ (lowered a ≡ lowered b)
 none_found a b None true is long d all = (λ _. all refl long, λ _. refl)
 none_found a b (Some at) false is long d all = (

@@ -1,3 +1,5 @@
+-- the trusted file
+pub mod IgnoringCase
 -- private
 pub mod Classes
 pub mod Quoted

@@ -2,7 +2,8 @@
 
 ghost use Rattle.std.specs.Prelude.{◌≡◌, ◌↔◌, ◌≤◌, ◌+◌, IsTrue, IfSome, None, length, take};
 ghost use Rattle.std.specs.Simd.Lanes.{zip2};
-ghost use Rattle.mime_search.specs.Differences.{difference_bit, lowered, DifferFirstAt};
+ghost use Rattle.mime_search.specs.Differences.{difference_bit};
+ghost use Rattle.mime_search.specs.IgnoringCase.{lowered, FirstDifference};
 
 use crate::class::{BLOCK, Class};
 use crate::search::first_stop;
@@ -46,7 +47,7 @@ fn differences(a: &[u8], b: &[u8]) -> [u8; BLOCK]
 fn difference_in_block(a: &[u8], b: &[u8]) -> Option<usize>
     requires room { BLOCK ≤ length a.now }
     requires other_room { BLOCK ≤ length b.now }
-    ensures some { IfSome result (DifferFirstAt a.now b.now) }
+    ensures some { IfSome result (FirstDifference a.now b.now) }
     ensures none { result ≡ None → take BLOCK (lowered a.now) ≡ take BLOCK (lowered b.now) }
 {
     let at = first_stop(&differences(a, b), 0, &Class::of(1, 1));
@@ -59,7 +60,7 @@ fn difference_in_block(a: &[u8], b: &[u8]) -> Option<usize>
 pub fn first_difference_ignoring_case(a: &[u8], b: &[u8]) -> Option<usize>
     requires room { BLOCK ≤ length a.now }
     requires other_room { BLOCK ≤ length b.now }
-    ensures some { IfSome result (DifferFirstAt a.now b.now) }
+    ensures some { IfSome result (FirstDifference a.now b.now) }
     ensures none { result ≡ None → length a.now ≡ length b.now → lowered a.now ≡ lowered b.now }
 {
     let last = a.len().min(b.len()) - BLOCK;

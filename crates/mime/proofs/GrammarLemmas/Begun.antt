@@ -180,7 +180,7 @@ walk_by-token : {S : Type 0} (step : S → ℕ → Option S) (start : S) (positi
     → ((b : ℕ) (taken : List ℕ) (c : ℕ) → IsTrue (is_token_byte c)
     → step (position (b ∷ taken)) c ≡ Some (position (b ∷ taken ++ (c ∷ []))))
     → (token : List ℕ) → IsToken token → walk_by step start token ≡ Some (position token)
-walk_by-token step start position first others [] token = absurd token
+walk_by-token step start position first others [] token = absurd cc
 walk_by-token step start position first others (b ∷ run) token =
     let parts = and_parts (is_token_byte b) (list_all is_token_byte run) token in
     walk_by-step step start (position (b ∷ [])) b run (first b parts.0)

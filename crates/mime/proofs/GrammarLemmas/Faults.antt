@@ -139,7 +139,7 @@ completed_is_rejected text fault lacks accepted =
     none-some found.1 (sym (lacks_own text found.0 found.2.0 fault lacks).1 ∙ found.2.1)
 
 -- A text lacks at most one thing.
-lacks_unique : (text : List ℕ) (first second : ParseError) → Lacks text first → Lacks text second → first ≡ second
+pub lacks_unique : (text : List ℕ) (first second : ParseError) → Lacks text first → Lacks text second → first ≡ second
 lacks_unique text first second one two =
     let reached = walk-from_viable text (viable-from_lacks text first one) in
     (lacks_own text reached.0 reached.1 first one).0 ∙ sym (lacks_own text reached.0 reached.1 second two).0

@@ -42,7 +42,7 @@ begun_of closed (more n parameter rest) = begun_of ((n, parameter) ∷ closed) r
 ended_list-begun_of : (closed : Closed) (list : Parameters) → AreParameters list
     → ended_list (begun_of closed list) ≡ Some (with_closed closed list)
 ended_list-begun_of closed (blank n) fine = refl
-ended_list-begun_of closed (final n (plain name [])) fine = absurd fine.1.1
+ended_list-begun_of closed (final n (plain name [])) fine = absurd (cc fine.1.1)
 ended_list-begun_of closed (final n (plain name (v ∷ value))) fine = refl
 ended_list-begun_of closed (final n (quoted name content m)) fine = refl
 ended_list-begun_of closed (more n parameter rest) fine = ended_list-begun_of ((n, parameter) ∷ closed) rest fine.2
@@ -96,7 +96,7 @@ walk_list-text closed (more n parameter rest) fine =
 -- The walk over a type and its slash leads to an empty subtype.
 walk-slash : (top rest : List ℕ) → IsToken top → walk (top ++ (slash_byte ∷ rest)) ≡ walk_from (in_subtype top []) rest
 unfolding is_token_byte
-walk-slash [] rest token = absurd token
+walk-slash [] rest token = absurd cc
 walk-slash (t ∷ top) rest token =
     walk_by-append_some grow (in_type []) (in_type (t ∷ top)) (t ∷ top) (slash_byte ∷ rest) (walk-type (t ∷ top) token)
 

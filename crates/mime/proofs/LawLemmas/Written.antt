@@ -144,7 +144,7 @@ safe_pairs (more n p rest) well = (safe_pair p well.1, safe_pairs rest well.2)
 
 -- A token's prefix is a token, unless it is empty.
 token-take : (n : ℕ) (bytes : List ℕ) → 0 < n → IsToken bytes → IsToken (take n bytes)
-token-take n [] some token = absurd token
+token-take n [] some token = absurd cc
 token-take zero (b ∷ bytes) some token = absurd (omega (arith, some))
 token-take (suc n) (b ∷ bytes) some token =
     (list_all-parts is_token_byte (b ∷ take n bytes) (drop n bytes) (rw (take-append-drop n bytes) token)).0

@@ -98,7 +98,7 @@ cut_value-quoted whole name content n follow rest is white follows =
 -- The spaces before a name are cut off.
 without_spaces-token : (n name after : List ℕ) → AreSpaces n → IsToken name
     → without_spaces (n ++ (name ++ after)) ≡ name ++ after
-without_spaces-token n [] after white is = absurd is
+without_spaces-token n [] after white is = absurd cc
 without_spaces-token n (b ∷ name) after white is =
     let first = and_parts (is_token_byte b) (list_all is_token_byte name) is in
     drop_at n (b ∷ name ++ after) (leading_spaces (n ++ (b ∷ name ++ after)))

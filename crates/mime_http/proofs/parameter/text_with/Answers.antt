@@ -1,6 +1,6 @@
 -- Each parameter is of the name, or is written.
 use Rattle.mime_http.proofs.Common.{NameIs, item_seen, rules, string_bytes, text_in, ◌++◌, ◌∷◌, ◌≡◌}
-use Rattle.mime_http.proofs.{Contents.last_written, Contents.kept_text, Written.all_left, Written.copied, Written.others_within}
+use Rattle.mime_http.proofs.{Contents.last_written, Contents.text_in-kept, Written.all_left, Written.copied, Written.others_within}
 use Rattle.mime_http.proofs.parameter.text_with.Goals as goal
 
 pub loop-other-init : goal.loop-other-init
@@ -14,7 +14,7 @@ loop-other-preserved c =
     let differ : ¬ (NameIs name c.in-Some.other.ignores_case c.args.name.now) = search rules in
     let pushed : string_bytes c.push_parameter.new.text
     ≡ string_bytes c.loop-other.text ++ text_in c.form_of_content.result name kept = search rules in
-    rw (pushed, c.form_of_content.ensures, kept_text name kept) (copied c.loop-other.invariant first differ)
+    rw (pushed, c.form_of_content.ensures, text_in-kept name kept) (copied c.loop-other.invariant first differ)
 
 pub overflow_add-count : goal.overflow_add-count
 overflow_add-count c = search (others_within, copied, rules)

@@ -1,12 +1,12 @@
 -- The quote, token bytes and more content are read; without quotes is written what is a token.
 use Rattle.std.proofs.Common.{rules}
 use Rattle.mime_http.proofs.Common.{IsClosedAt, IsContent, List, answer_at, ap, ap₂, append-nil, arith, false, in_string, in_value}
-use Rattle.mime_http.proofs.Common.{is_quoted_text_byte, is_token_byte, is_token_value, length, list_all-wider, refl, slice_index}
+use Rattle.mime_http.proofs.Common.{is_quoted_text_byte, is_token_byte, is_token, length, list_all-wider, refl, slice_index}
 use Rattle.mime_http.proofs.Common.{slice_range, sym, true, [], ℕ, ◌+◌, ◌++◌, ◌<◌, ◌∙◌, ◌∷◌, ◌≡◌}
 use Rattle.mime_http.specs.Reader.{Parts}
 use Rattle.mime_http.proofs.Contents.{token_byte_text}
 use Rattle.mime_http.proofs.ReadAt.{IsRun, content_on, fault_after, no_token_value, one_part, over_byte, over_content, parts_joined, run_is}
-use Rattle.mime_http.proofs.ReadAt.{text_content, token_part, token_value}
+use Rattle.mime_http.proofs.ReadAt.{text_content, token_part}
 use Rattle.mime_http.proofs.reader.string_at.Goals.{else-begin-plain-via-then-begin-plain+else-plain-close}
 use Rattle.mime_http.proofs.reader.string_at.Goals.{else-begin-plain-via-else-begin-plain}
 use Rattle.mime_http.proofs.reader.string_at.Goals as goal
@@ -46,8 +46,8 @@ returns-then-plain-close c =
     let run = run_is is_token_byte value begin plain.result plain.ensures.end in
     let closed = closed_from value begin plain.result close run c.in-Ok.ensures in
     let token = token_part value begin plain.result c.if-begin-plain.true plain.ensures.within run in
-    let is : is_token_value (slice_range value begin close) ≡ true =
-    ap (λ n. is_token_value (slice_range value begin n)) (sym c.if-plain-close.true) ∙ token_value _ token in (
+    let is : is_token (slice_range value begin close) ≡ true =
+    ap (λ n. is_token (slice_range value begin n)) (sym c.if-plain-close.true) ∙ token in (
       refl,
       λ name. record {
         content = slice_range value begin close;
@@ -71,7 +71,7 @@ returns c =
     let run = run_is is_token_byte value (quote + 1) plain.result plain.ensures.end in
     let closed = closed_from value (quote + 1) plain.result close run c.in-Ok.ensures in
     let content : List ℕ = slice_range value (quote + 1) close in
-    let isnt : is_token_value content ≡ false =
+    let isnt : is_token content ≡ false =
     no_token_value value (quote + 1) plain.result close run c.in-Ok.ensures.least closed.within (elim c.else-begin-plain.branch [
       | else-begin-plain-via-then-begin-plain+else-plain-close w ↦ λ some. w.if-plain-close.false
       | else-begin-plain-via-else-begin-plain w ↦ λ some. absurd (omega (arith, some, w.if-begin-plain.false))

@@ -1,6 +1,6 @@
 -- A token is read, and written as it is.
 use Rattle.mime_http.proofs.Common.{append-nil, arith, is_token_byte, refl, slice_range, ◌<◌}
-use Rattle.mime_http.proofs.ReadAt.{over_value, run_is, token_part, token_value}
+use Rattle.mime_http.proofs.ReadAt.{over_value, run_is, token_part}
 use Rattle.mime_http.proofs.reader.value_at.Goals as goal
 
 pub returns : goal.returns
@@ -14,7 +14,7 @@ returns c =
       λ name. record {
         content = slice_range value begin end.result;
         read = λ parts. over_value parts name value begin end.result some end.ensures.within run;
-        written = rw (token_value _ (token_part value begin end.result some end.ensures.within run))
+        written = rw (token_part value begin end.result some end.ensures.within run)
             (append-nil (slice_range value begin end.result));
         least = omega arith;
         apart = omega arith;

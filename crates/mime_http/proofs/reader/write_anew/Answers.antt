@@ -1,7 +1,7 @@
 -- The essence is written, and then each parameter that is read, up to a fault or the end.
-use Rattle.mime_http.proofs.Common.{Holds, IsEssenceAt, List, Parts, after_semicolon, answer_at, answer_of, ap, ap₂, append_assoc, codes}
-use Rattle.mime_http.proofs.Common.{append-nil, arith, before_semicolon, cases_lt, false, is_space, length, next, refl, slice_index}
-use Rattle.mime_http.proofs.Common.{slice_range, subst, sym, text_of_parts, with_parameter, [], ℕ, ◌+◌, ◌++◌, ◌<◌, ◌∙◌, ◌∷◌, ◌≡◌, ◌≤◌}
+use Rattle.mime_http.proofs.Common.{RoomHolds, IsEssenceAt, List, Parts, after_semicolon, answer_at, answer_of, ap, ap₂, append_assoc}
+use Rattle.mime_http.proofs.Common.{codes, append-nil, arith, before_semicolon, cases_lt, false, is_space, length, next, refl, slice_index}
+use Rattle.mime_http.proofs.Common.{slice_range, subst, sym, text_of_parts, parts_with, [], ℕ, ◌+◌, ◌++◌, ◌<◌, ◌∙◌, ◌∷◌, ◌≡◌, ◌≤◌}
 use Rattle.mime_http.proofs.ReadAt.{length-part, nothing_between, one_written, over_byte, over_white_at, run_end, run_is}
 use Rattle.mime_http.proofs.Runs.{keeps_after, keeps_inside}
 use Rattle.mime_http.proofs.reader.write_anew.Goals as goal
@@ -22,13 +22,13 @@ loop-at-init c =
     let parts : Parts = record { top = is.top; sub = is.sub; pairs = [] } in
     let at = c.spaces_end-at in
     let white = run_is is_space value ends.1 at.result at.ensures.end in
-    let nothing : Holds c.args.room.now 0 [] = record { long = refl; held = λ fits. refl } in
+    let nothing : RoomHolds c.args.room.now 0 [] = record { long = refl; held = λ fits. refl } in
     let text : slice_range value ends.0 ends.1 ≡ text_of_parts parts =
     sym is.written ∙ ap (λ sub. is.top ++ (47 ∷ sub)) (sym (append-nil is.sub)) in
     record {
       parts = parts;
       read = is.read ∙ over_white_at (before_semicolon parts) (keeps_after parts) value ends.1 at.result white at.ensures.within;
-      holds = subst (Holds c.put-len.new.room c.put-len.result) text (c.put-len.ensures.holds [] nothing);
+      holds = subst (RoomHolds c.put-len.new.room c.put-len.result) text (c.put-len.ensures.holds [] nothing);
       within = at.ensures.within;
       other = white.stops;
       few = omega (arith, c.put-len.ensures.len, length-part value ends.0 ends.1 is.within, white.least);
@@ -49,7 +49,7 @@ loop-at-preserved-then-is_token_at c =
     let next = c.spaces_end-at-in-loop-at in
     let (name, front, is) = c.in-Ok-parameter_at.ensures in
     let spans = c.in-Ok-parameter_at.spans in
-    let parts : Parts = with_parameter keeps.parts name is.content in
+    let parts : Parts = parts_with keeps.parts name is.content in
     let at = c.spaces_end-at-then-is_token_at in
     let inside = run_is is_space value (c.loop-at.at + 1) next.result next.ensures.end in
     let white = run_is is_space value spans.end at.result at.ensures.end in
@@ -62,7 +62,7 @@ loop-at-preserved-then-is_token_at c =
       read = to_next keeps.parts value c.loop-at.at next.result keeps.read c.loop-at-test.true c.if-byte-ne59.false
           next.ensures.end next.ensures.within ∙ is.read keeps.parts
           ∙ over_white_at (before_semicolon parts) (keeps_after parts) value spans.end at.result white at.ensures.within;
-      holds = subst (Holds put.new.room put.result) text (put.ensures.holds (text_of_parts keeps.parts) keeps.holds);
+      holds = subst (RoomHolds put.new.room put.result) text (put.ensures.holds (text_of_parts keeps.parts) keeps.holds);
       within = at.ensures.within;
       other = white.stops;
       few = omega (arith, keeps.few, put.ensures.len, inside.least, white.least, is.most, is.least, is.apart, is.some);

@@ -1,5 +1,5 @@
 -- What is written anew of a value is read as its media type, and what a value lacks is its fault.
-use Rattle.mime_http.proofs.Common.{Explains, IsAccepted, IsUtf8, Reads, arith, media_of, rules, subst, sym, trimmed, ◌∙◌}
+use Rattle.mime_http.proofs.Common.{Explains, IsAccepted, IsUtf8, Reads, arith, media_of_parts, rules, subst, sym, trimmed, ◌∙◌}
 use Rattle.mime_http.proofs.HttpLaws.{anew_is, anew_needs, reading_needs, written_is_utf8, written_reads}
 use Rattle.mime_http.proofs.ReadFaults.{answered_fault}
 use Rattle.mime_http.proofs.value.+read_into.Goals as goal
@@ -19,8 +19,8 @@ returns-in-Err-from_str-clause-explained t c =
     let isnt : ¬ (IsAccepted (trimmed c.args.value.now)) = search rules in
     let (parts, answered, holds) = c.in-Ok.ensures.answer in
     let text = c.from_utf8_unchecked-text.ensures ∙ holds.held (omega (arith, c.write_anew.ensures.room, c.if-len-room.false)) in
-    let reads = subst (λ bytes. Reads bytes (media_of parts)) (sym text) (written_reads c.as_bytes.result.now parts answered) in
-    let why = subst (Explains c.from_utf8_unchecked-text.result.now) (c.in-Err-from_str.ensures.accepted (media_of parts, reads))
+    let reads = subst (λ bytes. Reads bytes (media_of_parts parts)) (sym text) (written_reads c.as_bytes.result.now parts answered) in
+    let why = subst (Explains c.from_utf8_unchecked-text.result.now) (c.in-Err-from_str.ensures.accepted (media_of_parts parts, reads))
     c.in-Err-from_str.ensures.explained in
     (utf8, reading_needs parts isnt (rw c.as_bytes.ensures.value at answered) text why)
 

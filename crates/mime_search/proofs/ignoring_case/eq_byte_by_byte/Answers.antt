@@ -2,7 +2,7 @@
 use Rattle.std.proofs.Common.{◌≡◌, ◌+◌, [], ◌∷◌, ◌++◌, get_or, take, sym, ◌∙◌, arith}
 use Rattle.std.specs.Char.{to_ascii_lowercase}
 use Rattle.std.proofs.lemmas.List.{map_more, same_from_push}
-use Rattle.mime_search.specs.Differences.{lowered}
+use Rattle.mime_search.specs.IgnoringCase.{lowered}
 use Rattle.mime_search.proofs.IgnoringCase.{together, no_bit_at}
 use Rattle.mime_search.proofs.ignoring_case.eq_byte_by_byte.Goals as goal
 

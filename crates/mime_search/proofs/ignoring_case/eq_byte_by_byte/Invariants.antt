@@ -1,6 +1,6 @@
 -- What the pairs of bytes so far say: none differs exactly if the bytes are equal ignoring ASCII case.
 use Rattle.std.proofs.Common.{◌-◌, ◌≡◌, ◌↔◌, ◌≤◌, length, take}
-use Rattle.mime_search.specs.Differences.{lowered}
+use Rattle.mime_search.specs.IgnoringCase.{lowered}
 use Rattle.mime_search.proofs.ignoring_case.eq_byte_by_byte.Given as goal
 
 abbrev pub invariant-loop-at : goal.invariant-loop-at

@@ -1,7 +1,7 @@
 -- Texts are equal block by block, up to one that differs; the last block may overlap the one before.
 use Rattle.std.proofs.Common.{◌≡◌, ◌-◌, ◌+◌, length, sym, ◌∙◌, arith, refl, rules}
 use Rattle.std.proofs.lemmas.List.{take_all}
-use Rattle.mime_search.specs.Differences.{lowered}
+use Rattle.mime_search.specs.IgnoringCase.{lowered}
 use Rattle.mime_search.proofs.{IgnoringCase.length-lowered, IgnoringCase.shorter, IgnoringCase.equal_onward, IgnoringCase.difference_onward}
 use Rattle.mime_search.proofs.ignoring_case.first_difference_ignoring_case.Goals as goal
 

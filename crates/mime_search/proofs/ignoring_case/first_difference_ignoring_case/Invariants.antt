@@ -1,6 +1,6 @@
 -- The blocks so far are equal ignoring ASCII case.
 use Rattle.std.proofs.Common.{◌≡◌, ◌+◌, ◌-◌, ◌<◌, take}
-use Rattle.mime_search.specs.Differences.{lowered}
+use Rattle.mime_search.specs.IgnoringCase.{lowered}
 use Rattle.mime_search.proofs.ignoring_case.first_difference_ignoring_case.Given as goal
 
 abbrev pub invariant-loop-from : goal.invariant-loop-from
