@@ -5,7 +5,7 @@ use Rattle.mime_headers.proofs.report.push_title_and_types.Goals as goal
 pub returns : goal.returns
 returns c =
     let made = c.in_ok-types.types in
-    let types = rw (c.is_alone.ensures, c.lines.ensures) at c.in_ok-types.ensures in
+    let types = rw c.deref.ensures.value at c.in_ok-types.ensures in
     let len : vec_len made ≡ length (map vec_items (vec_items made)) = omega (arith, length-map (vec_items made) vec_items) in
     let folds = rw (c.in_ok-push_title.ensures, c.deref.ensures.value, types) at c.in_ok-last.ensures in
     let only = rw (c.len.ensures, len, types) at c.only_of-only.ensures in
