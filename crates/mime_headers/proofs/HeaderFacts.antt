@@ -102,7 +102,7 @@ request_lines = (refl, refl, refl)
 -- A response is interim if its code begins with 1. A head of fields alone has no start line.
 kinds : (map kind_of (lines_of (codes "HTTP/1.1 100 Continue\nHTTP/2 200 1\nGET / HTTP/2\nHTTP/1.1 \n HTTP/2 200"))
     ≡ Some Kind.Interim ∷ Some Kind.Final ∷ Some Kind.Request ∷ None ∷ None ∷ [])
-    × (map (λ lines. (head_of lines).kind) ([] ∷ (codes "Host: a" ∷ codes "HTTP/2 200" ∷ []) ∷ (codes "HTTP/2 200" ∷ []) ∷ [])
+    × (map (λ lines. (head_of lines).kind) ([] ∷ (codes "Host: a" ∷ []) ∷ (codes "HTTP/2 200" ∷ []) ∷ [])
     ≡ Kind.Fields ∷ Kind.Fields ∷ Kind.Final ∷ [])
 unfolding is_request_line is_token_byte is_version
 kinds = (refl, refl)

@@ -125,7 +125,7 @@ fn mark_of<'a>(alone: bool, start: Option<&'a [u8]>, lines: &[&'a [u8]]) -> Opti
 
 /// Returns the head that has these lines.
 fn head_of(texts: Vec<&[u8]>) -> Head<'_>
-    ensures { head_now result ≡ head_of (lines_now texts) }
+    ensures { head_now result ≡ head_of (lines_now texts.entry) }
 {
     let kind = match kind_of(texts.first().copied().unwrap_or(&[])) {
         Some(kind) => kind,
