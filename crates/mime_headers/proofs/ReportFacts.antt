@@ -10,7 +10,7 @@ use Rattle.mime_headers.proofs.Common.{head, if◌then◌else◌, is_altered, is
 use Rattle.mime_headers.proofs.Common.{no_field_error, no_word, numbered, offer_row, offer_rows, one_field_error, one_printed_text}
 use Rattle.mime_headers.proofs.Common.{one_ranking, only_cut, range_row, refl, row, rules, shown, start, stray, string_bytes, sym}
 use Rattle.mime_headers.proofs.Common.{title_rows, trimmed, true, verdict_of, weight_text, with_entry, without_controls, without_escapes}
-use Rattle.mime_headers.proofs.Common.{ℕ, ◌++◌, ◌+◌, ◌<◌, ◌==◌, ◌||◌, ◌∙◌, ◌∷◌, ◌≡◌}
+use Rattle.mime_headers.proofs.Common.{ℕ, ◌++◌, ◌<◌, ◌==◌, ◌||◌, ◌∙◌, ◌∷◌, ◌≡◌}
 use Rattle.std.proofs.Common.{lit<, not}
 use Rattle.std.proofs.lemmas.{Bool.Decides.nat_tests, Bool.and_parts, Bool.true≢false, List.Elements.All-contains}
 use Rattle.std.specs.{Fmt.digits, List.list_all, Str.IsUtf8}

@@ -1,5 +1,5 @@
 -- The bytes from the end on are carriage returns.
-use Rattle.mime_headers.proofs.Common.{length, suffix_len, take, ◌+◌, ◌-◌, ◌==◌, ◌≡◌, ◌≤◌}
+use Rattle.mime_headers.proofs.Common.{length, suffix_len, take, ◌-◌, ◌==◌, ◌≡◌, ◌≤◌}
 use Rattle.mime_headers.proofs.line.without_returns.Given as goal
 
 abbrev pub invariant-loop-end : goal.invariant-loop-end
