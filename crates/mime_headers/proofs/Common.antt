@@ -1,22 +1,21 @@
 -- The names that the proofs of this crate cite, passed on from one place. Declares nothing.
 pub use Rattle.mime.specs.{Values.MediaType, Values.suffix_of}
 pub use Rattle.mime.specs.declared.scan.fault.ParseError.TheVariants.{MissingSubtype}
-pub use Rattle.mime_headers.specs.Head.{Field, Head, Item, Part, bare, bare_lines, continued, escape_len, field_named, field_of, first_seen}
-pub use Rattle.mime_headers.specs.Head.{goes_on, has_authority, head, heads_of, indent_of, is_alone, is_blank, is_end, is_field, is_sign}
-pub use Rattle.mime_headers.specs.Head.{is_start, is_status_line, is_target, items_after, items_in, items_of, kind_of, lines_under}
-pub use Rattle.mime_headers.specs.Head.{mark_before}
-pub use Rattle.mime_headers.specs.Head.{mark_of_fields, next_value, part_from, plain_after, seen, seen_from, signed, stray, strays_of}
-pub use Rattle.mime_headers.specs.Head.{text_with, value_of}
-pub use Rattle.mime_headers.specs.Head.{title_of, values_of, without_escapes}
-pub use Rattle.mime_headers.specs.Report.{AddsAccept, AddsChoice, AddsEntry, AddsHead, AddsItem, AddsLines, AddsMissing, AddsRequest}
+pub use Rattle.mime_headers.specs.Head.{Field, Finding, Head, continued, escape_len, field_named, field_of, findings_after, findings_in}
+pub use Rattle.mime_headers.specs.Head.{findings_of, first_seen, from_version, has_authority, head, head_of, heads_of, indent_of, is_end}
+pub use Rattle.mime_headers.specs.Head.{is_field, is_folded, is_sign, is_start, is_status_line, is_target, kind_of, kind_within}
+pub use Rattle.mime_headers.specs.Head.{mark_before, mark_of_fields, needs_sign_after, next_value, own_lines, plain_after, plain_lines}
+pub use Rattle.mime_headers.specs.Head.{seen, seen_from, signed, stray, strays_of, text_with, title_of, values_of, whole_value}
+pub use Rattle.mime_headers.specs.Head.{without_escapes, without_returns}
+pub use Rattle.mime_headers.specs.Report.{AddsAccept, AddsChoice, AddsEntry, AddsHead, AddsFinding, AddsLines, AddsMissing, AddsRequest}
 pub use Rattle.mime_headers.specs.Report.{AddsResponse}
-pub use Rattle.mime_headers.specs.Report.{AddsType, AddsTypes, AddsWeights, HasBoundary, IsRead, IsReport, IsReportOf, IsWeighed, State}
-pub use Rattle.mime_headers.specs.Report.{best_row}
+pub use Rattle.mime_headers.specs.Report.{AddsType, AddsTypes, AddsWeights, BoundaryIs, HasReading, IsReport, IsReportOf}
+pub use Rattle.mime_headers.specs.Report.{IsWeighed, Progress, best_row}
 pub use Rattle.mime_headers.specs.Report.{byte_text, count_row, decider, empty_row, expects_type, fault_rows, is_altered, is_cut, is_final}
-pub use Rattle.mime_headers.specs.Report.{items_read, lacks_text, lines_read, media_rows, numbered, offer_row, offer_rows, range_row}
+pub use Rattle.mime_headers.specs.Report.{findings_read, lacks_text, lines_read, media_rows, numbered, offer_row, offer_rows, range_row}
 pub use Rattle.mime_headers.specs.Report.{remark_of}
 pub use Rattle.mime_headers.specs.Report.{shown, start, title_rows, verdict_of, weight_text, with_entry}
-pub use Rattle.mime_headers.specs.Inner.{field_now, head_now, item_now, items_now, lines_now, medias, part_now, ranges_now, state_now}
+pub use Rattle.mime_headers.specs.Inner.{field_now, head_now, finding_now, findings_now, lines_now, medias, ranges_now, state_now}
 pub use Rattle.mime_headers.specs.{Program.AreOffers, Program.a_word, Program.bad_word, Program.no_word}
 pub use Rattle.mime_headers.specs.{Shown.control_len, Shown.shown_after, Shown.without_controls}
 pub use Rattle.mime_headers.specs.declared.{field.Name.Name, report.Verdict.Verdict, start.Kind.Kind}

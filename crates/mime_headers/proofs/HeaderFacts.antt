@@ -1,12 +1,10 @@
 -- Lines, heads and fields for which each definition is true, and others for which it is false, so that a page that says less or more
 -- doesn't check.
-use Rattle.mime_headers.proofs.Common.{Bool, Field, Item, Kind, List, Name, None, Some, [], bare, bare_lines, codes, continued}
-use Rattle.mime_headers.proofs.Common.{escape_len, false, field_of, filter, first_seen, flat_map, goes_on, head, indent_of, is_alone}
-use Rattle.mime_headers.proofs.Common.{is_blank, is_cut, is_end, is_field, is_start, is_status_line, is_target, items_in}
-use Rattle.mime_headers.proofs.Common.{items_read, kind_of}
-use Rattle.mime_headers.proofs.Common.{length, lines_of, lines_read, map, mark_before, next_value, refl}
-use Rattle.mime_headers.proofs.Common.{seen, signed, stray}
-use Rattle.mime_headers.proofs.Common.{text_with, true, value_of, values_of, without_escapes, ℕ, ◌++◌, ◌∷◌, ◌≡◌}
+use Rattle.mime_headers.proofs.Common.{Bool, Field, Finding, Kind, List, Name, None, Some, [], codes, continued, escape_len, false}
+use Rattle.mime_headers.proofs.Common.{field_of, filter, findings_in, findings_read, first_seen, flat_map, head, head_of, indent_of}
+use Rattle.mime_headers.proofs.Common.{is_cut, is_end, is_field, is_folded, is_start, is_status_line, is_target, kind_of, length, lines_of}
+use Rattle.mime_headers.proofs.Common.{lines_read, map, mark_before, next_value, plain_lines, refl, seen, signed, stray, text_with, true}
+use Rattle.mime_headers.proofs.Common.{values_of, whole_value, without_escapes, without_returns, ℕ, ◌++◌, ◌∷◌, ◌≡◌}
 use Rattle.mime.specs.Bytes.{is_token_byte}
 use Rattle.mime_headers.specs.Head.{begins_sign, is_request_line, is_version, mark_of_fields}
 use Rattle.mime_headers.specs.declared.field.Name.TheVariants.{ContentType, Accept}
@@ -30,11 +28,11 @@ escapes = (refl, refl, refl, refl)
 
 -- A line loses all carriage returns at its end, and no others. An input loses its escapes, then a byte order mark at its start and, if it
 -- is cut off, its last line. An input of one byte more than 1,048,576 is cut off.
-lines : (map bare (codes "a\r\r" ∷ codes "\ra\r b" ∷ codes "\r" ∷ []) ≡ codes "a" ∷ codes "\ra\r b" ∷ [] ∷ [])
-    × (bare_lines false (239 ∷ 187 ∷ 191 ∷ codes "a\r\nb") ≡ codes "a" ∷ codes "b" ∷ [])
-    × (bare_lines false (239 ∷ 187 ∷ codes "a\n") ≡ (239 ∷ 187 ∷ codes "a") ∷ [])
-    × (bare_lines false (codes "a\n" ++ (239 ∷ 187 ∷ 191 ∷ [])) ≡ codes "a" ∷ (239 ∷ 187 ∷ 191 ∷ []) ∷ [])
-    × (map (bare_lines true) (codes "a\nb\n" ∷ codes "a\nb" ∷ []) ≡ (codes "a" ∷ []) ∷ (codes "a" ∷ []) ∷ [])
+lines : (map without_returns (codes "a\r\r" ∷ codes "\ra\r b" ∷ codes "\r" ∷ []) ≡ codes "a" ∷ codes "\ra\r b" ∷ [] ∷ [])
+    × (plain_lines false (239 ∷ 187 ∷ 191 ∷ codes "a\r\nb") ≡ codes "a" ∷ codes "b" ∷ [])
+    × (plain_lines false (239 ∷ 187 ∷ codes "a\n") ≡ (239 ∷ 187 ∷ codes "a") ∷ [])
+    × (plain_lines false (codes "a\n" ++ (239 ∷ 187 ∷ 191 ∷ [])) ≡ codes "a" ∷ (239 ∷ 187 ∷ 191 ∷ []) ∷ [])
+    × (map (plain_lines true) (codes "a\nb\n" ∷ codes "a\nb" ∷ []) ≡ (codes "a" ∷ []) ∷ (codes "a" ∷ []) ∷ [])
     × (lines_read (esc (codes "[m") ++ (239 ∷ 187 ∷ 191 ∷ codes "a\r" ++ esc (codes "[0m\r\nb"))) ≡ codes "a" ∷ codes "b" ∷ [])
     × ((bytes : List ℕ) → (length bytes ≡ 1048576 → is_cut bytes ≡ false) × (length bytes ≡ 1048577 → is_cut bytes ≡ true))
 lines = (refl, refl, refl, refl, refl, refl, λ bytes. (λ len. rw len refl, λ len. rw len refl))
@@ -104,7 +102,8 @@ request_lines = (refl, refl, refl)
 -- A response is interim if its code begins with 1. A head of fields alone has no start line.
 kinds : (map kind_of (lines_of (codes "HTTP/1.1 100 Continue\nHTTP/2 200 1\nGET / HTTP/2\nHTTP/1.1 \n HTTP/2 200"))
     ≡ Some Kind.Interim ∷ Some Kind.Final ∷ Some Kind.Request ∷ None ∷ None ∷ [])
-    × (map is_alone (Kind.Fields ∷ Kind.Request ∷ Kind.Interim ∷ Kind.Final ∷ []) ≡ true ∷ false ∷ false ∷ false ∷ [])
+    × (map (λ lines. (head_of lines).kind) ([] ∷ (codes "Host: a" ∷ []) ∷ (codes "HTTP/2 200" ∷ []) ∷ [])
+    ≡ Kind.Fields ∷ Kind.Fields ∷ Kind.Final ∷ [])
 unfolding is_request_line is_token_byte is_version
 kinds = (refl, refl)
 
@@ -121,7 +120,7 @@ fields : (map field_of (lines_of (codes "ACCEPT:\ncontent-type \t: a/b ; c\t\nAc
 fields = (refl, refl)
 
 -- A line that begins with white space goes on with the one before it, whose value it joins.
-continuations : (filter goes_on (codes "\ta" ∷ codes " " ∷ codes "a b" ∷ [] ∷ (12 ∷ codes "a") ∷ codes "\ra" ∷ [])
+continuations : (filter is_folded (codes "\ta" ∷ codes " " ∷ codes "a b" ∷ [] ∷ (12 ∷ codes "a") ∷ codes "\ra" ∷ [])
     ≡ codes "\ta" ∷ codes " " ∷ [])
     × (map continued (lines_of (codes "  b\t\n\tc d\ne\n f") ∷ lines_of (codes " \n a") ∷ lines_of (codes "a\n b") ∷ [])
     ≡ codes " b c d" ∷ codes "  a" ∷ [] ∷ [])
@@ -131,92 +130,93 @@ continuations = (refl, refl)
 values_below : (map next_value (lines_of (codes "a/b; c=\"d:e\" \n f\ng") ∷ lines_of (codes "*/*") ∷ [])
     ≡ codes "a/b; c=\"d:e\" f" ∷ codes "*/*" ∷ [])
     × (map next_value (lines_of (codes "Host: a") ∷ lines_of (codes ":status: 200") ∷ [] ∷ []) ≡ [] ∷ [] ∷ [] ∷ [])
-    × (map (λ alone. value_of alone (lines_of (codes "a/b")) []) (true ∷ false ∷ []) ≡ codes "a/b" ∷ [] ∷ [])
-    × (value_of true (lines_of (codes "a/b")) (codes "c") ≡ codes "c") × (value_of true (lines_of (codes " \na/b")) [] ≡ codes " ")
+    × (map (whole_value (lines_of (codes "a/b"))) ([] ∷ codes "c" ∷ []) ≡ codes "a/b" ∷ codes "c" ∷ [])
+    × (whole_value (lines_of (codes " \na/b")) [] ≡ codes " ")
 unfolding is_token_byte
-values_below = (refl, refl, refl, refl, refl)
+values_below = (refl, refl, refl, refl)
 
 -- The values of a field are in order, each with the lines that continue it, without those that have white space before the colon.
-values : (values_of Accept false
+values : (values_of Accept
     (lines_of (codes " x\nAccept: a/b, \n  c/d\nHost: e\n f\naccept:g/h\nAccept : i\nContent-Type: k\nAccept:"))
     ≡ codes "a/b, c/d" ∷ codes "g/h" ∷ [] ∷ [])
-    × (map (λ name. values_of name true (lines_of (codes "content-type:\na/b\naccept:\nhost: c"))) (ContentType ∷ Accept ∷ [])
+    × (map (λ name. values_of name (lines_of (codes "content-type:\na/b\naccept:\nhost: c"))) (ContentType ∷ Accept ∷ [])
     ≡ (codes "a/b" ∷ []) ∷ ([] ∷ []) ∷ [])
 unfolding is_token_byte
 values = (refl, refl)
 
--- One of the two fields is in plain sight at a line's start, and behind a byte that can't be of the same word.
+-- One of the two fields is in plain sight at a line's start, and behind a byte that isn't of the same name, or `[`.
 plain_sight : (map seen (lines_of (codes
-    "accept : a\n* Accept: a\n\"Content-Type: a; Accept: b\n+Accept: a\n..content-type: a\n]accept: a"))
+    "accept : a\n-Accept: a\n\"Content-Type: a; Accept: b\n+Accept: a\n\\r\\ncontent-type: a\n]accept: a"))
     ≡ Some Accept ∷ Some Accept ∷ Some ContentType ∷ Some Accept ∷ Some ContentType ∷ Some Accept ∷ [])
     × (map seen ([] ∷ lines_of (codes
-    "* [HTTP/2] [1] [accept: */*]\nX-Accept: a\n_accept: a\n9accept: a\nreaccept: a\n accept a\nAccept-Ranges: a"))
-    ≡ None ∷ None ∷ None ∷ None ∷ None ∷ None ∷ None ∷ None ∷ [])
+    "* [HTTP/2] [1] [accept: */*]\nX-Accept: a\n--accept: a\n_accept: a\n accept a\nAccept-Ranges: a"))
+    ≡ None ∷ None ∷ None ∷ None ∷ None ∷ None ∷ None ∷ [])
     × (first_seen 1 (lines_of (codes "a\n[accept: b]\n> Accept: c\nContent-Type: d")) ≡ Some (3, Accept))
     × (first_seen 1 (lines_of (codes "a\nb")) ≡ None)
 plain_sight = (refl, refl, refl, refl)
 
 -- ---- heads
 
--- the items of a text: a letter for each head's kind and a bar after each of its lines, and lines in no head after `! `
-abbrev item_text : Item → List ℕ
-item_text (head it) = letter it.kind ++ (flat_map (λ line. line ++ codes "|") it.texts ++ codes "\n")
+-- a finding: a letter for a head's kind and a bar after each of its lines, or a line in no head after `! `
+abbrev finding_text : Finding → List ℕ
+finding_text (head it) = letter it.kind ++ (flat_map (λ line. line ++ codes "|") it.texts ++ codes "\n")
   where
     letter : Kind → List ℕ
     letter Kind.Fields = codes "f "
     letter Kind.Request = codes "q "
     letter Kind.Interim = codes "i "
     letter Kind.Final = codes "r "
-item_text (stray line) = codes "! " ++ (line ++ codes "\n")
+finding_text (stray line) = codes "! " ++ (line ++ codes "\n")
 
-abbrev items : Bool → List ℕ → List ℕ
-items cut text = flat_map item_text (items_in cut (bare_lines cut text))
+abbrev found : Bool → List ℕ → List ℕ
+found cut text = flat_map finding_text (findings_in cut (plain_lines cut text))
 
 -- A line ends a head with a sign if only its sign is in it, and any other head if it isn't indented so, or has nothing more. A line of
 -- nothing but an indentation and a sign parts blocks.
-ends : (filter (is_end (codes ">")) (lines_of (codes "> a\n>\n> \nx>\n< \n<\na\n")) ≡ lines_of (codes ">\n> \nx>"))
-    × (filter (is_end []) (codes "a" ∷ [] ∷ codes " a" ∷ codes " " ∷ []) ≡ [] ∷ [])
-    × (filter (is_end (codes "\t")) (codes "\ta" ∷ [] ∷ codes "\t" ∷ codes " a" ∷ codes "\t " ∷ []) ≡ [] ∷ codes "\t" ∷ codes " a" ∷ [])
-    × (filter is_blank ([] ∷ lines_of (codes " \t\n>\n > \n< \n> a\n>>\n>a\na\n>  \n*")) ≡ [] ∷ lines_of (codes " \t\n>\n > \n< "))
+ends : (filter (is_end (Some (codes ">"))) (lines_of (codes "> a\n>\n> \nx>\n< \n<\na\n")) ≡ lines_of (codes ">\n> \nx>"))
+    × (filter (is_end (Some [])) (codes "a" ∷ [] ∷ codes " a" ∷ codes " " ∷ []) ≡ [] ∷ [])
+    × (filter (is_end (Some (codes "\t"))) (codes "\ta" ∷ [] ∷ codes "\t" ∷ codes " a" ∷ codes "\t " ∷ [])
+    ≡ [] ∷ codes "\t" ∷ codes " a" ∷ [])
+    × (filter (is_end None) ([] ∷ lines_of (codes " \t\n>\n > \n< \n> a\n>>\n>a\na\n>  \n*")) ≡ [] ∷ lines_of (codes " \t\n>\n > \n< "))
 unfolding begins_sign
 ends = (refl, refl, refl, refl)
 
 -- What curl prints: interim responses, a proxy's CONNECT, a progress bar, and times before the signs. Lines without a head's sign are
 -- skipped, and its first empty signed text ends it.
 signed_heads :
-    (items false (codes "* a:\n> PUT / HTTP/2\r\n> B: c\r\n> \r\n< HTTP/2 100\r\n} [2 bytes]\n* d: e\n< HTTP/2 200\r\n< F: g\r\n< \r\n< h")
+    (found false (codes "* a:\n> PUT / HTTP/2\r\n> B: c\r\n> \r\n< HTTP/2 100\r\n} [2 bytes]\n* d: e\n< HTTP/2 200\r\n< F: g\r\n< \r\n< h")
     ≡ codes "q PUT / HTTP/2|B: c|\ni HTTP/2 100|\nr HTTP/2 200|F: g|\n")
-    × (items false (codes "> CONNECT a:1 HTTP/1.1\r\n> B: c\r\n> \r\n< HTTP/1.0 200 OK\r\n< \r\n* d\n> GET / HTTP/1.1\n> E: f\n> \n")
+    × (found false (codes "> CONNECT a:1 HTTP/1.1\r\n> B: c\r\n> \r\n< HTTP/1.0 200 OK\r\n< \r\n* d\n> GET / HTTP/1.1\n> E: f\n> \n")
     ≡ codes "q CONNECT a:1 HTTP/1.1|B: c|\nr HTTP/1.0 200 OK|\nq GET / HTTP/1.1|E: f|\n")
-    × (items false (codes "> GET / HTTP/2\n> \n\r  0 --:-- 0< HTTP/2 200 \r\n\r100 --:--\n< a: b\n")
+    × (found false (codes "> GET / HTTP/2\n> \n\r  0 --:-- 0< HTTP/2 200 \r\n\r100 --:--\n< a: b\n")
     ≡ codes "q GET / HTTP/2|\nr HTTP/2 200 |a: b|\n")
-    × (items false (codes "12:09:53.3 [0-0] > GET / HTTP/1.1\n12:09:53.3 [0-0] = a\n12:09:53.4 [0-0] > Accept: a/b\n")
+    × (found false (codes "12:09:53.3 [0-0] > GET / HTTP/1.1\n12:09:53.3 [0-0] = a\n12:09:53.4 [0-0] > Accept: a/b\n")
     ≡ codes "q GET / HTTP/1.1|Accept: a/b|\n")
-    × (items false (codes "\t> GET / HTTP/1.1\n\t> A: b\n\t>\n\t> C: d\n") ≡ codes "q GET / HTTP/1.1|A: b|\n")
+    × (found false (codes "\t> GET / HTTP/1.1\n\t> A: b\n\t>\n\t> C: d\n") ≡ codes "q GET / HTTP/1.1|A: b|\n")
 unfolding begins_sign is_request_line is_token_byte is_version mark_of_fields
 signed_heads = (refl, refl, refl, refl, refl)
 
 -- What wget prints with -S and with -d, and bodies. A line that isn't indented as the head ends it; one of white space alone continues the
 -- line before.
 indented_heads :
-    (items false (codes "--2026-- http://a/\n  HTTP/1.1 302 Found\n  A: b\nLocation: c\n  HTTP/1.1 200 OK\n  D: e\n   f\n g\n  h\n")
+    (found false (codes "--2026-- http://a/\n  HTTP/1.1 302 Found\n  A: b\nLocation: c\n  HTTP/1.1 200 OK\n  D: e\n   f\n g\n  h\n")
     ≡ codes "r HTTP/1.1 302 Found|A: b|\nr HTTP/1.1 200 OK|D: e| f|\n")
-    × (items false (codes "---request begin---\nGET / HTTP/1.1\r\nA: b\r\n\r\n---request end---\nHTTP/1.1 200 OK\r\n\r\n200 OK\n")
+    × (found false (codes "---request begin---\nGET / HTTP/1.1\r\nA: b\r\n\r\n---request end---\nHTTP/1.1 200 OK\r\n\r\n200 OK\n")
     ≡ codes "q GET / HTTP/1.1|A: b|\nr HTTP/1.1 200 OK|\n")
-    × (items false (codes "HTTP/1.1 200 OK\na:\n \nb: c\n\nHTTP/1.1 is older.\nHTTP/1.1 404 \n")
+    × (found false (codes "HTTP/1.1 200 OK\na:\n \nb: c\n\nHTTP/1.1 is older.\nHTTP/1.1 404 \n")
     ≡ codes "r HTTP/1.1 200 OK|a:| |b: c|\nr HTTP/1.1 404 |\n")
-    × (items false (codes "* using HTTP/2\n*   Trying 127.0.0.1:1...\n* connect to 127.0.0.1 port 1 failed: refused\n") ≡ [])
+    × (found false (codes "* using HTTP/2\n*   Trying 127.0.0.1:1...\n* connect to 127.0.0.1 port 1 failed: refused\n") ≡ [])
 unfolding begins_sign is_request_line is_token_byte is_version mark_of_fields
 indented_heads = (refl, refl, refl, refl)
 
 -- After a start line with a sign, one without a sign is part of a body. After pasted fields with a sign, or a start line without one, each
 -- counts. A line that is a start line after its indentation has no sign.
-bodies : (items false (codes "< HTTP/2 200\n< a: b\n<\nHTTP/1.1 404 No\nAccept: c\n< HTTP/2 201\n") ≡
+bodies : (found false (codes "< HTTP/2 200\n< a: b\n<\nHTTP/1.1 404 No\nAccept: c\n< HTTP/2 201\n") ≡
     codes "r HTTP/2 200|a: b|\n! Accept: c\nr HTTP/2 201|\n")
-    × (items false (codes "< HTTP/2 200\nHTTP/1.1 404 > GET / HTTP/1.1\n< b: c\n") ≡ codes "r HTTP/2 200|b: c|\n")
-    × (items false (codes "> accept: a\n\nHTTP/1.1 200 OK\n> GET / HTTP/1.1\n")
+    × (found false (codes "< HTTP/2 200\nHTTP/1.1 404 > GET / HTTP/1.1\n< b: c\n") ≡ codes "r HTTP/2 200|b: c|\n")
+    × (found false (codes "> accept: a\n\nHTTP/1.1 200 OK\n> GET / HTTP/1.1\n")
     ≡ codes "f accept: a|\nr HTTP/1.1 200 OK|\nq GET / HTTP/1.1|\n")
-    × (items false (codes "HTTP/1.1 200 a > GET / HTTP/1.1\nb: c\n") ≡ codes "r HTTP/1.1 200 a > GET / HTTP/1.1|b: c|\n")
+    × (found false (codes "HTTP/1.1 200 a > GET / HTTP/1.1\nb: c\n") ≡ codes "r HTTP/1.1 200 a > GET / HTTP/1.1|b: c|\n")
 unfolding begins_sign is_request_line is_token_byte is_version mark_of_fields
 bodies = (refl, refl, refl, refl)
 
@@ -229,33 +229,35 @@ unfolding begins_sign mark_of_fields
 marks_of_fields = (refl, refl)
 
 -- Before the first start line, each block with one of the two fields is a head: a mail, lines that grep finds, fields that are indented. A
--- block without one isn't, and after a start line none is.
-pasted : (items false (codes "\n* a\nFrom: b\nCONTENT-TYPE: c/d\n \r\n\r\nx: y\n>\nAccept : e\n")
+-- block without one isn't, and after a start line none is. A block with a status line behind other text is a response.
+pasted : (found false (codes "\n* a\nFrom: b\nCONTENT-TYPE: c/d\n \r\n\r\nx: y\n>\nAccept : e\n")
     ≡ codes "f * a|From: b|CONTENT-TYPE: c/d|\nf Accept : e|\n")
-    × (items false (codes "> accept: a/b\n< Accept-Ranges: c\n> d: e\n> \n> accept: f\n") ≡ codes "f accept: a/b|d: e|\nf accept: f|\n")
-    × (items false (codes " Accept: a\n b\nc\n\tContent-Type: d\n") ≡ codes "f Accept: a|b|\n! \tContent-Type: d\n")
-    × (items false (codes " a\n Accept: b\nAccept: c\n") ≡ codes "f  a| Accept: b|Accept: c|\n")
-    × (items false (codes "Accept: a\nHTTP/2 200\nb\n") ≡ codes "f Accept: a|\nr HTTP/2 200|b|\n")
-    × (items false (codes "HTTP/2 200\n\nAccept: a\n") ≡ codes "r HTTP/2 200|\n! Accept: a\n") × (items false (codes "From: b\n\na: b\n")
+    × (found false (codes "> accept: a/b\n< Accept-Ranges: c\n> d: e\n> \n> accept: f\n") ≡ codes "f accept: a/b|d: e|\nf accept: f|\n")
+    × (found false (codes " Accept: a\n b\nc\n\tContent-Type: d\n") ≡ codes "f Accept: a|b|\n! \tContent-Type: d\n")
+    × (found false (codes " a\n Accept: b\nAccept: c\n") ≡ codes "f  a| Accept: b|Accept: c|\n")
+    × (found false (codes "Accept: a\nHTTP/2 200\nb\n") ≡ codes "f Accept: a|\nr HTTP/2 200|b|\n")
+    × (found false (codes "a\n1.2.3.4: HTTP/2 415\nAccept: b\n\nx GET / HTTP/2\nAccept: c\n\nHTTP/1 HTTP/2 200\nAccept: d\n")
+    ≡ codes "r a|1.2.3.4: HTTP/2 415|Accept: b|\nf x GET / HTTP/2|Accept: c|\nf HTTP/1 HTTP/2 200|Accept: d|\n")
+    × (found false (codes "HTTP/2 200\n\nAccept: a\n") ≡ codes "r HTTP/2 200|\n! Accept: a\n") × (found false (codes "From: b\n\na: b\n")
     ≡ [])
 unfolding begins_sign is_request_line is_token_byte is_version mark_of_fields
-pasted = (refl, refl, refl, refl, refl, refl, refl)
+pasted = (refl, refl, refl, refl, refl, refl, refl, refl)
 
--- A line in no head with one of the two fields in plain sight is an item, in its place: before heads, skipped within one, the one that ends
+-- A line in no head with one of the two fields in plain sight is found, in its place: before heads, skipped within one, the one that ends
 -- it, and after it.
-strays : (items false (codes "* Accept: a\n\n[accept: b]\n< HTTP/2 200\n* [accept: c]\n* Accept: d\n< b: c\n") ≡
+strays : (found false (codes "* Accept: a\n\n[accept: b]\n< HTTP/2 200\n* [accept: c]\n* Accept: d\n< b: c\n") ≡
     codes "! * Accept: a\nr HTTP/2 200|b: c|\n! * Accept: d\n")
-    × (items false (codes "  HTTP/1.1 200 OK\nContent-Type: a/b\n") ≡ codes "r HTTP/1.1 200 OK|\n! Content-Type: a/b\n")
-    × (items false (codes "> GET / HTTP/1.1\naccept: a >\n> accept: b\n") ≡ codes "q GET / HTTP/1.1|\n! accept: a >\n! > accept: b\n")
+    × (found false (codes "  HTTP/1.1 200 OK\nContent-Type: a/b\n") ≡ codes "r HTTP/1.1 200 OK|\n! Content-Type: a/b\n")
+    × (found false (codes "> GET / HTTP/1.1\naccept: a >\n> accept: b\n") ≡ codes "q GET / HTTP/1.1|\n! accept: a >\n! > accept: b\n")
 unfolding begins_sign is_request_line is_token_byte is_version mark_of_fields
 strays = (refl, refl, refl)
 
 -- In an input that is cut off, the last line doesn't count, nor a head that no line before it ends, with its strays.
 cut_off :
-    (map (items true) (codes "HTTP/2 200\n\n" ∷ codes "> GET / HTTP/2\n* accept: a\n* b" ∷ codes "Accept: a\nb" ∷ []) ≡ [] ∷ [] ∷ [] ∷ [])
-    × (map (items true) (codes "HTTP/2 200\n\na" ∷ codes "HTTP/2 200\nHTTP/2 201\na" ∷ codes " HTTP/2 200\na\nb" ∷ [])
+    (map (found true) (codes "HTTP/2 200\n\n" ∷ codes "> GET / HTTP/2\n* accept: a\n* b" ∷ codes "Accept: a\nb" ∷ []) ≡ [] ∷ [] ∷ [] ∷ [])
+    × (map (found true) (codes "HTTP/2 200\n\na" ∷ codes "HTTP/2 200\nHTTP/2 201\na" ∷ codes " HTTP/2 200\na\nb" ∷ [])
     ≡ codes "r HTTP/2 200|\n" ∷ codes "r HTTP/2 200|\n" ∷ codes "r HTTP/2 200|\n" ∷ [])
-    × (items true (codes "Accept: a\n\nb") ≡ codes "f Accept: a|\n") × (items true (codes "* Accept: a\nb") ≡ codes "! * Accept: a\n")
-    × (flat_map item_text (items_read (codes "HTTP/2 200\na: b")) ≡ codes "r HTTP/2 200|a: b|\n")
+    × (found true (codes "Accept: a\n\nb") ≡ codes "f Accept: a|\n") × (found true (codes "* Accept: a\nb") ≡ codes "! * Accept: a\n")
+    × (flat_map finding_text (findings_read (codes "HTTP/2 200\na: b")) ≡ codes "r HTTP/2 200|a: b|\n")
 unfolding begins_sign is_request_line is_token_byte is_version mark_of_fields
 cut_off = (refl, refl, refl, refl, refl)

@@ -1,16 +1,16 @@
 -- Heads and offers have one report, with one verdict, so that a page that says less doesn't check; and rows, reports and verdicts for which
 -- each definition is true.
-use Rattle.mime_headers.proofs.Common.{AddsAccept, AddsChoice, AddsEntry, AddsHead, AddsItem, AddsMissing, AddsRequest, AddsResponse}
-use Rattle.mime_headers.proofs.Common.{AddsType, AddsTypes, AddsWeights, AreOffers, Bool, Err, FieldError, FoldsTo, Global, HasBoundary}
-use Rattle.mime_headers.proofs.Common.{Head, Invalid, IsHttpMediaType, IsRead, IsReport, IsReportOf, IsWeighed, Item, Kind, List}
-use Rattle.mime_headers.proofs.Common.{MediaType, MissingSubtype, None, NotUtf8, Ok, Option, RankedOffer, Result, Some, State, String}
-use Rattle.mime_headers.proofs.Common.{Verdict, [], a_word, ap, arith, bad_word, bare_lines, best_row, byte_text, codes, control_len}
+use Rattle.mime_headers.proofs.Common.{AddsAccept, AddsChoice, AddsEntry, AddsHead, AddsFinding, AddsMissing, AddsRequest, AddsResponse}
+use Rattle.mime_headers.proofs.Common.{AddsType, AddsTypes, AddsWeights, AreOffers, Bool, Err, FieldError, FoldsTo, Global, BoundaryIs}
+use Rattle.mime_headers.proofs.Common.{Head, Invalid, IsHttpMediaType, HasReading, IsReport, IsReportOf, IsWeighed, Finding, Kind, List}
+use Rattle.mime_headers.proofs.Common.{MediaType, MissingSubtype, None, NotUtf8, Ok, Option, RankedOffer, Result, Some, Progress, String}
+use Rattle.mime_headers.proofs.Common.{Verdict, [], a_word, ap, arith, bad_word, plain_lines, best_row, byte_text, codes, control_len}
 use Rattle.mime_headers.proofs.Common.{count_row, decider, empty_row, expects_type, false, fault_rows, field_error_text, filter, flat_map}
-use Rattle.mime_headers.proofs.Common.{head, if◌then◌else◌, is_altered, is_cut, is_some, items_in, lacks_text, length, map, media_rows}
+use Rattle.mime_headers.proofs.Common.{head, if◌then◌else◌, is_altered, is_cut, is_some, findings_in, lacks_text, length, map, media_rows}
 use Rattle.mime_headers.proofs.Common.{no_field_error, no_word, numbered, offer_row, offer_rows, one_field_error, one_printed_text}
 use Rattle.mime_headers.proofs.Common.{one_ranking, only_cut, range_row, refl, row, rules, shown, start, stray, string_bytes, sym}
 use Rattle.mime_headers.proofs.Common.{title_rows, trimmed, true, verdict_of, weight_text, with_entry, without_controls, without_escapes}
-use Rattle.mime_headers.proofs.Common.{ℕ, ◌++◌, ◌+◌, ◌<◌, ◌==◌, ◌||◌, ◌∙◌, ◌∷◌, ◌≡◌}
+use Rattle.mime_headers.proofs.Common.{ℕ, ◌++◌, ◌<◌, ◌==◌, ◌||◌, ◌∙◌, ◌∷◌, ◌≡◌}
 use Rattle.std.proofs.Common.{lit<, not}
 use Rattle.std.proofs.lemmas.{Bool.Decides.nat_tests, Bool.and_parts, Bool.true≢false, List.Elements.All-contains}
 use Rattle.std.specs.{Fmt.digits, List.list_all, Str.IsUtf8}
@@ -21,20 +21,20 @@ use Rattle.mime_http.specs.HttpList.{AreBetweenCommas, AreBetweenCommas.comma, A
 use Rattle.mime_http.specs.HttpList.{BeginsPiece, IsPiece, IsPiece.piece_byte, IsPiece.piece_end}
 use Rattle.mime_http.specs.{HttpList.IsPrinted.as_it_stands, Ranges.merit_at, Ranking.IsRanking, Ranking.ranked_as}
 use Rattle.mime_headers.specs.{Head.begins_sign, Head.is_request_line, Head.is_version, Head.mark_of_fields, Program.head_error_text}
-use Rattle.mime_headers.specs.{Report.AddsLines, Report.is_plain, declared.error.HeadError.TheVariants.NoHead}
+use Rattle.mime_headers.specs.{Report.AddsLines, Report.has_plain_weight, declared.error.HeadError.TheVariants.NoHead}
 use Rattle.mime_headers.specs.{declared.field.Name.TheVariants.Accept, declared.field.Name.TheVariants.ContentType}
 
 -- ---- one report
 
 -- A value is read in one way.
-one_reading : (value : List ℕ) (one other : Result MediaType FieldError) → IsRead value one → IsRead value other → one ≡ other
+one_reading : (value : List ℕ) (one other : Result MediaType FieldError) → HasReading value one → HasReading value other → one ≡ other
 one_reading value (Ok media) (Ok other) is too = ap Ok (one_printed_text value media other is.1 is.2 too.1 too.2)
 one_reading value (Ok media) (Err error) is why = absurd (no_field_error value error is.0 (media, is.1) why.0 why.1)
 one_reading value (Err error) (Ok media) why is = absurd (no_field_error value error is.0 (media, is.1) why.0 why.1)
 one_reading value (Err error) (Err other) why too = ap Err (one_field_error value error other why.0 too.0 why.1 too.1)
 
 -- A media type has one boundary or none.
-one_boundary : (media : MediaType) (one other : Option (List ℕ)) → HasBoundary media one → HasBoundary media other → one ≡ other
+one_boundary : (media : MediaType) (one other : Option (List ℕ)) → BoundaryIs media one → BoundaryIs media other → one ≡ other
 one_boundary media None None none again = refl
 one_boundary media None (Some bytes) none is = absurd (none bytes is)
 one_boundary media (Some bytes) None is none = absurd (none bytes is)
@@ -45,7 +45,7 @@ one_entry : (p : List ℕ × List MediaType) (text : List ℕ) (q r : List ℕ �
 one_entry old [] new other one two = one.0 refl ∙ sym (two.0 refl)
 one_entry old (b ∷ entry) new other one two = search (one_reading, rules)
 
--- Items in a row add one text, if each does.
+-- What is added in a row is one text, if each does.
 one_of_all : {P A : Type 0} (R : P → A → P → Type 0) → ((p : P) (x : A) (q r : P) → R p x q → R p x r → q ≡ r)
     → (p : P) (xs : List A) (q r : P) → FoldsTo R p xs q → FoldsTo R p xs r → q ≡ r
 one_of_all R one p [] q r is too = sym is ∙ too
@@ -69,7 +69,7 @@ one_type old value new other (Err error, is, one) (another, too, two) =
     one ∙ sym (rw (← one_reading (trimmed value) (Err error) another is too) at two)
 
 -- The values of a head add one text, and one media type is the only one.
-one_of_types : (many : Bool) (old : State) (it : Head) (only another : Option MediaType) (new other : State)
+one_of_types : (many : Bool) (old : Progress) (it : Head) (only another : Option MediaType) (new other : Progress)
     → AddsTypes many old it only new
     → AddsTypes many old it another other → (only ≡ another) × (new ≡ other)
 one_of_types many old it only another new other (a, answer, types, is, weighs, one) (b, reply, again, also, too, two) =
@@ -89,43 +89,43 @@ one_accept (line ∷ lines) old new other one two =
     cc (adds.2, more.2, one_of_all AddsEntry one_entry _ _ _ _ (rw same at adds.1.2) more.1.2)
 
 -- Ranges make one choice.
-one_choice : (offers : List MediaType) (ranges : Option (List MediaType)) (old new other : State) → AddsChoice offers ranges old new
+one_choice : (offers : List MediaType) (ranges : Option (List MediaType)) (old new other : Progress) → AddsChoice offers ranges old new
     → AddsChoice offers ranges old other → new ≡ other
 one_choice offers None old new other one two = one ∙ sym two
 one_choice offers (Some ranges) old new other (a, is, one) (b, too, two) = cc (one, two, one_ranking ranges offers a b is too)
 
 -- The weights by a head's `Accept` are the same.
-one_request : (offers : List MediaType) (ranges : Option (List MediaType)) (only : Option MediaType) (old new other : State)
+one_request : (offers : List MediaType) (ranges : Option (List MediaType)) (only : Option MediaType) (old new other : Progress)
     → AddsRequest offers ranges only old new → AddsRequest offers ranges only old other → new ≡ other
 one_request offers ranges only old new other (a, is, one) (b, too, two) = cc (one, two, one_choice offers ranges old a b is too)
 
-one_response : (ranges : Option (List MediaType)) (old new other : State) → AddsResponse ranges old new → AddsResponse ranges old other
+one_response : (ranges : Option (List MediaType)) (old new other : Progress) → AddsResponse ranges old new → AddsResponse ranges old other
     → new ≡ other
 one_response ranges old new other (a, is, one) (b, too, two) = cc (one, two, one_weighed (codes "request ") ranges old.sent a b is too)
 
 one_of_weights : (kind : Kind) (offers : List MediaType) (ranges : Option (List MediaType)) (only : Option MediaType) (old new other :
-    State)
+    Progress)
     → AddsWeights kind offers ranges only old new → AddsWeights kind offers ranges only old other → new ≡ other
 one_of_weights Kind.Fields offers ranges only old new other one two = one_request offers ranges only old new other one two
 one_of_weights Kind.Request offers ranges only old new other one two = one_request offers ranges only old new other one two
 one_of_weights Kind.Interim offers ranges only old new other one two = one ∙ sym two
 one_of_weights Kind.Final offers ranges only old new other one two = one_response ranges old new other one two
 
--- A head adds one text, and so does any item.
-one_head : (offers : List MediaType) (many : Bool) (old : State) (it : Head) (new other : State) → AddsHead offers many old it new
+-- A head adds one text, and so does any finding.
+one_head : (offers : List MediaType) (many : Bool) (old : Progress) (it : Head) (new other : Progress) → AddsHead offers many old it new
     → AddsHead offers many old it other → new ≡ other
 one_head offers many old it new other (a, only, reads, types, accepts, weighs) (b, another, again, also, too, more) =
     let same = one_of_types many old it only another a b types also in
     let read = one_accept _ _ _ _ (rw same.1 at accepts) too in
     one_of_weights it.kind offers _ _ _ _ _ (rw read at (rw same.1 at (rw same.0 at weighs))) more
 
-one_item : (offers : List MediaType) (many : Bool) (old : State) (item : Item) (new other : State) → AddsItem offers many old item new
-    → AddsItem offers many old item other → new ≡ other
-one_item offers many old (head it) new other one two = one_head offers many old it new other one two
-one_item offers many old (stray line) new other one two = one ∙ sym two
+one_finding : (offers : List MediaType) (many : Bool) (old : Progress) (finding : Finding) (new other : Progress)
+    → AddsFinding offers many old finding new → AddsFinding offers many old finding other → new ≡ other
+one_finding offers many old (head it) new other one two = one_head offers many old it new other one two
+one_finding offers many old (stray line) new other one two = one ∙ sym two
 
 -- What is missing adds one text.
-one_missing : (offers : List MediaType) (old new other : State) → AddsMissing offers old new → AddsMissing offers old other → new ≡ other
+one_missing : (offers : List MediaType) (old new other : Progress) → AddsMissing offers old new → AddsMissing offers old other → new ≡ other
 one_missing offers old new other one two = by (length offers == 0 || is_some old.choice) refl
   where
     by : (is_known : Bool) → (length offers == 0 || is_some old.choice) ≡ is_known → new ≡ other
@@ -140,7 +140,7 @@ one_missing offers old new other one two = by (length offers == 0 || is_some old
 one_report : (offers : List MediaType) (bytes text other : List ℕ) (verdict another : Verdict) → IsReportOf offers bytes text verdict
     → IsReportOf offers bytes other another → (text ≡ other) × (verdict ≡ another)
 one_report offers bytes text other verdict another one two =
-    let same = one_of_all _ (one_item offers _) _ _ _ _ one.adds.1 two.adds.1 in
+    let same = one_of_all _ (one_finding offers _) _ _ _ _ one.adds.1 two.adds.1 in
     let last = one_missing offers _ _ _ (rw same at one.adds.2) two.adds.2 in
     (cc (one.is_text, two.is_text, last), cc (one.is_verdict, two.is_verdict, last))
 
@@ -155,11 +155,11 @@ media_of top sub = value_of (tree top sub)
 
 -- Two tokens are read, and printed as they stand, if they are in lowercase.
 read : (top sub : List ℕ) → IsWellFormed (tree top sub) → IsUtf8 (text_of (tree top sub))
-    → trimmed (text_of (tree top sub)) ≡ text_of (tree top sub) → IsRead (text_of (tree top sub)) (Ok (media_of top sub))
-read top sub fine utf8 bare =
+    → trimmed (text_of (tree top sub)) ≡ text_of (tree top sub) → HasReading (text_of (tree top sub)) (Ok (media_of top sub))
+read top sub fine utf8 without_returns =
     let reads : Reads (text_of (tree top sub)) (media_of top sub) =
     record { tree = tree top sub; well_formed = fine; spelled = refl; valued = refl } in
-    (utf8, plain_is_http _ _ reads, as_it_stands _ _ (rw bare reads))
+    (utf8, plain_is_http _ _ reads, as_it_stands _ _ (rw without_returns reads))
 
 abbrev first : MediaType
 first = media_of (codes "a") (codes "b")
@@ -167,16 +167,16 @@ first = media_of (codes "a") (codes "b")
 abbrev second : MediaType
 second = media_of (codes "c") (codes "d")
 
-first_read : IsRead (codes "a/b") (Ok first)
+first_read : HasReading (codes "a/b") (Ok first)
 unfolding is_token_byte lib.Utf8.encode
 first_read = read (codes "a") (codes "b") (refl, refl, tt) (codes "a/b", (refl, refl)) refl
 
-second_read : IsRead (codes "c/d") (Ok second)
+second_read : HasReading (codes "c/d") (Ok second)
 unfolding is_token_byte lib.Utf8.encode
 second_read = read (codes "c") (codes "d") (refl, refl, tt) (codes "c/d", (refl, refl)) refl
 
 -- An entry that is read adds its row.
-an_entry : (old : List ℕ × List MediaType) (b : ℕ) (entry : List ℕ) (range : MediaType) → IsRead (b ∷ entry) (Ok range)
+an_entry : (old : List ℕ × List MediaType) (b : ℕ) (entry : List ℕ) (range : MediaType) → HasReading (b ∷ entry) (Ok range)
     → AddsEntry old (b ∷ entry) (with_entry old (b ∷ entry) (Ok range))
 an_entry old b entry range is = ((λ none. absurd (omega (arith, none))), λ _. (Ok range, is, refl))
 
@@ -205,8 +205,8 @@ abbrev exchange_lines : List (List ℕ)
 exchange_lines = codes "> GET / HTTP/1.1" ∷ codes "> Accept: a/b, c/d" ∷ codes ">" ∷ codes "< HTTP/1.1 100 " ∷ codes "* Content-Type: e"
     ∷ codes "> GET / HTTP/1.1" ∷ codes "< HTTP/1.1 200 " ∷ codes "< Accept: a/b" ∷ []
 
-abbrev exchange_items : List Item
-exchange_items = head (record { kind = Kind.Request; texts = codes "GET / HTTP/1.1" ∷ codes "Accept: a/b, c/d" ∷ [] })
+abbrev exchange_findings : List Finding
+exchange_findings = head (record { kind = Kind.Request; texts = codes "GET / HTTP/1.1" ∷ codes "Accept: a/b, c/d" ∷ [] })
     ∷ head (record { kind = Kind.Interim; texts = codes "HTTP/1.1 100 " ∷ [] }) ∷ stray (codes "* Content-Type: e")
     ∷ head (record { kind = Kind.Request; texts = codes "GET / HTTP/1.1" ∷ [] })
     ∷ head (record { kind = Kind.Final; texts = codes "HTTP/1.1 200 " ∷ codes "Accept: a/b" ∷ [] }) ∷ []
@@ -215,12 +215,12 @@ no_escape : (bytes : List ℕ) → list_all (λ b. not (b == 27)) bytes ≡ true
 no_escape [] are = refl
 no_escape (b ∷ bytes) are = grind (arith, and_parts, nat_tests, are, no_escape bytes)
 
-lines_are : bare_lines false exchange ≡ exchange_lines
+lines_are : plain_lines false exchange ≡ exchange_lines
 lines_are = refl
 
-items_are : items_in false exchange_lines ≡ exchange_items
+findings_are : findings_in false exchange_lines ≡ exchange_findings
 unfolding begins_sign is_request_line is_token_byte is_version mark_of_fields
-items_are = refl
+findings_are = refl
 
 abbrev exchange_report : List ℕ
 exchange_report = codes "head GET / HTTP/1.1\nAccept 1.000 a/b\nAccept 1.000 c/d\noffer 1.000 a/b by 1 a/b\nbest a/b\nhead HTTP/1.1 100 \n"
@@ -243,8 +243,8 @@ two_read : (old : List ℕ) → FoldsTo AddsEntry (old, []) (codes "a/b" ∷ cod
 two_read old = (_, an_entry _ 97 _ first first_read, (_, an_entry _ 99 _ second second_read, refl))
 
 -- The first request chooses an offer. It isn't known which of the two the final response answers, and one waits at the end.
-whole : (is : IsReport (first ∷ []) false exchange_items exchange_report Verdict.Acceptable) × (is.last.waiting ≡ 1)
-unfolding digits is_plain
+whole : (is : IsReport (first ∷ []) false exchange_findings exchange_report Verdict.Acceptable) × (is.last.waiting ≡ 1)
+unfolding digits has_plain_weight
 whole = (
   record {
     some = lit< tt;
@@ -294,16 +294,16 @@ whole = (
   refl,
 )
 
--- Bytes without escapes have the report on their lines' items.
-of_lines : (offers : List MediaType) (bytes text : List ℕ) (verdict : Verdict) (lines : List (List ℕ)) (items : List Item)
-    → without_escapes bytes ≡ bytes → is_cut bytes ≡ false → bare_lines false bytes ≡ lines → items_in false lines ≡ items
-    → IsReport offers false items text verdict → IsReportOf offers bytes text verdict
-of_lines offers bytes text verdict lines items plain cut are is report = rw cut (rw plain (rw are (rw is report)))
+-- Bytes without escapes have the report on their lines' findings.
+of_lines : (offers : List MediaType) (bytes text : List ℕ) (verdict : Verdict) (lines : List (List ℕ)) (findings : List Finding)
+    → without_escapes bytes ≡ bytes → is_cut bytes ≡ false → plain_lines false bytes ≡ lines → findings_in false lines ≡ findings
+    → IsReport offers false findings text verdict → IsReportOf offers bytes text verdict
+of_lines offers bytes text verdict lines findings plain cut are is report = rw cut (rw plain (rw are (rw is report)))
 
 whole_of_bytes : IsReportOf (first ∷ []) exchange exchange_report Verdict.Acceptable
-whole_of_bytes = of_lines _ exchange _ _ exchange_lines exchange_items (no_escape exchange refl) refl lines_are items_are whole.0
+whole_of_bytes = of_lines _ exchange _ _ exchange_lines exchange_findings (no_escape exchange refl) refl lines_are findings_are whole.0
 
-unbound : HasBoundary first None
+unbound : BoundaryIs first None
 unbound bytes is = absurd (cc is.multipart)
 
 -- A final response weighs its own media type by the ranges of the request that it answers, and that of the request by its own. Its ranges
@@ -314,7 +314,7 @@ answered : AddsHead (first ∷ []) false (record start { waiting = 1; asked = So
       text = codes "Content-Type a/b\nessence a/b\nanswer 1.000 a/b by 1 a/b\nAccept 1.000 a/b\nrequest 0.000 c/d by none\n";
       are_good = false;
     })
-unfolding digits is_plain
+unfolding digits has_plain_weight
 answered = (
   _,
   _,
@@ -324,7 +324,7 @@ answered = (
   (_, (_, one_offer _ _, refl), refl),
 )
 
-abbrev chosen : State
+abbrev chosen : Progress
 chosen = record start { text = codes "offer 1.000 a/b by 1 a/b\nbest a/b\n"; choice = Some true }
 
 -- The response to a request is known if no other request waits.
@@ -344,7 +344,7 @@ several : AddsTypes false start (record {
 several =
     (_, _, (_, (Ok first, first_read, (None, unbound, refl)), (_, (Ok first, first_read, (None, unbound, refl)), refl)), refl, refl, refl)
 
-any_read : IsRead (codes "*/*") (Ok (media_of (codes "*") (codes "*")))
+any_read : HasReading (codes "*/*") (Ok (media_of (codes "*") (codes "*")))
 unfolding is_token_byte lib.Utf8.encode
 any_read = read (codes "*") (codes "*") (refl, refl, tt) (codes "*/*", (refl, refl)) refl
 
@@ -353,7 +353,7 @@ without : AddsMissing (first ∷ []) start (record start {
   text = codes "no Accept\nAccept 1.000 */*\noffer 1.000 a/b by 1 */*\nbest a/b\n";
   choice = Some true;
 }) × AddsMissing [] start start × AddsMissing (first ∷ []) (record start { choice = Some false }) (record start { choice = Some false })
-unfolding digits is_plain
+unfolding digits has_plain_weight
 without = (
   (λ known. absurd (true≢false (sym known)), λ _. (_, an_entry _ 42 _ _ any_read, (_, one_offer _ _, refl))),
   (λ _. refl, λ unknown. absurd (true≢false unknown)),
@@ -437,7 +437,7 @@ rows_of_offers : (map weight_text (1000 ∷ 50 ∷ 7 ∷ []) ≡ codes "1.000" �
     ≡ codes "offer 0.001 a/b+c by 1 */*;q=1 (lacks p=x\"y of 2 a/b+c;p=\"x\\\"y\")\n")
     × (lacks_text plain None (1, media) ≡ codes " (lacks p=x\"y of 2 a/b+c;p=\"x\\\"y\")")
     × (lacks_text plain (Some plain) (1, star (codes "1")) ≡ []) × (numbered (1, plain) ≡ codes "2 a/b+c")
-unfolding digits is_plain
+unfolding digits has_plain_weight
 rows_of_offers = (refl, refl, refl, refl, refl, refl, refl, refl, refl, refl, refl)
 
 -- The best offer has a row, and one that isn't acceptable another. The verdict is that of all values and of the last choice.
@@ -450,16 +450,16 @@ verdicts = (refl, refl, refl, refl)
 
 -- Without a head there is no report. If an input is cut off, the report says so.
 no_heads : ((text : List ℕ) (verdict : Verdict) → ¬ (IsReport [] false [] text verdict))
-    × ((cut : Bool) (items : List Item) (text : List ℕ) (verdict : Verdict) → (is : IsReport [] cut items text verdict)
+    × ((cut : Bool) (findings : List Finding) (text : List ℕ) (verdict : Verdict) → (is : IsReport [] cut findings text verdict)
     → text ≡ without_controls (is.last.text ++ (if cut then codes "not read after 1048576 bytes\n" else [])))
-no_heads = (λ text verdict is. absurd (omega (arith, is.some)), λ cut items text verdict is. is.is_text)
+no_heads = (λ text verdict is. absurd (omega (arith, is.some)), λ cut findings text verdict is. is.is_text)
 
 -- ---- offers and errors
 
 -- Each word that is a media type names an offer, in its order. After it, a word is rejected by its fault.
-words : (word : List ℕ) (offer : MediaType) → IsRead word (Ok offer)
-    → ((other : List ℕ) (next : MediaType) → IsRead other (Ok next) → AreOffers (word ∷ other ∷ []) [] (Ok (offer ∷ next ∷ [])))
-    × ((other : String Global) (error : FieldError) → IsRead (string_bytes other) (Err error)
+words : (word : List ℕ) (offer : MediaType) → HasReading word (Ok offer)
+    → ((other : List ℕ) (next : MediaType) → HasReading other (Ok next) → AreOffers (word ∷ other ∷ []) [] (Ok (offer ∷ next ∷ [])))
+    × ((other : String Global) (error : FieldError) → HasReading (string_bytes other) (Err error)
     → AreOffers (word ∷ string_bytes other ∷ []) [] (Err (other, error)))
 words word offer reads =
     (λ other next also. a_word reads (a_word also no_word), λ other error is. a_word reads (bad_word other error (λ _. is.1)))

@@ -2,7 +2,7 @@
 use Rattle.std.specs.Prelude.{ℕ, ◌+◌, ◌-◌, Bool, true, false, List, [], ◌∷◌, ◌++◌, ◌==◌, ◌||◌, ◌&&◌, not, nat_lt, map, filter, take, drop}
 use Rattle.std.specs.Prelude.{length}
 use Rattle.std.specs.Prelude.{Option, Some, None, option_and_then, option_map, is_none, is_some, unwrap_or, if◌then◌else◌, codes}
-use Rattle.std.specs.Char.{is_ascii_alphanumeric, is_ascii_digit}
+use Rattle.std.specs.{Char.is_ascii_digit}
 use Rattle.std.specs.List.{list_all, list_any, cons_option, filter_map, prefix_len, suffix_len, slice_get, slice_index}
 use Rattle.std.specs.{List.before_first, List.after_first, Option.option_or, Str.bytes_eq}
 use Rattle.mime.specs.{Bytes.is_token_byte, Grammar.is_space}
@@ -30,12 +30,13 @@ abbrev pub without_escapes : List ℕ → List ℕ
 without_escapes bytes = plain_after 0 bytes
 
 -- a line without the carriage returns at its end
-abbrev pub bare : List ℕ → List ℕ
-bare line = take (length line - suffix_len (λ b. b == 13) line) line
+abbrev pub without_returns : List ℕ → List ℕ
+without_returns line = take (length line - suffix_len (λ b. b == 13) line) line
 
--- the lines of an input without a byte order mark, each bare; of an input that is cut off, without the last line
-abbrev pub bare_lines : Bool → List ℕ → List (List ℕ)
-bare_lines cut bytes = let lines = map bare (lines_of (if bytes_eq (take 3 bytes) (239 ∷ 187 ∷ 191 ∷ []) then drop 3 bytes else bytes)) in
+-- the lines of an input without a byte order mark and those carriage returns; of an input that is cut off, without the last line
+abbrev pub plain_lines : Bool → List ℕ → List (List ℕ)
+plain_lines cut bytes =
+    let lines = map without_returns (lines_of (if bytes_eq (take 3 bytes) (239 ∷ 187 ∷ 191 ∷ []) then drop 3 bytes else bytes)) in
     if cut then take (length lines - 1) lines else lines
 
 -- whether a mark is a sign, and not an indentation
@@ -110,6 +111,15 @@ kind_of text =
 abbrev pub is_start : List ℕ → Bool
 is_start text = is_some (kind_of text)
 
+-- what begins with the first `HTTP/` of a text, in any case
+abbrev pub from_version : List ℕ → List ℕ
+from_version [] = []
+from_version (b ∷ text) = if begins (codes "HTTP/") (b ∷ text) then b ∷ text else from_version text
+
+-- the kind of the first text that has a status line from its first `HTTP/` on
+abbrev pub kind_within : List (List ℕ) → Option Kind
+kind_within texts = slice_get (filter_map (λ text. kind_of (from_version text)) texts) 0
+
 -- ---- fields
 
 -- one of the two fields as a line has it: its value without the white space around it, and whether white space is before the colon, which
@@ -123,19 +133,19 @@ abbrev pub label_of : Name → List ℕ
 label_of ContentType = codes "content-type"
 label_of Accept = codes "accept"
 
-abbrev pub name_text : Name → List ℕ
-name_text ContentType = codes "Content-Type"
-name_text Accept = codes "Accept"
+abbrev pub printed_name : Name → List ℕ
+printed_name ContentType = codes "Content-Type"
+printed_name Accept = codes "Accept"
 
 -- whether a line begins with white space, and so continues a field (RFC 9112, 5.2)
-abbrev pub goes_on : List ℕ → Bool
-goes_on line = is_space (slice_index line 0)
+abbrev pub is_folded : List ℕ → Bool
+is_folded line = is_space (slice_index line 0)
 
 -- a line as the field with a name, if it begins with that name and a colon
 abbrev pub field_named : Name → List ℕ → Option Field
 field_named name line = let rest = drop (length (label_of name)) line in
     if begins (label_of name) line && begins (codes ":") (trim_start rest)
-    then Some (record { name = name; value = trimmed (drop 1 (trim_start rest)); is_spaced = goes_on rest }) else None
+    then Some (record { name = name; value = trimmed (drop 1 (trim_start rest)); is_spaced = is_folded rest }) else None
 
 abbrev pub field_of : List ℕ → Option Field
 field_of line = option_or (field_named ContentType line) (field_named Accept line)
@@ -146,7 +156,7 @@ is_field line = is_some (field_of line)
 -- what lines add to a value: those at the start that continue it, each trimmed, after one space
 abbrev pub continued : List (List ℕ) → List ℕ
 continued [] = []
-continued (line ∷ lines) = if goes_on line then 32 ∷ trimmed line ++ continued lines else []
+continued (line ∷ lines) = if is_folded line then 32 ∷ trimmed line ++ continued lines else []
 
 -- the value of a field without one: the next line, if no token and colon begin it, as browsers copy a field in two lines
 abbrev pub next_value : List (List ℕ) → List ℕ
@@ -154,25 +164,25 @@ next_value [] = []
 next_value (line ∷ lines) = let name = before_first (λ b. b == 58) line in
     if list_all is_token_byte name && nat_lt (length name) (length line) then [] else trimmed line ++ continued lines
 
--- a value that begins so, with the lines after it; `alone` says that the lines have no start line
-abbrev pub value_of : Bool → List (List ℕ) → List ℕ → List ℕ
-value_of alone lines start = let value = start ++ continued lines in if alone && length value == 0 then next_value lines else value
+-- a value that begins so, with the lines after it
+abbrev pub whole_value : List (List ℕ) → List ℕ → List ℕ
+whole_value lines start = let value = start ++ continued lines in if length value == 0 then next_value lines else value
 
 -- the values of the fields with a name, without those that have white space before the colon
-abbrev pub values_of : Name → Bool → List (List ℕ) → List (List ℕ)
-values_of name alone [] = []
-values_of name alone (line ∷ lines) = cons_option (option_and_then (λ field. if field.is_spaced then None else
-    Some (value_of alone lines field.value)) (field_named name line)) (values_of name alone lines)
+abbrev pub values_of : Name → List (List ℕ) → List (List ℕ)
+values_of name [] = []
+values_of name (line ∷ lines) = cons_option (option_and_then (λ field. if field.is_spaced then None else
+    Some (whole_value lines field.value)) (field_named name line)) (values_of name lines)
 
--- the name of the first of the two fields in plain sight: at the start (`may`), or behind a byte other than a letter, a digit, `-`, `_`,
--- `[`
+-- the name of the first of the two fields in plain sight: at the start (`may`), or behind a byte other than `-`, `_` and `[`
 abbrev pub seen_from : Bool → List ℕ → Option Name
 seen_from may [] = None
-seen_from may (b ∷ bytes) = let hides = is_ascii_alphanumeric b || (b == 45 || (b == 95 || b == 91)) in
+seen_from may (b ∷ bytes) = let hides = b == 45 || (b == 95 || b == 91) in
     option_or (option_map (λ field. field.name) (if may then field_of (b ∷ bytes) else None)) (seen_from (not hides) bytes)
 
+-- the same of a line, from whose start a diff's `-` is left out
 abbrev pub seen : List ℕ → Option Name
-seen line = seen_from true line
+seen line = seen_from true (if slice_index line 0 == 45 then drop 1 line else line)
 
 -- the first line that has one of the two fields in plain sight: its number, counted from `number`, and the field's name
 abbrev pub first_seen : ℕ → List (List ℕ) → Option (ℕ × Name)
@@ -186,85 +196,65 @@ pub record Head : Type 0 where
   pub kind : Kind
   pub texts : List (List ℕ)
 
-abbrev pub title_of : Head → List ℕ
-title_of it = unwrap_or (slice_get it.texts 0) []
+abbrev pub title_of : List (List ℕ) → List ℕ
+title_of texts = unwrap_or (slice_get texts 0) []
 
--- whether a head has no start line
-abbrev pub is_alone : Kind → Bool
-is_alone Kind.Fields = true
-is_alone Kind.Request = false
-is_alone Kind.Interim = false
-is_alone Kind.Final = false
-
--- the lines of a head without a start line
-abbrev pub lines_under : Head → List (List ℕ)
-lines_under it = if is_alone it.kind then it.texts else drop 1 it.texts
+-- the head that has these lines: of fields alone if the first one isn't a start line, and none has a status line behind other text
+abbrev pub head_of : List (List ℕ) → Head
+head_of texts = record { kind = unwrap_or (option_or (kind_of (title_of texts)) (kind_within texts)) Kind.Fields; texts = texts }
 
 -- what a report is on: a head, or a line in no head with one of the two fields in plain sight
-pub data Item : Type 0 where
-  head : Head → Item
-  stray : List ℕ → Item
+pub data Finding : Type 0 where
+  head : Head → Finding
+  stray : List ℕ → Finding
 
--- whether a line ends the head with a mark: it has nothing after the mark, or it isn't indented as the head is
-abbrev pub is_end : List ℕ → List ℕ → Bool
-is_end mark line = unwrap_or (option_map (λ text. length text == 0) (text_with mark line)) (not (is_sign mark))
-
--- whether a line has nothing after its indentation but at most a sign
-abbrev pub is_blank : List ℕ → Bool
-is_blank line = let text = trim_start line in
-    length text == 0 || (begins_sign text && nat_lt (length text) 3)
+-- whether a line ends the head with a mark: it has nothing after the mark, or it isn't indented as the head is. Without a mark, whether it
+-- has nothing after its indentation but at most a sign.
+abbrev pub is_end : Option (List ℕ) → List ℕ → Bool
+is_end None line = let text = trim_start line in length text == 0 || (begins_sign text && nat_lt (length text) 3)
+is_end (Some mark) line = unwrap_or (option_map (λ text. length text == 0) (text_with mark line)) (not (is_sign mark))
 
 -- the mark of lines without a start line, if they have one of the two fields: the empty indentation, if that is enough, or that before the
 -- first of the fields
 unfoldable pub mark_of_fields : List (List ℕ) → Option (List ℕ)
 mark_of_fields lines = if list_any is_field lines then Some [] else slice_get (filter_map (mark_before is_field false) lines) 0
 
--- lines of an input: a head's first line and those up to its end, and its kind and mark, or others, without a mark
-pub record Part : Type 0 where
-  pub kind : Kind
-  pub mark : Option (List ℕ)
-  pub lines : List (List ℕ)
-
--- The next part of an input. A start line begins one that ends before a line that ends its head, or another start line. `alone` says that
--- no start line is before this part: then lines up to a blank line or a start line are one. `needs_sign` says that a start line with a sign
--- is.
-abbrev pub part_from : Bool → Bool → List ℕ → List (List ℕ) → Option (List ℕ) → Part
-part_from alone needs_sign line lines None =
-    let block = line ∷ before_first (λ it. is_blank it || is_some (mark_before is_start false it)) lines in
-    if alone && not (is_blank line) then record { kind = Kind.Fields; mark = mark_of_fields block; lines = block } else
-    record { kind = Kind.Fields; mark = None; lines = line ∷ [] }
-part_from alone needs_sign line lines (Some mark) = record {
-  kind = unwrap_or (option_and_then kind_of (text_with mark line)) Kind.Fields;
-  mark = Some mark;
-  lines = line ∷ before_first (λ it. is_end mark it || is_some (mark_before is_start (needs_sign || is_sign mark) it)) lines;
-}
+-- a line and those after it that are of its head, or of its block. `start` is the mark before a start line in it, if it has one, and
+-- `needs_sign` says that a later start line needs a sign.
+abbrev pub own_lines : Bool → Option (List ℕ) → List ℕ → List (List ℕ) → List (List ℕ)
+own_lines needs_sign start line lines = line ∷ (if is_none start && is_end None line then [] else
+    before_first (λ it. is_end start it || is_some (mark_before is_start needs_sign it)) lines)
 
 -- the lines without a mark that have one of the two fields in plain sight
-abbrev pub strays_of : Option (List ℕ) → List (List ℕ) → List Item
+abbrev pub strays_of : Option (List ℕ) → List (List ℕ) → List Finding
 strays_of mark lines = map (λ line. stray line)
     (filter (λ line. is_none (option_and_then (λ mark. text_with mark line) mark) && is_some (seen line)) lines)
 
--- the items of a part: its head, unless nothing ends it in an input that is cut off, and its strays
-abbrev pub items_of : Bool → Kind → Option (List ℕ) → List (List ℕ) → List Item
-items_of is_open kind None lines = strays_of None lines
-items_of is_open kind (Some mark) lines =
-    if is_open then [] else head (record { kind = kind; texts = filter_map (text_with mark) lines }) ∷ strays_of (Some mark) lines
+-- the findings of a head or a block with a mark: the head, unless nothing ends it in an input that is cut off, and its strays
+abbrev pub findings_of : Bool → Option (List ℕ) → List (List ℕ) → List Finding
+findings_of is_open None lines = strays_of None lines
+findings_of is_open (Some mark) lines =
+    if is_open then [] else head (head_of (filter_map (text_with mark) lines)) ∷ strays_of (Some mark) lines
 
--- the items of the lines after the first `passed`
-abbrev pub items_after : Bool → ℕ → Bool → Bool → List (List ℕ) → List Item
-items_after cut passed alone needs_sign [] = []
-items_after cut passed alone needs_sign (line ∷ lines) =
-    if not (passed == 0) then items_after cut (passed - 1) alone needs_sign lines else
+-- whether a start line needs a sign after one with a mark
+abbrev pub needs_sign_after : Bool → Option (List ℕ) → Bool
+needs_sign_after needs_sign start = needs_sign || unwrap_or (option_map is_sign start) false
+
+-- The findings of the lines after the first `passed`. `alone` says that no start line is before them: then blocks of fields are heads.
+abbrev pub findings_after : Bool → ℕ → Bool → Bool → List (List ℕ) → List Finding
+findings_after cut passed alone needs_sign [] = []
+findings_after cut passed alone needs_sign (line ∷ lines) =
+    if not (passed == 0) then findings_after cut (passed - 1) alone needs_sign lines else
     let start = mark_before is_start needs_sign line in
-    let part = part_from alone needs_sign line lines start in
-    items_of (cut && length part.lines == length (line ∷ lines)) part.kind part.mark part.lines
-    ++ items_after cut (length part.lines - 1) (alone && is_none start)
-    (needs_sign || unwrap_or (option_map is_sign start) false) lines
+    let later = needs_sign_after needs_sign start in
+    let own = own_lines later start line lines in
+    findings_of (cut && length own == length (line ∷ lines)) (option_or start (if alone then mark_of_fields own else None)) own
+    ++ findings_after cut (length own - 1) (alone && is_none start) later lines
 
-abbrev pub items_in : Bool → List (List ℕ) → List Item
-items_in cut lines = items_after cut 0 true false lines
+abbrev pub findings_in : Bool → List (List ℕ) → List Finding
+findings_in cut lines = findings_after cut 0 true false lines
 
-abbrev pub heads_of : List Item → List Head
+abbrev pub heads_of : List Finding → List Head
 heads_of [] = []
-heads_of (head it ∷ items) = it ∷ heads_of items
-heads_of (stray line ∷ items) = heads_of items
+heads_of (head it ∷ findings) = it ∷ heads_of findings
+heads_of (stray line ∷ findings) = heads_of findings

@@ -2,7 +2,7 @@
 use Rattle.std.specs.Prelude.{ℕ, Bool, List, Option, Vec, option_map, map, vec_items}
 use Rattle.std.specs.{Borrow.Bor, Global.Global}
 use Rattle.mime.specs.{Values.MediaType, declared.value.Mime.Mime}
-use Rattle.mime_headers.specs.{Head.Field, Head.Head, Head.Item, Head.Part, Head.head, Head.stray, Report.State}
+use Rattle.mime_headers.specs.{Head.Field, Head.Finding, Head.Head, Head.head, Head.stray, Report.Progress}
 use Rattle.mime_headers.specs.declared as declared
 
 -- the lines that a vector borrows
@@ -21,18 +21,15 @@ field_now it = record { name = it.name; value = it.value.now; is_spaced = it.is_
 abbrev pub head_now : declared.head.Head.Head → Head
 head_now it = record { kind = it.kind; texts = lines_now it.texts }
 
-abbrev pub item_now : declared.head.Item.Item → Item
-item_now (declared.head.Item.Item.Head it) = head (head_now it)
-item_now (declared.head.Item.Item.Stray line) = stray line.now
+abbrev pub finding_now : declared.head.Finding.Finding → Finding
+finding_now (declared.head.Finding.Finding.Head it) = head (head_now it)
+finding_now (declared.head.Finding.Finding.Stray line) = stray line.now
 
-abbrev pub items_now : Vec declared.head.Item.Item Global → List Item
-items_now items = map item_now (vec_items items)
-
-abbrev pub part_now : declared.head.Part.Part → Part
-part_now it = record { kind = it.kind; mark = option_map (λ mark. mark.now) it.mark; lines = map (λ line. line.now) it.lines.now }
+abbrev pub findings_now : Vec declared.head.Finding.Finding Global → List Finding
+findings_now findings = map finding_now (vec_items findings)
 
 -- what a report knows
-abbrev pub state_now : declared.report.Report.Report → State
+abbrev pub state_now : declared.report.Report.Report → Progress
 state_now it = record {
   text = vec_items it.text;
   are_good = it.are_good;

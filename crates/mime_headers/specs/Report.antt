@@ -16,22 +16,22 @@ use Rattle.mime_http.specs.{Ranking.is_qvalue, Ranking.IsRanking, Unescaped.unes
 use Rattle.mime_http.specs.declared.ranking.RankedOffer.{RankedOffer}
 use Rattle.mime_http.specs.{declared.value.FieldError.FieldError, declared.value.FieldError.TheVariants.NoMemory}
 use Rattle.mime_io.specs.{Lines.row, Stops.limit}
-use Rattle.mime_headers.specs.Head.{Field, Head, Item, head, stray, bare_lines, field_of, heads_of, is_alone, items_in, lines_under}
-use Rattle.mime_headers.specs.Head.{other_words, seen, title_of, values_of, without_escapes, word}
+use Rattle.mime_headers.specs.Head.{Field, Finding, Head, field_of, findings_in, head, heads_of}
+use Rattle.mime_headers.specs.Head.{other_words, plain_lines, seen, stray, title_of, values_of, without_escapes, word}
 use Rattle.mime_headers.specs.Shown.{without_controls}
 use Rattle.mime_headers.specs.declared.report.Verdict.{Verdict}
 use Rattle.mime_headers.specs.declared.start.Kind.{Kind}
 use Rattle.mime_headers.specs.declared.field.Name.TheVariants.{ContentType, Accept}
 
 -- A value of a field is read as this media type, which is printed for the value, or is rejected with this error, which isn't `NoMemory`.
-abbrev pub IsRead : List ℕ → Result MediaType FieldError → Type 0
-IsRead value (Ok media) = FieldReads value media
-IsRead value (Err error) = (error ≢ NoMemory) × HttpExplains value error
+abbrev pub HasReading : List ℕ → Result MediaType FieldError → Type 0
+HasReading value (Ok media) = FieldReads value media
+HasReading value (Err error) = (error ≢ NoMemory) × HttpExplains value error
 
--- What is known after some items: the report, whether all is good so far (each `Content-Type` is accepted, and each weight in an exchange
--- is above 0), the last choice, if a request has an `Accept`, and how many requests wait for a response. If one alone waits, its ranges and
--- its media type. A choice is `true` if an offer is acceptable or there are no offers.
-pub record State : Type 0 where
+-- What is known after some findings: the report, whether all is good so far (each `Content-Type` is accepted, and each weight in an
+-- exchange is above 0), the last choice, if a request has an `Accept`, and how many requests wait for a response. If one alone waits, its
+-- ranges and its media type. A choice is `true` if an offer is acceptable or there are no offers.
+pub record Progress : Type 0 where
   pub text : List ℕ
   pub are_good : Bool
   pub choice : Option Bool
@@ -73,8 +73,8 @@ media_rows media boundary = codes "Content-Type " ++ (media.kept ++ (codes "\nes
     media.pairs ++ row_if (codes "boundary ") boundary))))))
 
 -- a media type has this boundary, or none
-abbrev pub HasBoundary : MediaType → Option (List ℕ) → Type 0
-HasBoundary media boundary = MatchOption boundary ((bytes : List ℕ) → ¬ (IsBoundaryOf media bytes)) (IsBoundaryOf media)
+abbrev pub BoundaryIs : MediaType → Option (List ℕ) → Type 0
+BoundaryIs media boundary = MatchOption boundary ((bytes : List ℕ) → ¬ (IsBoundaryOf media bytes)) (IsBoundaryOf media)
 
 -- ---- Accept
 
@@ -83,12 +83,13 @@ abbrev pub weight_text : ℕ → List ℕ
 weight_text weight = take 1 (four_digits weight) ++ (46 ∷ drop 1 (four_digits weight))
 
 -- whether RFC 9110, 12.4.2, allows the `q` of a range that is read of an entry: it is a qvalue, without quotes, or there is none
-unfoldable pub is_plain : List ℕ → MediaType → Bool
-is_plain entry range = unwrap_or (option_map is_qvalue (first_value (codes "q") range.pairs)) true && not (is_quoted false false entry)
+unfoldable pub has_plain_weight : List ℕ → MediaType → Bool
+has_plain_weight entry range =
+    unwrap_or (option_map is_qvalue (first_value (codes "q") range.pairs)) true && not (is_quoted false false entry)
 
 -- the row of a range that is read of an entry, with a remark if its `q` isn't allowed
 abbrev pub range_row : List ℕ → MediaType → List ℕ
-range_row entry range = codes "Accept " ++ (weight_text (weight_of range) ++ (codes " " ++ (range.kept ++ (if is_plain entry range
+range_row entry range = codes "Accept " ++ (weight_text (weight_of range) ++ (codes " " ++ (range.kept ++ (if has_plain_weight entry range
     then codes "\n" else codes " (q isn't a weight in HTTP, counted as " ++ (weight_text (weight_of range) ++ codes ")\n")))))
 
 -- a report and its ranges after an entry: an entry that is a range adds its row and itself, and a rejected entry adds its fault's rows
@@ -99,7 +100,7 @@ with_entry (text, ranges) entry (Err error) = (text ++ fault_rows (codes "bad Ac
 -- An empty entry changes nothing. Any other entry is read and added.
 abbrev pub AddsEntry : List ℕ × List MediaType → List ℕ → List ℕ × List MediaType → Type 0
 AddsEntry old entry new = (length entry ≡ 0 → new ≡ old)
-    × (0 < length entry → (reading : Result MediaType FieldError) × IsRead entry reading × (new ≡ with_entry old entry reading))
+    × (0 < length entry → (reading : Result MediaType FieldError) × HasReading entry reading × (new ≡ with_entry old entry reading))
 
 -- Lines add their entries in order: the texts between commas outside strings, each without the white space around it.
 abbrev pub AddsLines : List (List ℕ) → List ℕ × List MediaType → List ℕ × List MediaType → Type 0
@@ -171,13 +172,14 @@ remark_of line (Some field) = row_when field.is_spaced (codes "white space befor
 
 -- the row of a head's title, if there are several heads, and those of its lines
 abbrev pub title_rows : Bool → Head → List ℕ
-title_rows many it = row_when many (codes "head ") (title_of it) ++ flat_map (λ line. remark_of line (field_of line)) it.texts
+title_rows many it = row_when many (codes "head ") (title_of it.texts) ++ flat_map (λ line. remark_of line (field_of line)) it.texts
 
 -- A value of `Content-Type` is read without the white space around it (RFC 9110, 5.5). What is read adds its rows to a report, and is the
 -- last media type. Whether all values so far are accepted becomes `false` if this value is rejected.
 abbrev pub AddsType : List ℕ × Bool × Option MediaType → List ℕ → List ℕ × Bool × Option MediaType → Type 0
-AddsType (text, are_good, last) value new = (reading : Result MediaType FieldError) × IsRead (trimmed value) reading × MatchResult reading
-    (λ media. (boundary : Option (List ℕ)) × HasBoundary media boundary × (new ≡ (text ++ media_rows media boundary, are_good, Some media)))
+AddsType (text, are_good, last) value new =
+    (reading : Result MediaType FieldError) × HasReading (trimmed value) reading × MatchResult reading
+    (λ media. (boundary : Option (List ℕ)) × BoundaryIs media boundary × (new ≡ (text ++ media_rows media boundary, are_good, Some media)))
     (λ error. new ≡ (text ++ fault_rows (codes "bad Content-Type ") (trimmed value) error, false, last))
 
 -- whether a `Content-Type` is expected: of a final response, unless it has no content by its status (RFC 9110, 15.3.5 and 15.4.5)
@@ -193,15 +195,15 @@ count_row is_expected (value ∷ other ∷ values) = row (codes "several Content
 
 -- A head adds its title, its values of `Content-Type`, `count_row`, and the weight of the only media type of a final response by the
 -- request that it answers. `only` is that media type, of any head.
-abbrev pub AddsTypes : Bool → State → Head → Option MediaType → State → Type 0
+abbrev pub AddsTypes : Bool → Progress → Head → Option MediaType → Progress → Type 0
 AddsTypes many old it only new =
-    let types = values_of ContentType (is_alone it.kind) (lines_under it) in
+    let types = values_of ContentType it.texts in
     (typed : List ℕ × Bool × Option MediaType) × (answer : List ℕ × Bool)
     × FoldsTo AddsType (old.text ++ title_rows many it, old.are_good, None) types typed
     × (only ≡ (if length types == 1 then typed.2 else None))
     × IsWeighed (codes "answer ") (if is_final it.kind then old.asked else None) only answer
     × (new ≡ record old {
-      text = typed.0 ++ (count_row (expects_type it.kind (title_of it)) types ++ answer.0);
+      text = typed.0 ++ (count_row (expects_type it.kind (title_of it.texts)) types ++ answer.0);
       are_good = typed.1 && answer.1;
     })
 
@@ -215,7 +217,7 @@ AddsAccept lines old new = (length lines ≡ 0 → new ≡ (old, None)) × (0 < 
     × AddsLines lines (old, []) read × (new ≡ (read.0 ++ empty_row old read.0, Some read.1)))
 
 -- The offers are weighed by ranges, and one is chosen. Without ranges, nothing is added.
-abbrev pub AddsChoice : List MediaType → Option (List MediaType) → State → State → Type 0
+abbrev pub AddsChoice : List MediaType → Option (List MediaType) → Progress → Progress → Type 0
 AddsChoice offers ranges old new = MatchOption ranges (new ≡ old) (λ ranges. (ranking : List RankedOffer)
     × IsRanking ranges offers ranking × (new ≡ record old {
       text = old.text ++ (offer_rows (codes "offer ") ranges offers ranking ++ (best_row offers ranking).0);
@@ -223,15 +225,15 @@ AddsChoice offers ranges old new = MatchOption ranges (new ≡ old) (λ ranges. 
     }))
 
 -- A request, or a head without a start line, chooses an offer, and waits. If another request waits, no response is known to answer it.
-abbrev pub AddsRequest : List MediaType → Option (List MediaType) → Option MediaType → State → State → Type 0
-AddsRequest offers ranges only old new = (chosen : State) × AddsChoice offers ranges old chosen × (new ≡ record chosen {
+abbrev pub AddsRequest : List MediaType → Option (List MediaType) → Option MediaType → Progress → Progress → Type 0
+AddsRequest offers ranges only old new = (chosen : Progress) × AddsChoice offers ranges old chosen × (new ≡ record chosen {
   waiting = chosen.waiting + 1;
   asked = if chosen.waiting == 0 then ranges else None;
   sent = if chosen.waiting == 0 then only else None;
 })
 
 -- A final response weighs the media type of the request that it answers (RFC 9110, 12.5.1 and 15.5.16), and ends its wait.
-abbrev pub AddsResponse : Option (List MediaType) → State → State → Type 0
+abbrev pub AddsResponse : Option (List MediaType) → Progress → Progress → Type 0
 AddsResponse ranges old new = (weighed : List ℕ × Bool) × IsWeighed (codes "request ") ranges old.sent weighed × (new ≡ record old {
   text = old.text ++ weighed.0;
   are_good = old.are_good && weighed.1;
@@ -240,44 +242,44 @@ AddsResponse ranges old new = (weighed : List ℕ × Bool) × IsWeighed (codes "
   sent = None;
 })
 
-abbrev pub AddsWeights : Kind → List MediaType → Option (List MediaType) → Option MediaType → State → State → Type 0
+abbrev pub AddsWeights : Kind → List MediaType → Option (List MediaType) → Option MediaType → Progress → Progress → Type 0
 AddsWeights Kind.Fields offers ranges only old new = AddsRequest offers ranges only old new
 AddsWeights Kind.Request offers ranges only old new = AddsRequest offers ranges only old new
 AddsWeights Kind.Interim offers ranges only old new = new ≡ old
 AddsWeights Kind.Final offers ranges only old new = AddsResponse ranges old new
 
 -- A head adds, in order: its title, its `Content-Type`, its `Accept`, and the weights by this.
-abbrev pub AddsHead : List MediaType → Bool → State → Head → State → Type 0
-AddsHead offers many old it new = (typed : State) × (only : Option MediaType) × (read : List ℕ × Option (List MediaType))
-    × AddsTypes many old it only typed × AddsAccept (values_of Accept (is_alone it.kind) (lines_under it)) typed.text read
+abbrev pub AddsHead : List MediaType → Bool → Progress → Head → Progress → Type 0
+AddsHead offers many old it new = (typed : Progress) × (only : Option MediaType) × (read : List ℕ × Option (List MediaType))
+    × AddsTypes many old it only typed × AddsAccept (values_of Accept it.texts) typed.text read
     × AddsWeights it.kind offers read.1 only (record typed { text = read.0 }) new
 
--- An item is a head, or has a row.
-abbrev pub AddsItem : List MediaType → Bool → State → Item → State → Type 0
-AddsItem offers many old (head it) new = AddsHead offers many old it new
-AddsItem offers many old (stray line) new = new ≡ record old { text = old.text ++ row (codes "not in a head: ") (shown line) }
+-- A finding is a head, or has a row.
+abbrev pub AddsFinding : List MediaType → Bool → Progress → Finding → Progress → Type 0
+AddsFinding offers many old (head it) new = AddsHead offers many old it new
+AddsFinding offers many old (stray line) new = new ≡ record old { text = old.text ++ row (codes "not in a head: ") (shown line) }
 
 -- If there are offers and no request has an `Accept`, a row says so, and the offers are weighed by `*/*`.
-abbrev pub AddsMissing : List MediaType → State → State → Type 0
+abbrev pub AddsMissing : List MediaType → Progress → Progress → Type 0
 AddsMissing offers old new = let is_known = length offers == 0 || is_some old.choice in
     (is_known ≡ true → new ≡ old) × (is_known ≡ false → (read : List ℕ × List MediaType)
     × AddsEntry (old.text ++ codes "no Accept\n", []) (codes "*/*") read
     × AddsChoice offers (Some read.1) (record old { text = read.0 }) new)
 
 -- the verdict: acceptable if all is good, and the last choice, if there is one, is `true`
-abbrev pub verdict_of : State → Verdict
+abbrev pub verdict_of : Progress → Verdict
 verdict_of end = if end.are_good && unwrap_or end.choice true then Verdict.Acceptable else Verdict.NotAcceptable
 
--- what is known before the first item
-abbrev pub start : State
+-- what is known before the first finding
+abbrev pub start : Progress
 start = record { text = []; are_good = true; choice = None; waiting = 0; asked = None; sent = None }
 
--- There are heads. The text is the report on items and on offers, without controls, and says if they are cut off. The verdict is the
+-- There are heads. The text is the report on findings and on offers, without controls, and says if they are cut off. The verdict is the
 -- report's.
-pub record IsReport (offers : List MediaType) (cut : Bool) (items : List Item) (text : List ℕ) (verdict : Verdict) : Type 0 where
-  pub some : 0 < length (heads_of items)
-  pub last : State
-  pub adds : (state : State) × FoldsTo (AddsItem offers (nat_lt 1 (length (heads_of items)))) start items state
+pub record IsReport (offers : List MediaType) (cut : Bool) (findings : List Finding) (text : List ℕ) (verdict : Verdict) : Type 0 where
+  pub some : 0 < length (heads_of findings)
+  pub last : Progress
+  pub adds : (state : Progress) × FoldsTo (AddsFinding offers (nat_lt 1 (length (heads_of findings)))) start findings state
       × AddsMissing offers state last
   pub is_text : text ≡ without_controls (last.text ++ row_when cut (codes "not read after ") (codes "1048576 bytes"))
   pub is_verdict : verdict ≡ verdict_of last
@@ -286,13 +288,13 @@ pub record IsReport (offers : List MediaType) (cut : Bool) (items : List Item) (
 abbrev pub is_cut : List ℕ → Bool
 is_cut bytes = nat_lt limit (length bytes)
 
--- the lines and the items of the bytes that were read
+-- the lines and the findings of the bytes that were read
 abbrev pub lines_read : List ℕ → List (List ℕ)
-lines_read bytes = bare_lines (is_cut bytes) (without_escapes bytes)
+lines_read bytes = plain_lines (is_cut bytes) (without_escapes bytes)
 
-abbrev pub items_read : List ℕ → List Item
-items_read bytes = items_in (is_cut bytes) (lines_read bytes)
+abbrev pub findings_read : List ℕ → List Finding
+findings_read bytes = findings_in (is_cut bytes) (lines_read bytes)
 
 -- The text and the verdict are those of the report on the bytes that were read, and on offers.
 abbrev pub IsReportOf : List MediaType → List ℕ → List ℕ → Verdict → Type 0
-IsReportOf offers bytes text verdict = IsReport offers (is_cut bytes) (items_read bytes) text verdict
+IsReportOf offers bytes text verdict = IsReport offers (is_cut bytes) (findings_read bytes) text verdict

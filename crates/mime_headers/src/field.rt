@@ -3,12 +3,11 @@
 ghost use Rattle.std.specs.Prelude.{◌≡◌, ◌++◌, ◌==◌, ◌&&◌, false, map, nat_lt, option_map, length, IfOk, Some, vec_items};
 ghost use Rattle.std.specs.List.{before_first, list_all};
 ghost use Rattle.mime.specs.Bytes.{is_token_byte};
-ghost use Rattle.mime_headers.specs.Head.{continued, field_named, field_of, first_seen, is_field, label_of, mark_before, name_text};
-ghost use Rattle.mime_headers.specs.Head.{next_value, seen, value_of};
-ghost use Rattle.mime_headers.specs.Head.{values_of};
+ghost use Rattle.mime_headers.specs.Head.{continued, field_named, field_of, first_seen, is_field, label_of, mark_before};
+ghost use Rattle.mime_headers.specs.Head.{next_value, printed_name, seen, values_of, whole_value};
 ghost use Rattle.mime_headers.specs.Inner.{field_now};
 
-use crate::line::{Made, begins, goes_on, signed, trim_start};
+use crate::line::{Made, begins, is_folded, signed, trim_start};
 use crate::start::are_token_bytes;
 use mime_http::trimmed;
 use mime_search::{Class, first_stop};
@@ -38,9 +37,9 @@ impl Name {
 
 /// Prints the name as it is mostly written, such as `Content-Type`. A width and a precision are ignored.
 impl fmt::Display for Name {
-    ghost output = { λ name. Some (name_text name) };
+    ghost output = { λ name. Some (printed_name name) };
 
-    ghost styled_output = { λ name spec. Some (name_text name) };
+    ghost styled_output = { λ name spec. Some (printed_name name) };
 
     fn fmt<W: fmt::Write>(&self, f: &mut fmt::Formatter<W>) -> fmt::Result {
         f.write_str(match self {
@@ -76,7 +75,7 @@ fn field_named(name: Name, line: &[u8]) -> Option<Field<'_>>
     Some(Field {
         name,
         value: trimmed(&colon[1..]),
-        is_spaced: goes_on(rest),
+        is_spaced: is_folded(rest),
     })
 }
 
@@ -115,7 +114,7 @@ fn joined(alloc: Global, start: &[u8], lines: &[&[u8]]) -> Made<Vec<u8>>
 {
     let mut value = start.to_vec(alloc)?;
     for line in lines {
-        if !goes_on(line) {
+        if !is_folded(line) {
             break;
         }
         value.push(b' ')?;
@@ -143,50 +142,45 @@ fn next_value(alloc: Global, lines: &[&[u8]]) -> Made<Vec<u8>>
     }
 }
 
-/// Returns the value of a field and of the lines after it. `alone` says that the lines have no start line.
-fn value_of(alloc: Global, alone: bool, lines: &[&[u8]], start: &[u8]) -> Made<Vec<u8>>
-    ensures { IfOk result (λ value. vec_items value ≡ value_of alone (map (λ line. line.now) lines.now) start.now) }
+/// Returns the value that begins so, with the lines after it.
+fn whole_value(alloc: Global, start: &[u8], lines: &[&[u8]]) -> Made<Vec<u8>>
+    ensures { IfOk result (λ value. vec_items value ≡ whole_value (map (λ line. line.now) lines.now) start.now) }
 {
     let value = joined(alloc, start, lines)?;
-    if alone && value.is_empty() {
+    if value.is_empty() {
         return next_value(alloc, lines);
     }
     Ok(value)
 }
 
 /// Returns the values of a field in lines, in order. A value has the rest of a line, and the next lines that continue it. All are trimmed,
-/// and joined by single spaces. `alone` says that the lines have no start line.
-pub(crate) fn values_of(
-    alloc: Global,
-    name: Name,
-    alone: bool,
-    lines: &[&[u8]],
-) -> Made<Vec<Vec<u8>>>
-    ensures { IfOk result (λ values. map vec_items (vec_items values) ≡ values_of name alone (map (λ line. line.now) lines.now)) }
+/// and joined by single spaces. An empty value is in the next line, if no token and colon begin that.
+pub(crate) fn values_of(alloc: Global, name: Name, lines: &[&[u8]]) -> Made<Vec<Vec<u8>>>
+    ensures { IfOk result (λ values. map vec_items (vec_items values) ≡ values_of name (map (λ line. line.now) lines.now)) }
 {
     let mut values = Vec::new(alloc);
     for (at, line) in lines.iter().enumerate() {
         if let Some(field) = field_named(name, line).filter(|field| !field.is_spaced) {
-            values.push(value_of(alloc, alone, &lines[at + 1..], field.value)?)?;
+            values.push(whole_value(alloc, field.value, &lines[at + 1..])?)?;
         }
     }
     Ok(values)
 }
 
-/// Returns the name of the first of the two fields in plain sight in a line: at its start, or behind a byte other than a letter, a digit,
-/// `-`,
-/// `_` and `[`.
+/// Returns the name of the first of the two fields in plain sight in a line: at its start, which may be behind a diff's `-`, or behind a
+/// byte other than `-`, `_` and `[`.
 pub(crate) fn seen(line: &[u8]) -> Option<Name>
     ensures { result ≡ seen line.now }
 {
+    let shown = line.strip_prefix(b"-").unwrap_or(line);
     let mut may = true;
-    for (at, byte) in line.iter().enumerate() {
+    for (at, byte) in shown.iter().enumerate() {
         if may {
-            if let Some(field) = field_of(&line[at..]) {
+            if let Some(field) = field_of(&shown[at..]) {
                 return Some(field.name);
             }
         }
-        may = !(byte.is_ascii_alphanumeric() || matches!(*byte, b'-' | b'_' | b'['));
+        may = !matches!(*byte, b'-' | b'_' | b'[');
     }
     None
 }

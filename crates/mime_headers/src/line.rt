@@ -3,8 +3,8 @@
 ghost use Rattle.std.specs.Prelude.{◌≡◌, ◌≤◌, ◌==◌, ◌||◌, length, option_map, IfOk};
 ghost use Rattle.std.specs.{Char.is_ascii_digit, List.prefix_len, Vec.vec_items};
 ghost use Rattle.mime_http.specs.{HttpList.trim_start, Lacks.begins};
-ghost use Rattle.mime_headers.specs.Head.{bare, bare_lines, begins_sign, escape_len, goes_on, is_blank, is_sign, signed, text_with};
-ghost use Rattle.mime_headers.specs.Head.{without_escapes};
+ghost use Rattle.mime_headers.specs.Head.{begins_sign, escape_len, is_folded, is_sign, plain_lines, signed, text_with};
+ghost use Rattle.mime_headers.specs.Head.{without_escapes, without_returns};
 ghost use Rattle.mime_headers.specs.Inner.{lines_now};
 
 use mime_io::first_line;
@@ -21,8 +21,8 @@ pub(crate) fn begins(label: &[u8], bytes: &[u8]) -> bool
 }
 
 /// Returns `true` if a line begins with white space, and so continues a field.
-pub(crate) fn goes_on(line: &[u8]) -> bool
-    ensures { result ≡ goes_on line.now }
+pub(crate) fn is_folded(line: &[u8]) -> bool
+    ensures { result ≡ is_folded line.now }
 {
     matches!(line, [b' ' | b'\t', ..])
 }
@@ -33,7 +33,7 @@ pub(crate) fn trim_start(line: &[u8]) -> &[u8]
     ensures within { length result.now ≤ length line.now }
 {
     let mut rest = line;
-    while goes_on(rest) {
+    while is_folded(rest) {
         rest = &rest[1..];
     }
     rest
@@ -94,8 +94,8 @@ pub(crate) fn without_escapes(alloc: Global, bytes: Vec<u8>) -> Made<Vec<u8>>
 }
 
 /// Returns a line without the carriage returns at its end.
-fn bare(line: &[u8]) -> &[u8]
-    ensures { result.now ≡ bare line.now }
+fn without_returns(line: &[u8]) -> &[u8]
+    ensures { result.now ≡ without_returns line.now }
 {
     let mut end = line.len();
     while end > 0 {
@@ -108,13 +108,13 @@ fn bare(line: &[u8]) -> &[u8]
 }
 
 /// Returns the lines of an input without line endings and a byte order mark, and without the last line if the input is cut off.
-pub(crate) fn bare_lines(alloc: Global, input: &[u8], is_cut: bool) -> Made<Vec<&[u8]>>
-    ensures { IfOk result (λ lines. lines_now lines ≡ bare_lines is_cut input.now) }
+pub(crate) fn plain_lines(alloc: Global, input: &[u8], is_cut: bool) -> Made<Vec<&[u8]>>
+    ensures { IfOk result (λ lines. lines_now lines ≡ plain_lines is_cut input.now) }
 {
     let mut rest = input.strip_prefix(b"\xEF\xBB\xBF").unwrap_or(input);
     let mut lines = Vec::new(alloc);
     while let Some((line, more)) = first_line(rest) {
-        lines.push(bare(line))?;
+        lines.push(without_returns(line))?;
         rest = more;
     }
     if is_cut {
@@ -165,12 +165,4 @@ pub(crate) fn text_with<'a>(mark: &[u8], line: &'a [u8]) -> Option<&'a [u8]>
     } else {
         None
     }
-}
-
-/// Returns `true` if a line has nothing after its indentation but at most a sign.
-#[tactic(auto, unfolding(crate::specs::Head::begins_sign))]
-pub(crate) fn is_blank(line: &[u8]) -> bool
-    ensures { result ≡ is_blank line.now }
-{
-    matches!(trim_start(line), [] | [b'<' | b'>'] | [b'<' | b'>', b' '])
 }

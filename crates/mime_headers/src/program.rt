@@ -3,7 +3,7 @@
 ghost use Rattle.std.specs.Prelude.{◌≡◌, ◌≢◌, ℕ, List, ◌≤◌, ◌+◌, [], length, map, true, Option, OnOk, IfOk, IfErr};
 ghost use Rattle.std.specs.Io.KnownBytes.{Consumes, Appends, IsAtEnd};
 ghost use Rattle.mime_io.specs.Stops.{limit};
-ghost use Rattle.mime_headers.specs.{Head.first_seen, Head.heads_of, Report.IsReportOf, Report.items_read, Report.lines_read};
+ghost use Rattle.mime_headers.specs.{Head.first_seen, Head.heads_of, Report.IsReportOf, Report.findings_read, Report.lines_read};
 ghost use Rattle.mime_headers.specs.declared.field.Name.{Name};
 
 use crate::error::HeadError;
@@ -42,11 +42,11 @@ pub fn run<S: Source, T: Sink>(
     // sight.
     ensures no_head { (line : Option (ℕ × Name)) → result ≡ Err (HeadError.NoHead line)
         → (bytes : List ℕ) × Consumes (S.left source.old) (S.left source.new) bytes × (length bytes ≤ limit) × IsAtEnd (S.left source.new)
-        × (heads_of (items_read bytes) ≡ []) × (line ≡ first_seen 1 (lines_read bytes)) }
+        × (heads_of (findings_read bytes) ≡ []) × (line ≡ first_seen 1 (lines_read bytes)) }
     // If the result is `TooLong`, the run has read one byte more than the limit, and no head ends within the limit.
     ensures too_long { result ≡ Err (HeadError.Run RunError.TooLong) → (bytes : List ℕ)
         × Consumes (S.left source.old) (S.left source.new) bytes
-        × (length bytes ≡ limit + 1) × (heads_of (items_read bytes) ≡ []) }
+        × (length bytes ≡ limit + 1) × (heads_of (findings_read bytes) ≡ []) }
     // An error other than `Write` leaves the sink unchanged.
     ensures untouched { IfErr result (λ error. error ≢ HeadError.Run RunError.Write → sink.new ≡ sink.old) }
 {

@@ -7,13 +7,13 @@ ghost use Rattle.std.specs.{List.FoldsTo, List.enumerate_from};
 ghost use Rattle.mime.specs.Values.{MediaType};
 ghost use Rattle.mime_http.specs.Ranking.{IsRanking};
 ghost use Rattle.mime_headers.specs.Head.{first_seen, heads_of};
-ghost use Rattle.mime_headers.specs.Inner.{head_now, item_now, medias, ranges_now, state_now};
-ghost use Rattle.mime_headers.specs.{Head.field_of, Head.is_alone, Inner.field_now};
+ghost use Rattle.mime_headers.specs.Inner.{finding_now, head_now, medias, ranges_now, state_now};
+ghost use Rattle.mime_headers.specs.{Head.field_of, Inner.field_now};
 ghost use Rattle.mime_headers.specs.Report as Spec;
 
 use crate::field::{Field, Name, field_of, first_seen, seen, values_of};
-use crate::head::{Head, Item, items_in};
-use crate::line::{Made, bare_lines, begins, without_escapes};
+use crate::head::{Finding, Head, findings_in};
+use crate::line::{Made, begins, plain_lines, without_escapes};
 use crate::shown::without_controls;
 use crate::start::{Kind, split_word};
 use mime::Mime;
@@ -41,7 +41,7 @@ type Ranking = Vec<RankedOffer>;
 /// The report and the verdict, or the first line with a field in plain sight if there is no head.
 type Answer = Result<(Vec<u8>, Verdict), Option<(usize, Name)>>;
 
-/// What is known after some items.
+/// What is known after some findings.
 #[derive(Drop)]
 struct Report {
     text: Vec<u8>,
@@ -62,13 +62,13 @@ struct Report {
 pub(crate) fn report_of(alloc: Global, input: Vec<u8>, offers: &[Mime]) -> Made<Answer>
     ensures { IfOk result (λ answer. MatchResult answer
         (λ found. Spec.IsReportOf (map (λ offer. offer.media) offers.now) (vec_items input) (vec_items found.0) found.1)
-        (λ line. (heads_of (Spec.items_read (vec_items input)) ≡ []) × (line ≡ first_seen 1 (Spec.lines_read (vec_items input))))) }
+        (λ line. (heads_of (Spec.findings_read (vec_items input)) ≡ []) × (line ≡ first_seen 1 (Spec.lines_read (vec_items input))))) }
 {
     let is_cut = input.len() > LIMIT;
     let plain = without_escapes(alloc, input)?;
-    let lines = bare_lines(alloc, &plain, is_cut)?;
-    let items = items_in(alloc, &lines, is_cut)?;
-    let count = head_count(&items);
+    let lines = plain_lines(alloc, &plain, is_cut)?;
+    let findings = findings_in(alloc, &lines, is_cut)?;
+    let count = head_count(&findings);
     if count == 0 {
         return Ok(Err(first_seen(&lines)));
     }
@@ -80,8 +80,8 @@ pub(crate) fn report_of(alloc: Global, input: Vec<u8>, offers: &[Mime]) -> Made<
         asked: None,
         sent: None,
     };
-    for item in &items {
-        push_item(&mut report, offers, count > 1, item)?;
+    for finding in &findings {
+        push_finding(&mut report, offers, count > 1, finding)?;
     }
     push_missing(&mut report, offers)?;
     push_shown(
@@ -95,12 +95,12 @@ pub(crate) fn report_of(alloc: Global, input: Vec<u8>, offers: &[Mime]) -> Made<
 }
 
 /// Returns the number of heads.
-fn head_count(items: &[Item]) -> usize
-    ensures { result ≡ length (heads_of (map item_now items.now)) }
+fn head_count(findings: &[Finding]) -> usize
+    ensures { result ≡ length (heads_of (map finding_now findings.now)) }
 {
     let mut count = 0;
-    for item in items {
-        if let Item::Head(_) = item {
+    for finding in findings {
+        if let Finding::Head(_) = finding {
             count += 1;
         }
     }
@@ -117,13 +117,14 @@ fn verdict_of(report: &Report) -> Verdict
     Verdict::NotAcceptable
 }
 
-/// Adds the rows of an item. `many` says whether there are several heads.
-fn push_item(report: &mut Report, offers: &[Mime], many: bool, item: &Item) -> Made<()>
-    ensures { OnOk result (Spec.AddsItem (medias offers.now) many (state_now report.old) (item_now item.now) (state_now report.new)) }
+/// Adds the rows of a finding. `many` says whether there are several heads.
+fn push_finding(report: &mut Report, offers: &[Mime], many: bool, finding: &Finding) -> Made<()>
+    ensures { OnOk result
+        (Spec.AddsFinding (medias offers.now) many (state_now report.old) (finding_now finding.now) (state_now report.new)) }
 {
-    match item {
-        Item::Head(head) => push_head(report, offers, many, head),
-        Item::Stray(line) => push_shown(&mut report.text, true, b"not in a head: ", line),
+    match finding {
+        Finding::Head(head) => push_head(report, offers, many, head),
+        Finding::Stray(line) => push_shown(&mut report.text, true, b"not in a head: ", line),
     }
 }
 
@@ -133,7 +134,7 @@ fn push_head(report: &mut Report, offers: &[Mime], many: bool, head: &Head) -> M
 {
     let alloc = *report.text.allocator();
     let only = push_title_and_types(report, many, head)?;
-    let accepts = values_of(alloc, Name::Accept, head.is_alone(), head.lines())?;
+    let accepts = values_of(alloc, Name::Accept, &head.texts)?;
     let ranges = push_accept(&mut report.text, &accepts)?;
     push_weights(report, offers, head.kind, ranges, only)?;
     Ok(())
@@ -164,7 +165,7 @@ fn push_title_and_types(report: &mut Report, many: bool, head: &Head) -> Made<Op
 {
     let alloc = *report.text.allocator();
     push_title(&mut report.text, many, head)?;
-    let types = values_of(alloc, Name::ContentType, head.is_alone(), head.lines())?;
+    let types = values_of(alloc, Name::ContentType, &head.texts)?;
     let last = push_types(&mut report.text, &mut report.are_good, &types)?;
     push_count(
         &mut report.text,
@@ -478,9 +479,9 @@ fn push_types(text: &mut Vec<u8>, good: &mut bool, values: &[Vec<u8>]) -> Made<O
 /// Reads a value of a field. If it is rejected, adds the rows of its fault and returns `None`.
 fn read(text: &mut Vec<u8>, label: &[u8], value: &[u8]) -> Made<Option<Mime>>
     ensures { IfOk result (λ found. MatchOption found
-        ((error : FieldError) × Spec.IsRead value.now (Err error)
+        ((error : FieldError) × Spec.HasReading value.now (Err error)
         × (vec_items text.new ≡ vec_items text.old ++ Spec.fault_rows label.now value.now error))
-        (λ mime. Spec.IsRead value.now (Ok mime.media) × (vec_items text.new ≡ vec_items text.old))) }
+        (λ mime. Spec.HasReading value.now (Ok mime.media) × (vec_items text.new ≡ vec_items text.old))) }
 {
     match content_type(*text.allocator(), value) {
         Ok(mime) => Ok(Some(mime)),
@@ -494,7 +495,7 @@ fn read(text: &mut Vec<u8>, label: &[u8], value: &[u8]) -> Made<Option<Mime>>
 
 /// Adds the rows of a media type.
 fn push_media(text: &mut Vec<u8>, mime: &Mime) -> Made<()>
-    ensures { OnOk result ((boundary : Option (List ℕ)) × Spec.HasBoundary mime.now.media boundary
+    ensures { OnOk result ((boundary : Option (List ℕ)) × Spec.BoundaryIs mime.now.media boundary
         × (vec_items text.new ≡ vec_items text.old ++ Spec.media_rows mime.now.media boundary)) }
 {
     push_if(text, b"Content-Type ", Some(mime.as_str().as_bytes()))?;
@@ -601,7 +602,7 @@ fn push_range(text: &mut Vec<u8>, entry: &[u8], range: &Mime) -> Made<()>
         text,
         &[b"Accept ", &weight, b" ", range.as_str().as_bytes()],
     )?;
-    if is_plain(entry, range) {
+    if has_plain_weight(entry, range) {
         return push(text, &[b"\n"]);
     }
     let remark = b" (q isn't a weight in HTTP, counted as ";
@@ -609,9 +610,9 @@ fn push_range(text: &mut Vec<u8>, entry: &[u8], range: &Mime) -> Made<()>
 }
 
 /// Returns `true` if an entry has a weight as RFC 9110 allows it (12.4.2), or none. `range` is what is read of the entry.
-#[tactic(auto, unfolding(crate::specs::Report::is_plain))]
-fn is_plain(entry: &[u8], range: &Mime) -> bool
-    ensures { result ≡ Spec.is_plain entry.now range.now.media }
+#[tactic(auto, unfolding(crate::specs::Report::has_plain_weight))]
+fn has_plain_weight(entry: &[u8], range: &Mime) -> bool
+    ensures { result ≡ Spec.has_plain_weight entry.now range.now.media }
 {
     has_valid_weight(range) && !has_quoted_weight(entry)
 }

@@ -1,10 +1,10 @@
 //! Start lines: request lines and status lines.
 
-ghost use Rattle.std.specs.Prelude.{◌≡◌, ◌==◌, ◌&&◌, not, length, option_map};
+ghost use Rattle.std.specs.Prelude.{◌≡◌, ◌==◌, ◌&&◌, not, length, map, option_map};
 ghost use Rattle.std.specs.{Char.is_ascii_digit, List.before_first, List.after_first, List.list_all};
 ghost use Rattle.mime.specs.Bytes.{is_token_byte};
-ghost use Rattle.mime_headers.specs.Head.{has_authority, is_request_line, is_start, is_status_line, is_target, is_version, kind_of};
-ghost use Rattle.mime_headers.specs.Head.{mark_before};
+ghost use Rattle.mime_headers.specs.Head.{from_version, has_authority, is_request_line, is_start, is_status_line, is_target};
+ghost use Rattle.mime_headers.specs.Head.{is_version, kind_of, kind_within, mark_before};
 
 use crate::line::{begins, signed, trim_start};
 use mime_search::{Class, first_stop};
@@ -111,6 +111,32 @@ pub(crate) fn kind_of(text: &[u8]) -> Option<Kind>
         });
     }
     is_request_line(text).then_some(Kind::Request)
+}
+
+/// Returns what begins with the first `HTTP/` of a text, ignoring ASCII case, or an empty slice without it.
+fn from_version(text: &[u8]) -> &[u8]
+    ensures { result.now ≡ from_version text.now }
+{
+    let mut rest = text;
+    while let Some((_, more)) = rest.split_first() {
+        if begins(b"HTTP/", rest) {
+            break;
+        }
+        rest = more;
+    }
+    rest
+}
+
+/// Returns the kind of the first text that has a status line from its first `HTTP/` on, or `None` if there is no such text.
+pub(crate) fn kind_within(texts: &[&[u8]]) -> Option<Kind>
+    ensures { result ≡ kind_within (map (λ text. text.now) texts.now) }
+{
+    for text in texts {
+        if let Some(kind) = kind_of(from_version(text)) {
+            return Some(kind);
+        }
+    }
+    None
 }
 
 /// Returns the mark before a start line in a line: its indentation, unless it needs a sign, or its sign. Returns `None` if the line has no

@@ -3,4 +3,4 @@ use Rattle.mime_headers.proofs.Common.{drop, seen, seen_from, ◌≡◌}
 use Rattle.mime_headers.proofs.field.seen.Given as goal
 
 abbrev pub invariant-loop-at : goal.invariant-loop-at
-invariant-loop-at l = seen_from l.may (drop l.at l.line) ≡ seen l.line
+invariant-loop-at l = seen_from l.may (drop l.at l.shown) ≡ seen l.line

@@ -1,5 +1,5 @@
 -- Each part is added after the one before it.
-use Rattle.mime_headers.proofs.Common.{HasBoundary, append-nil, append_assoc, flat_map-map, option_map, rules, suffix_of, ◌≡◌}
+use Rattle.mime_headers.proofs.Common.{BoundaryIs, append-nil, append_assoc, flat_map-map, option_map, rules, suffix_of, ◌≡◌}
 use Rattle.mime.specs.Items.{items_of}
 use Rattle.mime_headers.proofs.report.push_media.Goals as goal
 
@@ -12,5 +12,5 @@ returns c =
     let items : c.into_iter-name-iterator.result ≡ items_of media.pairs = cc in
     let params = simp (c.in-None.ensures.steps.0, items, flat_map-map, append-nil) at c.loop-name.invariant in
     let first = simp (c.in_ok-push_if-2.ensures, c.in_ok-push_if.ensures, kept, essence) at c.in_ok-push_if-3.ensures in
-    let bound : HasBoundary media (option_map (λ bytes. bytes.now) c.as_deref.result) = search rules in
+    let bound : BoundaryIs media (option_map (λ bytes. bytes.now) c.as_deref.result) = search rules in
     (_, bound, simp (c.in_ok-push_if-4.ensures, params, first, suffix, append_assoc))

@@ -1,5 +1,5 @@
 -- The offers are weighed by a range for all.
-use Rattle.mime_headers.proofs.Common.{length-map, medias, rules, tests, vec_items}
+use Rattle.mime_headers.proofs.Common.{length-map, rules, tests}
 use Rattle.mime_headers.proofs.report.push_missing.Goals as goal
 
 pub returns : goal.returns

@@ -1,6 +1,6 @@
 -- The bytes from the end on are carriage returns.
-use Rattle.mime_headers.proofs.Common.{length, suffix_len, take, ◌+◌, ◌-◌, ◌==◌, ◌≡◌, ◌≤◌}
-use Rattle.mime_headers.proofs.line.bare.Given as goal
+use Rattle.mime_headers.proofs.Common.{length, suffix_len, take, ◌-◌, ◌==◌, ◌≡◌, ◌≤◌}
+use Rattle.mime_headers.proofs.line.without_returns.Given as goal
 
 abbrev pub invariant-loop-end : goal.invariant-loop-end
 invariant-loop-end l = (l.end ≤ length l.line)
