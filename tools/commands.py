@@ -279,18 +279,17 @@ def prove(crate):
     run_ok("rt", *kind, "--jobs", "1", folder=f"{PROVED}/crates/{crate}")
 
 
-def jobs(crate):
-    """How many processes share a proof. Each one more takes 10 to 20 s of processor time, which pays off if there are many functions, and
-    up to 2.4 GB of memory."""
-    functions = sum(Path(path).read_text("utf-8").count("fn ") for path in glob(f"{TOP}/crates/{crate}/src/**/*.rt", recursive=True))
+def jobs():
+    """How many processes share a proof. Each takes up to 2.4 GB of memory. With four, a large crate takes longer than with two, as each
+    makes for itself much of what the functions' proofs rest on."""
     free = int(re.search(r"MemAvailable: +(\d+)", Path("/proc/meminfo").read_text("utf-8"))[1])
-    return str(max(1, min(4 if functions > 50 else 2, len(os.sched_getaffinity(0)), free // 2_400_000)))
+    return str(max(1, min(2, len(os.sched_getaffinity(0)), free // 2_400_000)))
 
 
 def prove_here(crate, words, log):
     """Runs rt in a crate's folder, and returns whether it succeeds."""
     with open(log, "w", encoding="utf-8") as said:
-        return not run([*words, "--jobs", jobs(crate)], stdout=said, stderr=subprocess.STDOUT, cwd=f"{TOP}/crates/{crate}").returncode
+        return not run([*words, "--jobs", jobs()], stdout=said, stderr=subprocess.STDOUT, cwd=f"{TOP}/crates/{crate}").returncode
 
 
 def prove_beside(crate, words, log):
@@ -350,7 +349,7 @@ def program(crate, kind=""):
         return made
     say(
         f"{crate}: `{command}` proves and builds the program, and the libraries {' '.join(below(crate)[:-1])}, as far as they aren't up to "
-        "date. This may take some minutes, 2 GB of disk and 2.4 GB of memory for each of up to four processes."
+        "date. This may take some minutes, 2 GB of disk and 2.4 GB of memory for each of up to three processes."
     )
     if not (version := run_ok("rt", "version").strip()).endswith(LOGIC):
         say(f"{crate}: made for the logic {LOGIC}; the command rt here is of '{version}', and may not be able to build it")

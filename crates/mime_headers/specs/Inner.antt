@@ -1,5 +1,5 @@
 -- What only contracts of this crate say.
-use Rattle.std.specs.Prelude.{ℕ, Bool, List, Option, Vec, option_map, map, vec_items}
+use Rattle.std.specs.Prelude.{ℕ, List, Option, Vec, option_map, map, vec_items}
 use Rattle.std.specs.{Borrow.Bor, Global.Global}
 use Rattle.mime.specs.{Values.MediaType, declared.value.Mime.Mime}
 use Rattle.mime_headers.specs.{Head.Field, Head.Finding, Head.Head, Head.head, Head.stray, Report.Progress}

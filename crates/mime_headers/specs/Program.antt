@@ -1,5 +1,5 @@
 -- Which offers the arguments name, and what an error of a run prints.
-use Rattle.std.specs.Prelude.{◌≢◌, ℕ, List, [], ◌∷◌, ◌++◌, Option, Some, None, Result, Ok, Err, String, string_bytes, codes}
+use Rattle.std.specs.Prelude.{◌≢◌, ℕ, List, [], ◌∷◌, ◌++◌, Some, None, Result, Ok, Err, String, string_bytes, codes}
 use Rattle.std.specs.{Fmt.decimal, Global.Global}
 use Rattle.mime.specs.Values.{MediaType}
 use Rattle.mime_http.specs.{HttpFaults.HttpExplains, declared.value.FieldError.FieldError, declared.value.FieldError.TheVariants.NoMemory}
