@@ -5,7 +5,7 @@ use Rattle.std.specs.Prelude.{Option, Some, None, option_and_then, option_map, i
 use Rattle.std.specs.{Char.is_ascii_digit}
 use Rattle.std.specs.List.{list_all, list_any, cons_option, filter_map, prefix_len, suffix_len, slice_get, slice_index}
 use Rattle.std.specs.{List.before_first, List.after_first, Option.option_or, Str.bytes_eq}
-use Rattle.mime.specs.{Bytes.is_token_byte, Grammar.is_space}
+use Rattle.mime.specs.{Bytes.is_token_byte, Grammar.is_space, Grammar.is_token}
 use Rattle.mime_http.specs.{HttpList.trim_start, HttpList.trimmed, Lacks.begins}
 use Rattle.mime_io.specs.Lines.{lines_of}
 use Rattle.mime_headers.specs.declared.field.Name.{Name}
@@ -100,7 +100,7 @@ is_target target = begins (codes "/") target || (bytes_eq target (codes "*") || 
 -- request-line = method SP request-target SP HTTP-version (RFC 9112, 3), with method = 1*tchar (RFC 9110, 5.6.2 and 9.1)
 unfoldable pub is_request_line : List ℕ → Bool
 is_request_line text = let rest = other_words text in
-    not (length (word text) == 0) && (list_all is_token_byte (word text) && (is_target (word rest) && is_version (other_words rest)))
+    is_token (word text) && (is_target (word rest) && is_version (other_words rest))
 
 -- The kind of a start line's head. After an interim response, whose code begins with 1, another response follows (RFC 9110, 15.2).
 abbrev pub kind_of : List ℕ → Option Kind

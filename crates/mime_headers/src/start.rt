@@ -2,7 +2,7 @@
 
 ghost use Rattle.std.specs.Prelude.{◌≡◌, ◌==◌, ◌&&◌, not, length, map, option_map};
 ghost use Rattle.std.specs.{Char.is_ascii_digit, List.before_first, List.after_first, List.list_all};
-ghost use Rattle.mime.specs.Bytes.{is_token_byte};
+ghost use Rattle.mime.specs.{Bytes.is_token_byte, Grammar.is_token};
 ghost use Rattle.mime_headers.specs.Head.{from_version, has_authority, is_request_line, is_start, is_status_line, is_target};
 ghost use Rattle.mime_headers.specs.Head.{is_version, kind_of, kind_within, mark_before};
 
@@ -88,6 +88,13 @@ fn is_target(bytes: &[u8]) -> bool
     begins(b"/", bytes) || bytes == b"*".as_slice() || has_authority(&bytes[bytes.len().min(1)..])
 }
 
+/// Returns `true` if bytes are a token.
+fn is_token(bytes: &[u8]) -> bool
+    ensures { result ≡ is_token bytes.now }
+{
+    !bytes.is_empty() && are_token_bytes(bytes)
+}
+
 /// Returns `true` if a text is a request line, such as `GET / HTTP/1.1`.
 #[tactic(auto, unfolding(crate::specs::Head::is_request_line))]
 fn is_request_line(text: &[u8]) -> bool
@@ -95,7 +102,7 @@ fn is_request_line(text: &[u8]) -> bool
 {
     let (method, rest) = split_word(text);
     let (target, version) = split_word(rest);
-    !method.is_empty() && are_token_bytes(method) && is_target(target) && is_version(version)
+    is_token(method) && is_target(target) && is_version(version)
 }
 
 /// Returns the kind of the head that a text begins, or `None` if the text is no start line.
