@@ -623,7 +623,13 @@ fn decimals(weight: u16) -> [u8; 5]
 {
     let digit = |rest: u16| b'0' + (rest % 10) as u8;
     let (tenth, hundredth) = (digit(weight / 100), digit(weight / 10));
-    [b'0' + (weight / 1000) as u8, b'.', tenth, hundredth, digit(weight)]
+    [
+        b'0' + (weight / 1000) as u8,
+        b'.',
+        tenth,
+        hundredth,
+        digit(weight),
+    ]
 }
 
 /// Adds the row of a ranked offer, or nothing if `offer` is `None`.
