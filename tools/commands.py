@@ -280,10 +280,10 @@ def prove(crate):
 
 
 def jobs():
-    """How many processes share a proof. Each takes up to 2.4 GB of memory. With four, a large crate takes longer than with two, as each
-    makes for itself much of what the functions' proofs rest on."""
+    """How many processes share a proof, each of which takes up to 2.4 GB of memory. Four prove mime_headers in 200 s, and two in 280 s. Two
+    take a sixth less of processor time, as each makes for itself much of what the functions' proofs rest on."""
     free = int(re.search(r"MemAvailable: +(\d+)", Path("/proc/meminfo").read_text("utf-8"))[1])
-    return str(max(1, min(2, len(os.sched_getaffinity(0)), free // 2_400_000)))
+    return str(max(1, min(4, len(os.sched_getaffinity(0)), free // 2_400_000)))
 
 
 def prove_here(crate, words, log):
@@ -349,7 +349,7 @@ def program(crate, kind=""):
         return made
     say(
         f"{crate}: `{command}` proves and builds the program, and the libraries {' '.join(below(crate)[:-1])}, as far as they aren't up to "
-        "date. This may take some minutes, 2 GB of disk and 2.4 GB of memory for each of up to three processes."
+        "date. This may take some minutes, 2 GB of disk and 2.4 GB of memory for each of up to five processes."
     )
     if not (version := run_ok("rt", "version").strip()).endswith(LOGIC):
         say(f"{crate}: made for the logic {LOGIC}; the command rt here is of '{version}', and may not be able to build it")
