@@ -30,4 +30,5 @@ def choose(library, accept, offers):
 
 
 if __name__ == "__main__":
-    print(*(it for it in choose(ctypes.CDLL(sys.argv[1]), os.fsencode(sys.argv[2]) if sys.argv[2:] else None, TYPES) if it is not None))
+    chosen = choose(ctypes.CDLL(sys.argv[1]), os.fsencode(sys.argv[2]) if sys.argv[2:] else None, TYPES)
+    print(*(part for part in chosen if part is not None))

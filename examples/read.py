@@ -9,7 +9,10 @@ import sys
 class Found(ctypes.Structure):
     """What mime_read finds besides the strings: struct mime_found of include/mime.h."""
 
-    _fields_ = [*((it, ctypes.c_size_t) for it in ("length", "params", "printed", "slash", "subtype_end", "pos")), ("byte", ctypes.c_uint8)]
+    _fields_ = [
+        *((name, ctypes.c_size_t) for name in ("length", "params", "printed", "slash", "subtype_end", "pos")),
+        ("byte", ctypes.c_uint8),
+    ]
 
 
 class Mime:

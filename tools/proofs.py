@@ -26,13 +26,14 @@ MOST, LONGEST_RUN = 2, 10_800
 MARKS = """import sys
 sys.path.insert(0, sys.argv[1])
 import rtlib
-print(*(f"{it.name} {it.stamp()}" for it in rtlib.crates_below(sys.argv[2]) if it.makes_rlib()), sep="\\n")"""
+print(*(f"{crate.name} {crate.stamp()}" for crate in rtlib.crates_below(sys.argv[2]) if crate.makes_rlib()), sep="\\n")"""
 # What rt ci says of a library that it has proved in this run, or in an earlier one.
 IS_PROVED = re.compile(r"(?m)^rt: (\w+) (?:proved$|is kept: )")
 
 
 def has_same_sources(top):
-    return not any(output(["diff", "-rq", "--exclude=out", f"{TOP}/{it}", f"{top}/{it}"])[1] for it in ("crates.txt", "HANDLES", "crates"))
+    differ = lambda path: output(["diff", "-rq", "--exclude=out", f"{TOP}/{path}", f"{top}/{path}"])[1]
+    return not any(map(differ, ("crates.txt", "HANDLES", "crates")))
 
 
 def remove_old(folder):
@@ -106,7 +107,7 @@ class Proofs:
         write(self.began, "")
         self.top = copy_of_crates(room)
         self.marks, self.there, self.ci = marks_of(self.top), set(), ("rt ci", CI_READS, refused_by_ci())
-        self.is_ci_kept = is_kept(*self.ci) and all(os.path.exists(f"{self.top}/built/{it}/{it}") for it in programs())
+        self.is_ci_kept = is_kept(*self.ci) and all(os.path.exists(f"{self.top}/built/{crate}/{crate}") for crate in programs())
 
     def environment(self):
         """Tells the tools where the copy is, and whether libraries come."""
@@ -118,7 +119,7 @@ class Proofs:
             return {*os.listdir(f"{self.top}/crates")}
         said = Path(self.said).read_text("utf-8", "replace") if os.path.exists(self.said) else ""
         proved = self.marks if self.is_ci_kept else IS_PROVED.findall(said)
-        for crate in sorted({*self.marks} - self.there, key=lambda it: len(below(it))):
+        for crate in sorted({*self.marks} - self.there, key=lambda library: len(below(library))):
             if crate in proved and not self.is_here(crate):
                 self.put(crate)
             if self.is_here(crate):
@@ -143,7 +144,7 @@ class Proofs:
 
     def fits(self, crate):
         """Whether the libraries below a crate are the same in the copy as those over which rt ci proved the crate."""
-        formats = [[f"{top}/crates/{it}/out/rlib/{it}.rlib/format" for top in (TOP, self.top)] for it in below(crate)[:-1]]
+        formats = [[f"{top}/crates/{library}/out/rlib/{library}.rlib/format" for top in (TOP, self.top)] for library in below(crate)[:-1]]
         return all(Path(one).read_bytes() == Path(other).read_bytes() for one, other in formats)
 
     def keep_ci(self, sources):

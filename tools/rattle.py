@@ -120,7 +120,7 @@ What a file of specs/ declares, with those of its names in whose place others wo
 ...   few : Form
 ...   many : List ℕ → Form
 ... '''
->>> for it in declarations(one): print(it.kind, it.replaceable)
+>>> for found in declarations(one): print(found.kind, found.replaceable)
  ['begins']
 record ['IsPart', 'few', 'first']
 data ['Walk', 'ends', 'goes_on']
@@ -450,7 +450,7 @@ class Definitions:
         self.declared, self.type_of, self.first_with = {}, {}, {}
         # What each name of a file stands for.
         self.paths = {file: {found.name: found.path for found in imports(text)} for file, text in files.items()}
-        for file, declaration in ((file, it) for file, text in files.items() for it in declarations(text)):
+        for file, declaration in ((file, found) for file, text in files.items() for found in declarations(text)):
             path = f"{file}.{declaration.name}"
             self.declared[path] = file, declaration
             self.type_of.update({f"{file}.{case}": path for case in declaration.cases})
