@@ -1,6 +1,4 @@
 mod Common
 mod Good
-mod HeaderFacts
 mod LineLists
-mod ReportFacts
 mod Words

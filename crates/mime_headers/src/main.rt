@@ -6,6 +6,8 @@ ghost use Rattle.std.specs.Prelude.{◌≡◌, OnErr};
 ghost use Rattle.std.specs.Process.{exit_status};
 
 mod error;
+#[cfg(test)]
+mod facts;
 mod field;
 mod head;
 mod line;

@@ -1,24 +1,31 @@
 -- Heads and offers have one report, with one verdict, so that a page that says less doesn't check; and rows, reports and verdicts for which
 -- each definition is true.
-use Rattle.mime_headers.proofs.Common.{AddsAccept, AddsChoice, AddsEntry, AddsHead, AddsFinding, AddsMissing, AddsRequest, AddsResponse}
-use Rattle.mime_headers.proofs.Common.{AddsType, AddsTypes, AddsWeights, AreOffers, Bool, Err, FieldError, FoldsTo, Global, BoundaryIs}
-use Rattle.mime_headers.proofs.Common.{Head, Invalid, IsHttpMediaType, HasReading, IsReport, IsReportOf, IsWeighed, Finding, Kind, List}
-use Rattle.mime_headers.proofs.Common.{MediaType, MissingSubtype, None, NotUtf8, Ok, Option, RankedOffer, Result, Some, Progress, String}
-use Rattle.mime_headers.proofs.Common.{Verdict, [], a_word, ap, arith, bad_word, plain_lines, best_row, byte_text, codes, control_len}
-use Rattle.mime_headers.proofs.Common.{count_row, decider, empty_row, expects_type, false, fault_rows, field_error_text, filter, flat_map}
-use Rattle.mime_headers.proofs.Common.{head, if◌then◌else◌, is_altered, is_cut, is_some, findings_in, lacks_text, length, map, media_rows}
-use Rattle.mime_headers.proofs.Common.{no_field_error, no_word, numbered, offer_row, offer_rows, one_field_error, one_printed_text}
-use Rattle.mime_headers.proofs.Common.{one_ranking, only_cut, range_row, refl, row, rules, shown, start, stray, string_bytes, sym}
-use Rattle.mime_headers.proofs.Common.{title_rows, trimmed, true, verdict_of, weight_text, with_entry, without_controls, without_escapes}
-use Rattle.mime_headers.proofs.Common.{ℕ, ◌++◌, ◌<◌, ◌==◌, ◌||◌, ◌∙◌, ◌∷◌, ◌≡◌}
-use Rattle.std.proofs.Common.{lit<, not}
+use Rattle.mime_headers.proofs.Common.{AddsFinding, AddsType, AreOffers, Bool, Err, FieldError, FoldsTo, Global, BoundaryIs, Finding, List}
+use Rattle.mime_headers.proofs.Common.{MediaType, None, Ok, Option, Result, Some, String, [], a_word, ap, arith, bad_word, codes, false}
+use Rattle.mime_headers.proofs.Common.{flat_map, if◌then◌else◌, is_some, findings_in, lacks_text, length, map, no_word, offer_rows, refl}
+use Rattle.mime_headers.proofs.Common.{row, rules, shown, start, string_bytes, sym, true, without_controls, without_escapes, ℕ, ◌++◌, ◌<◌}
+use Rattle.mime_headers.proofs.Common.{◌==◌, ◌||◌, ◌∙◌, ◌∷◌, ◌≡◌}
+use Rattle.mime.specs.declared.scan.fault.ParseError.TheVariants.{MissingSubtype}
+use Rattle.mime_headers.specs.Head.{Head, head, plain_lines, stray}
+use Rattle.mime_headers.specs.Report.{AddsAccept, AddsChoice, AddsEntry, AddsHead, AddsMissing, AddsRequest, AddsResponse, AddsTypes}
+use Rattle.mime_headers.specs.Report.{AddsWeights, HasReading, IsReport, IsReportOf, IsWeighed, Progress, best_row, byte_text, count_row}
+use Rattle.mime_headers.specs.Report.{decider, empty_row, expects_type, fault_rows, is_altered, is_cut, media_rows, numbered, offer_row}
+use Rattle.mime_headers.specs.Report.{range_row, title_rows, verdict_of, weight_text, with_entry}
+use Rattle.mime_headers.specs.Shown.{control_len}
+use Rattle.mime_headers.specs.declared.report.Verdict.{Verdict}
+use Rattle.mime_headers.specs.declared.start.Kind.{Kind}
+use Rattle.mime_http.proofs.HandedOut.{no_field_error, one_field_error, one_printed_text, one_ranking, only_cut, plain_is_http}
+use Rattle.mime_http.specs.HttpList.{trimmed, AreBetweenCommas, AreBetweenCommas.comma, AreBetweenCommas.line_end}
+use Rattle.mime_http.specs.HttpList.{AreBetweenCommas.no_line, BeginsPiece, IsPiece, IsPiece.piece_byte, IsPiece.piece_end}
+use Rattle.mime_http.specs.HttpMediaType.{IsHttpMediaType}
+use Rattle.mime_http.specs.HttpPrinted.{field_error_text}
+use Rattle.mime_http.specs.declared.ranking.RankedOffer.{RankedOffer}
+use Rattle.mime_http.specs.declared.value.FieldError.TheVariants.{Invalid, NotUtf8}
+use Rattle.std.proofs.Common.{filter, lit<, not}
 use Rattle.std.proofs.lemmas.{Bool.Decides.nat_tests, Bool.and_parts, Bool.true≢false, List.Elements.All-contains}
 use Rattle.std.specs.{Fmt.digits, List.list_all, Str.IsUtf8}
 use Rattle.mime.specs.{Bytes.is_token_byte, Grammar.IsWellFormed, Grammar.SyntaxTree, Grammar.no_list, Grammar.text_of, Values.Reads}
 use Rattle.mime.specs.{Values.value_of}
-use Rattle.mime_http.proofs.HandedOut.{plain_is_http}
-use Rattle.mime_http.specs.HttpList.{AreBetweenCommas, AreBetweenCommas.comma, AreBetweenCommas.line_end, AreBetweenCommas.no_line}
-use Rattle.mime_http.specs.HttpList.{BeginsPiece, IsPiece, IsPiece.piece_byte, IsPiece.piece_end}
 use Rattle.mime_http.specs.{HttpList.IsPrinted.as_it_stands, Ranges.merit_at, Ranking.IsRanking, Ranking.ranked_as}
 use Rattle.mime_headers.specs.{Head.begins_sign, Head.is_request_line, Head.is_version, Head.mark_of_fields, Program.head_error_text}
 use Rattle.mime_headers.specs.{Report.AddsLines, Report.has_plain_weight, declared.error.HeadError.TheVariants.NoHead}

@@ -1,12 +1,15 @@
 -- Lines, heads and fields for which each definition is true, and others for which it is false, so that a page that says less or more
 -- doesn't check.
-use Rattle.mime_headers.proofs.Common.{Bool, Field, Finding, Kind, List, Name, None, Some, [], codes, continued, escape_len, false}
-use Rattle.mime_headers.proofs.Common.{field_of, filter, findings_in, findings_read, first_seen, flat_map, head, head_of, indent_of}
-use Rattle.mime_headers.proofs.Common.{is_cut, is_end, is_field, is_folded, is_start, is_status_line, is_target, kind_of, length, lines_of}
-use Rattle.mime_headers.proofs.Common.{lines_read, map, mark_before, next_value, plain_lines, refl, seen, signed, stray, text_with, true}
-use Rattle.mime_headers.proofs.Common.{values_of, whole_value, without_escapes, without_returns, ℕ, ◌++◌, ◌∷◌, ◌≡◌}
+use Rattle.mime_headers.proofs.Common.{Bool, Finding, List, None, Some, [], codes, continued, false, field_of, findings_in, first_seen}
+use Rattle.mime_headers.proofs.Common.{flat_map, is_end, is_field, is_start, length, lines_of, map, mark_before, refl, seen, signed}
+use Rattle.mime_headers.proofs.Common.{text_with, true, values_of, without_escapes, without_returns, ℕ, ◌++◌, ◌∷◌, ◌≡◌}
+use Rattle.mime_headers.specs.Head.{Field, escape_len, head, head_of, indent_of, is_folded, is_status_line, is_target, kind_of, next_value}
+use Rattle.mime_headers.specs.Head.{plain_lines, stray, whole_value, begins_sign, is_request_line, is_version, mark_of_fields}
+use Rattle.mime_headers.specs.Report.{findings_read, is_cut, lines_read}
+use Rattle.mime_headers.specs.declared.field.Name.{Name}
+use Rattle.mime_headers.specs.declared.start.Kind.{Kind}
+use Rattle.std.proofs.Common.{filter}
 use Rattle.mime.specs.Bytes.{is_token_byte}
-use Rattle.mime_headers.specs.Head.{begins_sign, is_request_line, is_version, mark_of_fields}
 use Rattle.mime_headers.specs.declared.field.Name.TheVariants.{ContentType, Accept}
 
 -- ---- lines
