@@ -1,3 +1,4 @@
+pub mod Ascii
 pub mod IgnoringCase
 mod Lanes
 pub mod Masks
