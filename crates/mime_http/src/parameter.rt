@@ -4,7 +4,7 @@ ghost use Rattle.std.specs.Prelude.{◌≡◌, ◌++◌, ◌∷◌, [], ◌↔�
 ghost use Rattle.std.specs.Prelude.{string_bytes, length};
 ghost use Rattle.std.specs.List.{list_all};
 ghost use Rattle.mime.specs.{Bytes.is_quoted_byte, Grammar.IsToken, Grammar.is_token, HeaderLaws.AreHeaderBytes};
-ghost use Rattle.mime.specs.{Values.lowered, Values.lowered_value};
+ghost use Rattle.mime.specs.{Values.Reads, Values.lowered, Values.lowered_value};
 ghost use Rattle.mime_http.specs.Boundary.{IsBoundary};
 ghost use Rattle.mime_http.specs.Forms.{form_of, text_in};
 ghost use Rattle.mime_http.specs.Written.{escaped, text_of_pairs, others, with_pair};
@@ -152,6 +152,18 @@ fn text_with(
     Ok((text, count))
 }
 
+/// Reads a text that is accepted. The result is matched and made anew, so that the caller reserves no stack for it if no text is read.
+#[inline(always)]
+fn read_accepted(alloc: Global, text: &str) -> Result<Mime, AllocError>
+    ensures { IfOk result (λ mime. Reads text.now mime.media) }
+{
+    match Mime::from_str(alloc, text) {
+        Ok(mime) => Ok(mime),
+        // The text is accepted, so memory ran out.
+        Err(_) => Err(AllocError),
+    }
+}
+
 /// Returns the media type with this parameter in place of all parameters of its name. `is_kept` is `true` only if the parameter is kept as
 /// it is written.
 fn mime_with(
@@ -184,11 +196,7 @@ fn mime_with(
         };
         return known.into_mime(alloc);
     }
-    match Mime::from_str(alloc, &text) {
-        Ok(made) => Ok(made),
-        // The text is accepted, so memory ran out.
-        Err(_) => Err(AllocError),
-    }
+    read_accepted(alloc, &text)
 }
 
 /// Returns the media type with this parameter in place of all parameters of its name, ignoring ASCII case (RFC 9110, 5.6.6). The new

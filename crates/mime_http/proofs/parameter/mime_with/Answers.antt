@@ -36,11 +36,11 @@ invariant_of-known c =
           ∙ sym c.in_ok-text.ensures.text) read;
     }
 
-pub returns-in-Ok : goal.returns-in-Ok
-returns-in-Ok c =
+pub returns : goal.returns
+returns c =
     let read = is_read c.args.name.now c.args.value.now c.in_ok-text.ensures.text c.as_str-kept.ensures.reads c.kept_is_safe.ensures
     c.requires.named c.requires.safe in
-    c.one_reading.ensures _ _ _ c.in-Ok.ensures.read (rw c.deref.ensures read)
+    IfOk-weaker _ _ _ (λ made reads. c.one_reading.ensures _ _ _ reads (rw c.deref.ensures read)) c.read_accepted.ensures
 
 pub returns-then-is_kept : goal.returns-then-is_kept
 returns-then-is_kept c =
