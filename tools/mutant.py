@@ -15,6 +15,21 @@ WORDS = ("file", "old", "new", "mutant", "why", "killed by", "survives", "prints
 KILLER = re.compile(r"(clause) (\S+) of (\w+)(::\S+)|(fact|test) (\S+) of (\w+)|(row|tool) (.+)")
 # The tools that need nothing that rt ci builds.
 NEEDS_NOTHING = re.compile(r"tools/(docs|gate|mutation_test)\b")
+# About how many seconds it takes to find that a function is wrong, if it takes long: its contract has many clauses, or a search is long.
+SLOW = {
+    "mime_headers::program::run": 26,
+    "mime_headers::report::push_fault": 30,
+    "mime_headers::report::push_response": 17,
+    "mime_lines::program::run": 45,
+}
+# About how many seconds a tool takes on one set of mutants, if it takes long.
+TOOLS = {
+    "tools/refused_requests": 350,
+    "bench/run": 280,
+    "tools/c_calls": 150,
+    "tools/largest_inputs": 120,
+    "tools/program ./mime_headers": 140,
+}
 # A change: in a file, at a position, what is there, and what comes in its place.
 Change = namedtuple("Change", "path at old new")
 
@@ -78,6 +93,10 @@ class Mutant:
 
     def seconds(self):
         """About how long its check takes beside others: the longer, the more is proved of the function."""
+        if self.kind != "clause":
+            return next((seconds for tool, seconds in TOOLS.items() if self.asked.startswith(tool)), 40)
+        if self.asked in SLOW:
+            return SLOW[self.asked]
         if not self.function:
             return 8
         path, begin, end = self.function
