@@ -280,8 +280,8 @@ def prove(crate):
 
 
 def jobs():
-    """How many processes share a proof, each of which takes up to 2.4 GB of memory. Four prove mime_headers in 200 s, and two in 280 s. Two
-    take a sixth less of processor time, as each makes for itself much of what the functions' proofs rest on."""
+    """How many processes share a proof, each of which takes up to 2.4 GB of memory. Four prove mime in 150 s, and two in 173 s. Two take a
+    sixth less of processor time, as each makes for itself much of what the functions' proofs rest on."""
     free = int(re.search(r"MemAvailable: +(\d+)", Path("/proc/meminfo").read_text("utf-8"))[1])
     return str(max(1, min(4, len(os.sched_getaffinity(0)), free // 2_400_000)))
 
