@@ -1,9 +1,16 @@
 -- The names that the proofs of this crate cite, passed on from one place. Declares nothing.
 pub use Rattle.mime.specs.{Values.MediaType, Values.suffix_of}
-pub use Rattle.mime_headers.specs.Head.{Finding, continued, field_of, findings_after, findings_in, findings_of, first_seen, from_version}
-pub use Rattle.mime_headers.specs.Head.{has_authority, heads_of, is_end, is_field, is_start, kind_within, mark_before, mark_of_fields}
-pub use Rattle.mime_headers.specs.Head.{needs_sign_after, own_lines, plain_after, seen, seen_from, signed, strays_of, text_with, values_of}
-pub use Rattle.mime_headers.specs.Head.{without_escapes, without_returns}
+pub use Rattle.mime_headers.specs.Field.{continued, field_of, first_seen}
+pub use Rattle.mime_headers.specs.Head.{Finding, findings_after, findings_in, findings_of}
+pub use Rattle.mime_headers.specs.Start.{from_version}
+pub use Rattle.mime_headers.specs.Field.{is_field}
+pub use Rattle.mime_headers.specs.Head.{heads_of, is_end, mark_of_fields}
+pub use Rattle.mime_headers.specs.Line.{mark_before}
+pub use Rattle.mime_headers.specs.Start.{has_authority, is_start, kind_within}
+pub use Rattle.mime_headers.specs.Field.{seen, seen_from, values_of}
+pub use Rattle.mime_headers.specs.Head.{needs_sign_after, own_lines, strays_of}
+pub use Rattle.mime_headers.specs.Line.{plain_after, signed, text_with}
+pub use Rattle.mime_headers.specs.Line.{without_escapes, without_returns}
 pub use Rattle.mime_headers.specs.Report.{AddsFinding, AddsLines, AddsType, BoundaryIs, is_final, lacks_text, offer_rows, remark_of, shown}
 pub use Rattle.mime_headers.specs.Report.{start}
 pub use Rattle.mime_headers.specs.Inner.{finding_now, findings_now, lines_now, medias, state_now}

@@ -2,7 +2,7 @@
 use Rattle.std.specs.Prelude.{ℕ, List, Option, Vec, option_map, map, vec_items}
 use Rattle.std.specs.{Borrow.Bor, Global.Global}
 use Rattle.mime.specs.{Values.MediaType, declared.value.Mime.Mime}
-use Rattle.mime_headers.specs.{Head.Field, Head.Finding, Head.Head, Head.head, Head.stray, Report.Progress}
+use Rattle.mime_headers.specs.{Field.Field, Head.Finding, Head.Head, Head.head, Head.stray, Report.Progress}
 use Rattle.mime_headers.specs.declared as declared
 
 -- the lines that a vector borrows

@@ -4,7 +4,7 @@ use Rattle.std.specs.{Fmt.decimal, Global.Global}
 use Rattle.mime.specs.Values.{MediaType}
 use Rattle.mime_http.specs.{HttpFaults.HttpExplains, declared.value.FieldError.FieldError, declared.value.FieldError.TheVariants.NoMemory}
 use Rattle.mime_io.specs.Stops.{stop_text}
-use Rattle.mime_headers.specs.{Head.printed_name, Report.HasReading}
+use Rattle.mime_headers.specs.{Field.printed_name, Report.HasReading}
 use Rattle.mime_headers.specs.declared.error.HeadError.{HeadError}
 
 -- The result of reading words after some offers. If each word is read as an offer, the result has all offers. Otherwise, it has the first

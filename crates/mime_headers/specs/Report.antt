@@ -16,8 +16,12 @@ use Rattle.mime_http.specs.{Ranking.is_qvalue, Ranking.IsRanking, Unescaped.unes
 use Rattle.mime_http.specs.declared.ranking.RankedOffer.{RankedOffer}
 use Rattle.mime_http.specs.{declared.value.FieldError.FieldError, declared.value.FieldError.TheVariants.NoMemory}
 use Rattle.mime_io.specs.{Lines.row, Stops.limit}
-use Rattle.mime_headers.specs.Head.{Field, Finding, Head, field_of, findings_in, head, heads_of}
-use Rattle.mime_headers.specs.Head.{other_words, plain_lines, seen, stray, title_of, values_of, without_escapes, word}
+use Rattle.mime_headers.specs.Field.{Field, field_of}
+use Rattle.mime_headers.specs.Head.{Finding, Head, findings_in, head, heads_of}
+use Rattle.mime_headers.specs.Field.{seen, values_of}
+use Rattle.mime_headers.specs.Head.{stray, title_of}
+use Rattle.mime_headers.specs.Line.{plain_lines, without_escapes}
+use Rattle.mime_headers.specs.Start.{other_words, word}
 use Rattle.mime_headers.specs.Shown.{without_controls}
 use Rattle.mime_headers.specs.declared.report.Verdict.{Verdict}
 use Rattle.mime_headers.specs.declared.start.Kind.{Kind}

@@ -3,8 +3,9 @@
 ghost use Rattle.std.specs.Prelude.{◌≡◌, ◌++◌, ◌==◌, ◌&&◌, false, map, nat_lt, option_map, length, IfOk, Some, vec_items};
 ghost use Rattle.std.specs.List.{before_first, list_all};
 ghost use Rattle.mime.specs.Bytes.{is_token_byte};
-ghost use Rattle.mime_headers.specs.Head.{continued, field_named, field_of, first_seen, is_field, label_of, mark_before};
-ghost use Rattle.mime_headers.specs.Head.{next_value, printed_name, seen, values_of, whole_value};
+ghost use Rattle.mime_headers.specs.Field.{continued, field_named, field_of, first_seen, is_field, label_of};
+ghost use Rattle.mime_headers.specs.Line.{mark_before};
+ghost use Rattle.mime_headers.specs.Field.{next_value, printed_name, seen, values_of, whole_value};
 ghost use Rattle.mime_headers.specs.Inner.{field_now};
 
 use crate::line::{Made, begins, is_folded, signed, trim_start};

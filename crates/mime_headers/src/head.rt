@@ -1,10 +1,14 @@
 //! The heads of an input, and the lines in no head that have one of the two fields in plain sight.
 
-ghost use Rattle.std.specs.Prelude.{◌≡◌, ◌++◌, ◌==◌, ◌&&◌, ◌||◌, ◌<◌, ◌≤◌, ◌∷◌, if◌then◌else◌, ℕ, List, length, map, option_map};
+ghost use Rattle.std.specs.Prelude.{◌≡◌, [], ◌++◌, ◌==◌, ◌&&◌, ◌||◌, ◌<◌, ◌≤◌, ◌∷◌, if◌then◌else◌, ℕ, List, length, map, option_map};
 ghost use Rattle.std.specs.Prelude.{is_none, is_some, IfOk, None, OnOk, Option};
-ghost use Rattle.std.specs.{List.filter_map, List.position_or_len, Option.option_or};
-ghost use Rattle.mime_headers.specs.Head.{findings_in, findings_of, head_of, is_end, is_start, mark_before, mark_of_fields};
-ghost use Rattle.mime_headers.specs.Head.{needs_sign_after, own_lines, strays_of, text_with, title_of};
+ghost use Rattle.std.specs.{List.filter_map, List.position_or_len, Option.option_or, Str.bytes_eq};
+ghost use Rattle.mime_headers.specs.Head.{findings_in, findings_of, head_of, is_end, mark_of_fields};
+ghost use Rattle.mime_headers.specs.Line.{mark_before};
+ghost use Rattle.mime_headers.specs.Start.{is_start};
+ghost use Rattle.mime_headers.specs.Head.{needs_sign_after, own_lines, strays_of, title_of};
+ghost use Rattle.mime_headers.specs.Line.{text_with};
+ghost use Rattle.mime_headers.specs.declared.start.Kind.{Kind};
 ghost use Rattle.mime_headers.specs.Inner.{findings_now, head_now, lines_now};
 
 use crate::field::{field_mark, is_field, seen};
@@ -38,7 +42,7 @@ pub(crate) enum Finding<'a> {
 }
 
 /// Returns `true` if a line ends the head with a mark or, without a mark, if it has nothing after its indentation but at most a sign.
-#[tactic(auto, unfolding(crate::specs::Head::begins_sign))]
+#[tactic(auto, unfolding(crate::specs::Line::begins_sign))]
 fn is_end(mark: Option<&[u8]>, line: &[u8]) -> bool
     ensures { result ≡ is_end (option_map (λ mark. mark.now) mark.entry) line.now }
 {
@@ -123,13 +127,24 @@ fn mark_of<'a>(alone: bool, start: Option<&'a [u8]>, lines: &[&'a [u8]]) -> Opti
     start
 }
 
-/// Returns the head that has these lines.
-fn head_of(texts: Vec<&[u8]>) -> Head<'_>
-    ensures { head_now result ≡ head_of (lines_now texts.entry) }
+/// Returns the kind of a head with a mark that has no start line and no line with a status.
+fn kind_by_mark(mark: &[u8]) -> Kind
+    ensures { result ≡ (if bytes_eq mark.now (60 ∷ []) then Kind.Final else Kind.Fields) }
+{
+    if mark == b"<".as_slice() {
+        Kind::Final
+    } else {
+        Kind::Fields
+    }
+}
+
+/// Returns the head with a mark that has these texts. The lines are all among which it lies, also those without its mark.
+fn head_of<'a>(mark: &[u8], lines: &[&[u8]], texts: Vec<&'a [u8]>) -> Head<'a>
+    ensures { head_now result ≡ head_of mark.now (map (λ line. line.now) lines.now) (lines_now texts.entry) }
 {
     let kind = match kind_of(texts.first().copied().unwrap_or(&[])) {
         Some(kind) => kind,
-        None => kind_within(&texts).unwrap_or(Kind::Fields),
+        None => kind_within(lines).unwrap_or(kind_by_mark(mark)),
     };
     Head { kind, texts }
 }
@@ -180,7 +195,7 @@ fn push_findings<'a>(
             return Ok(());
         }
         let texts = texts_with(*findings.allocator(), mark, lines)?;
-        findings.push(Finding::Head(head_of(texts)))?;
+        findings.push(Finding::Head(head_of(mark, lines, texts)))?;
     }
     push_strays(findings, mark, lines)
 }

@@ -3,8 +3,8 @@
 ghost use Rattle.std.specs.Prelude.{◌≡◌, ◌≤◌, ◌==◌, ◌||◌, length, option_map, IfOk};
 ghost use Rattle.std.specs.{Char.is_ascii_digit, List.prefix_len, Vec.vec_items};
 ghost use Rattle.mime_http.specs.{HttpList.trim_start, Lacks.begins};
-ghost use Rattle.mime_headers.specs.Head.{begins_sign, escape_len, is_folded, is_sign, plain_lines, signed, text_with};
-ghost use Rattle.mime_headers.specs.Head.{without_escapes, without_returns};
+ghost use Rattle.mime_headers.specs.Line.{begins_sign, escape_len, is_folded, is_sign, plain_lines, signed, text_with};
+ghost use Rattle.mime_headers.specs.Line.{without_escapes, without_returns};
 ghost use Rattle.mime_headers.specs.Inner.{lines_now};
 
 use mime_io::first_line;
@@ -131,7 +131,7 @@ pub(crate) fn is_sign(mark: &[u8]) -> bool
 }
 
 /// Returns `true` if bytes begin with a sign: `<` or `>`, before a space or at the end.
-#[tactic(auto, unfolding(crate::specs::Head::begins_sign))]
+#[tactic(auto, unfolding(crate::specs::Line::begins_sign))]
 fn begins_sign(bytes: &[u8]) -> bool
     ensures { result ≡ begins_sign bytes.now }
 {

@@ -3,7 +3,7 @@
 ghost use Rattle.std.specs.Prelude.{◌≡◌, ◌≢◌, ℕ, List, ◌≤◌, ◌+◌, [], length, map, true, Option, OnOk, IfOk, IfErr};
 ghost use Rattle.std.specs.Io.KnownBytes.{Consumes, Appends, IsAtEnd};
 ghost use Rattle.mime_io.specs.Stops.{limit};
-ghost use Rattle.mime_headers.specs.{Head.first_seen, Head.heads_of, Report.IsReportOf, Report.findings_read, Report.lines_read};
+ghost use Rattle.mime_headers.specs.{Field.first_seen, Head.heads_of, Report.IsReportOf, Report.findings_read, Report.lines_read};
 ghost use Rattle.mime_headers.specs.declared.field.Name.{Name};
 
 use crate::error::HeadError;

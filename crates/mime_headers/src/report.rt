@@ -6,9 +6,10 @@ ghost use Rattle.std.specs.Prelude.{option_map, slice_get, unwrap_or, vec_items,
 ghost use Rattle.std.specs.{List.FoldsTo, List.enumerate_from};
 ghost use Rattle.mime.specs.Values.{MediaType};
 ghost use Rattle.mime_http.specs.Ranking.{IsRanking};
-ghost use Rattle.mime_headers.specs.Head.{first_seen, heads_of};
+ghost use Rattle.mime_headers.specs.Field.{first_seen};
+ghost use Rattle.mime_headers.specs.Head.{heads_of};
 ghost use Rattle.mime_headers.specs.Inner.{finding_now, head_now, medias, ranges_now, state_now};
-ghost use Rattle.mime_headers.specs.{Head.field_of, Inner.field_now};
+ghost use Rattle.mime_headers.specs.{Field.field_of, Inner.field_now};
 ghost use Rattle.mime_headers.specs.Report as Spec;
 
 use crate::field::{Field, Name, field_of, first_seen, seen, values_of};

@@ -3,8 +3,9 @@
 ghost use Rattle.std.specs.Prelude.{◌≡◌, ◌==◌, ◌&&◌, not, length, map, option_map};
 ghost use Rattle.std.specs.{Char.is_ascii_digit, List.before_first, List.after_first, List.list_all};
 ghost use Rattle.mime.specs.{Bytes.is_token_byte, Grammar.is_token};
-ghost use Rattle.mime_headers.specs.Head.{from_version, has_authority, is_request_line, is_start, is_status_line, is_target};
-ghost use Rattle.mime_headers.specs.Head.{is_version, kind_of, kind_within, mark_before};
+ghost use Rattle.mime_headers.specs.Line.{mark_before};
+ghost use Rattle.mime_headers.specs.Start.{from_version, has_authority, is_request_line, is_start, is_target, is_version};
+ghost use Rattle.mime_headers.specs.Start.{kind_after, kind_in, kind_of, kind_of_field, kind_of_status, kind_within};
 
 use crate::line::{begins, signed, trim_start};
 use mime_search::{Class, first_stop};
@@ -38,20 +39,12 @@ pub(crate) fn are_token_bytes(bytes: &[u8]) -> bool
 }
 
 /// Returns `true` if bytes are an HTTP version, such as `HTTP/1.1` or `HTTP/2`.
-#[tactic(auto, unfolding(crate::specs::Head::is_version))]
+#[tactic(auto, unfolding(crate::specs::Start::is_version))]
 fn is_version(bytes: &[u8]) -> bool
     ensures { result ≡ is_version bytes.now }
 {
     let end = bytes.strip_prefix(b"HTTP/");
     matches!(end, Some([b'0'..=b'9'] | [b'0'..=b'9', b'.', b'0'..=b'9']))
-}
-
-/// Returns `true` if a text is a status line, such as `HTTP/1.1 200 OK` or `HTTP/2 200`.
-fn is_status_line(text: &[u8]) -> bool
-    ensures { result ≡ is_status_line text.now }
-{
-    let (version, rest) = split_word(text);
-    is_version(version) && matches!(split_word(rest).0, [b'0'..=b'9', b'0'..=b'9', b'0'..=b'9'])
 }
 
 /// Returns `true` if bytes have a colon before `//`, or a colon that only digits follow.
@@ -96,7 +89,7 @@ fn is_token(bytes: &[u8]) -> bool
 }
 
 /// Returns `true` if a text is a request line, such as `GET / HTTP/1.1`.
-#[tactic(auto, unfolding(crate::specs::Head::is_request_line))]
+#[tactic(auto, unfolding(crate::specs::Start::is_request_line))]
 fn is_request_line(text: &[u8]) -> bool
     ensures { result ≡ is_request_line text.now }
 {
@@ -105,17 +98,27 @@ fn is_request_line(text: &[u8]) -> bool
     is_token(method) && is_target(target) && is_version(version)
 }
 
+/// Returns the kind of a response by its status and what may follow it, such as `200 OK`.
+fn kind_of_status(text: &[u8]) -> Option<Kind>
+    ensures { result ≡ kind_of_status text.now }
+{
+    let (status, _) = split_word(text);
+    if !matches!(status, [b'0'..=b'9', b'0'..=b'9', b'0'..=b'9']) {
+        return None;
+    }
+    if begins(b"1", status) {
+        return Some(Kind::Interim);
+    }
+    Some(Kind::Final)
+}
+
 /// Returns the kind of the head that a text begins, or `None` if the text is no start line.
 pub(crate) fn kind_of(text: &[u8]) -> Option<Kind>
     ensures { result ≡ kind_of text.now }
 {
-    if is_status_line(text) {
-        let is_interim = begins(b"1", split_word(text).1);
-        return Some(if is_interim {
-            Kind::Interim
-        } else {
-            Kind::Final
-        });
+    let (version, rest) = split_word(text);
+    if is_version(version) {
+        return kind_of_status(rest);
     }
     is_request_line(text).then_some(Kind::Request)
 }
@@ -134,12 +137,42 @@ fn from_version(text: &[u8]) -> &[u8]
     rest
 }
 
-/// Returns the kind of the first text that has a status line from its first `HTTP/` on, or `None` if there is no such text.
-pub(crate) fn kind_within(texts: &[&[u8]]) -> Option<Kind>
-    ensures { result ≡ kind_within (map (λ text. text.now) texts.now) }
+/// Returns the kind of a response by the status after a label, or `None` if a text doesn't begin with the label and a status.
+fn kind_after(label: &[u8], text: &[u8]) -> Option<Kind>
+    ensures { result ≡ kind_after label.now text.now }
 {
-    for text in texts {
-        if let Some(kind) = kind_of(from_version(text)) {
+    if !begins(label, text) {
+        return None;
+    }
+    kind_of_status(trim_start(&text[label.len()..]))
+}
+
+/// Returns the kind of a response by a field with its status, such as `Status: 200 OK` or `:status: 200`.
+fn kind_of_field(text: &[u8]) -> Option<Kind>
+    ensures { result ≡ kind_of_field text.now }
+{
+    match kind_after(b"status:", text) {
+        Some(kind) => Some(kind),
+        None => kind_after(b":status:", text),
+    }
+}
+
+/// Returns the kind of a response by a line of pasted fields that has a status line from its first `HTTP/` on, or such a field.
+fn kind_in(line: &[u8]) -> Option<Kind>
+    ensures { result ≡ kind_in line.now }
+{
+    match kind_of(from_version(line)) {
+        Some(kind) => Some(kind),
+        None => kind_of_field(trim_start(line)),
+    }
+}
+
+/// Returns the kind of a response by the first line that tells it, or `None` if no line does.
+pub(crate) fn kind_within(lines: &[&[u8]]) -> Option<Kind>
+    ensures { result ≡ kind_within (map (λ line. line.now) lines.now) }
+{
+    for line in lines {
+        if let Some(kind) = kind_in(line) {
             return Some(kind);
         }
     }

@@ -3,8 +3,14 @@
 use Rattle.mime_headers.proofs.Common.{Bool, Finding, List, None, Some, [], codes, continued, false, field_of, findings_in, first_seen}
 use Rattle.mime_headers.proofs.Common.{flat_map, is_end, is_field, is_start, length, lines_of, map, mark_before, refl, seen, signed}
 use Rattle.mime_headers.proofs.Common.{text_with, true, values_of, without_escapes, without_returns, ℕ, ◌++◌, ◌∷◌, ◌≡◌}
-use Rattle.mime_headers.specs.Head.{Field, escape_len, head, head_of, indent_of, is_folded, is_status_line, is_target, kind_of, next_value}
-use Rattle.mime_headers.specs.Head.{plain_lines, stray, whole_value, begins_sign, is_request_line, is_version, mark_of_fields}
+use Rattle.mime_headers.specs.Field.{Field, next_value}
+use Rattle.mime_headers.specs.Head.{head, head_of}
+use Rattle.mime_headers.specs.Line.{escape_len, indent_of, is_folded}
+use Rattle.mime_headers.specs.Start.{is_target, kind_of}
+use Rattle.mime_headers.specs.Field.{whole_value}
+use Rattle.mime_headers.specs.Head.{stray, mark_of_fields}
+use Rattle.mime_headers.specs.Line.{plain_lines, begins_sign}
+use Rattle.mime_headers.specs.Start.{is_request_line, is_version}
 use Rattle.mime_headers.specs.Report.{findings_read, is_cut, lines_read}
 use Rattle.mime_headers.specs.declared.field.Name.{Name}
 use Rattle.mime_headers.specs.declared.start.Kind.{Kind}
@@ -78,10 +84,10 @@ unfolding is_version
 versions = refl
 
 -- A status line ends after three digits, or goes on with a space.
-status_lines : filter is_status_line
+status_lines : filter is_start
     (lines_of (codes "HTTP/1.1 200 O\nHTTP/2 200 \nHTTP/2 200\nHTTP/2 is.\nHTTP/2 2000\nHTTP/2 20a\nHTTP/2  200"))
     ≡ lines_of (codes "HTTP/1.1 200 O\nHTTP/2 200 \nHTTP/2 200")
-unfolding is_version
+unfolding is_request_line is_token_byte is_version
 status_lines = refl
 
 -- A request-target is a path, `*`, a URI, or a host and a port.
@@ -105,10 +111,11 @@ request_lines = (refl, refl, refl)
 -- A response is interim if its code begins with 1. A head of fields alone has no start line.
 kinds : (map kind_of (lines_of (codes "HTTP/1.1 100 Continue\nHTTP/2 200 1\nGET / HTTP/2\nHTTP/1.1 \n HTTP/2 200"))
     ≡ Some Kind.Interim ∷ Some Kind.Final ∷ Some Kind.Request ∷ None ∷ None ∷ [])
-    × (map (λ lines. (head_of lines).kind) ([] ∷ (codes "Host: a" ∷ []) ∷ (codes "HTTP/2 200" ∷ []) ∷ [])
+    × (map (λ lines. (head_of [] lines lines).kind) ([] ∷ (codes "Host: a" ∷ []) ∷ (codes "HTTP/2 200" ∷ []) ∷ [])
     ≡ Kind.Fields ∷ Kind.Fields ∷ Kind.Final ∷ [])
+    × (map (λ mark. (head_of mark [] []).kind) (codes "<" ∷ codes ">" ∷ codes " " ∷ []) ≡ Kind.Final ∷ Kind.Fields ∷ Kind.Fields ∷ [])
 unfolding is_request_line is_token_byte is_version
-kinds = (refl, refl)
+kinds = (refl, refl, refl)
 
 -- ---- fields
 
@@ -232,7 +239,8 @@ unfolding begins_sign mark_of_fields
 marks_of_fields = (refl, refl)
 
 -- Before the first start line, each block with one of the two fields is a head: a mail, lines that grep finds, fields that are indented. A
--- block without one isn't, and after a start line none is. A block with a status line behind other text is a response.
+-- block without one isn't, and after a start line none is. A block with a status line behind other text, or a field with a status, is a
+-- response.
 pasted : (found false (codes "\n* a\nFrom: b\nCONTENT-TYPE: c/d\n \r\n\r\nx: y\n>\nAccept : e\n")
     ≡ codes "f * a|From: b|CONTENT-TYPE: c/d|\nf Accept : e|\n")
     × (found false (codes "> accept: a/b\n< Accept-Ranges: c\n> d: e\n> \n> accept: f\n") ≡ codes "f accept: a/b|d: e|\nf accept: f|\n")
@@ -241,10 +249,14 @@ pasted : (found false (codes "\n* a\nFrom: b\nCONTENT-TYPE: c/d\n \r\n\r\nx: y\n
     × (found false (codes "Accept: a\nHTTP/2 200\nb\n") ≡ codes "f Accept: a|\nr HTTP/2 200|b|\n")
     × (found false (codes "a\n1.2.3.4: HTTP/2 415\nAccept: b\n\nx GET / HTTP/2\nAccept: c\n\nHTTP/1 HTTP/2 200\nAccept: d\n")
     ≡ codes "r a|1.2.3.4: HTTP/2 415|Accept: b|\nf x GET / HTTP/2|Accept: c|\nf HTTP/1 HTTP/2 200|Accept: d|\n")
+    × (found false (codes "Raw : HTTP/1.1 415 No\n  Accept: a\n  b\n\n* HTTP/2 200\n> Accept: c\n")
+    ≡ codes "r Accept: a|b|\nr Accept: c|\n")
+    × (found false (codes "Accept: a\nStatus: 200 OK\n\nResponse\n :STATUS:100\n Accept: b\n\nx status: 200\nStatus: 2000\nAccept: c\n")
+    ≡ codes "r Accept: a|Status: 200 OK|\ni :STATUS:100|Accept: b|\nf x status: 200|Status: 2000|Accept: c|\n")
     × (found false (codes "HTTP/2 200\n\nAccept: a\n") ≡ codes "r HTTP/2 200|\n! Accept: a\n") × (found false (codes "From: b\n\na: b\n")
     ≡ [])
 unfolding begins_sign is_request_line is_token_byte is_version mark_of_fields
-pasted = (refl, refl, refl, refl, refl, refl, refl, refl)
+pasted = (refl, refl, refl, refl, refl, refl, refl, refl, refl, refl)
 
 -- A line in no head with one of the two fields in plain sight is found, in its place: before heads, skipped within one, the one that ends
 -- it, and after it.

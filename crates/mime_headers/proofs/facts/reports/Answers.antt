@@ -6,7 +6,8 @@ use Rattle.mime_headers.proofs.Common.{flat_map, if◌then◌else◌, is_some, f
 use Rattle.mime_headers.proofs.Common.{row, rules, shown, start, string_bytes, sym, true, without_controls, without_escapes, ℕ, ◌++◌, ◌<◌}
 use Rattle.mime_headers.proofs.Common.{◌==◌, ◌||◌, ◌∙◌, ◌∷◌, ◌≡◌}
 use Rattle.mime.specs.declared.scan.fault.ParseError.TheVariants.{MissingSubtype}
-use Rattle.mime_headers.specs.Head.{Head, head, plain_lines, stray}
+use Rattle.mime_headers.specs.Head.{Head, head, stray}
+use Rattle.mime_headers.specs.Line.{plain_lines}
 use Rattle.mime_headers.specs.Report.{AddsAccept, AddsChoice, AddsEntry, AddsHead, AddsMissing, AddsRequest, AddsResponse, AddsTypes}
 use Rattle.mime_headers.specs.Report.{AddsWeights, HasReading, IsReport, IsReportOf, IsWeighed, Progress, best_row, byte_text, count_row}
 use Rattle.mime_headers.specs.Report.{decider, empty_row, expects_type, fault_rows, is_altered, is_cut, media_rows, numbered, offer_row}
@@ -27,7 +28,7 @@ use Rattle.std.specs.{Fmt.digits, List.list_all, Str.IsUtf8}
 use Rattle.mime.specs.{Bytes.is_token_byte, Grammar.IsWellFormed, Grammar.SyntaxTree, Grammar.no_list, Grammar.text_of, Values.Reads}
 use Rattle.mime.specs.{Values.value_of}
 use Rattle.mime_http.specs.{HttpList.IsPrinted.as_it_stands, Ranges.merit_at, Ranking.IsRanking, Ranking.ranked_as}
-use Rattle.mime_headers.specs.{Head.begins_sign, Head.is_request_line, Head.is_version, Head.mark_of_fields, Program.head_error_text}
+use Rattle.mime_headers.specs.{Line.begins_sign, Start.is_request_line, Start.is_version, Head.mark_of_fields, Program.head_error_text}
 use Rattle.mime_headers.specs.{Report.AddsLines, Report.has_plain_weight, declared.error.HeadError.TheVariants.NoHead}
 use Rattle.mime_headers.specs.{declared.field.Name.TheVariants.Accept, declared.field.Name.TheVariants.ContentType}
 

@@ -1,6 +1,6 @@
--- No text so far has a status line.
+-- No line so far tells the status.
 use Rattle.mime_headers.proofs.Common.{drop, kind_within, map, ◌≡◌}
 use Rattle.mime_headers.proofs.start.kind_within.Given as goal
 
-abbrev pub invariant-loop-text : goal.invariant-loop-text
-invariant-loop-text l = kind_within (map (λ text. text.now) (drop l.text-index l.texts)) ≡ kind_within (map (λ text. text.now) l.fn.texts)
+abbrev pub invariant-loop-line : goal.invariant-loop-line
+invariant-loop-line l = kind_within (map (λ line. line.now) (drop l.line-index l.lines)) ≡ kind_within (map (λ line. line.now) l.fn.lines)
