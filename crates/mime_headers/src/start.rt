@@ -117,6 +117,10 @@ pub(crate) fn kind_of(text: &[u8]) -> Option<Kind>
     ensures { result ≡ kind_of text.now }
 {
     let (version, rest) = split_word(text);
+    // Most lines that aren't start lines have no space: this is only faster.
+    if rest.is_empty() {
+        return None;
+    }
     if is_version(version) {
         return kind_of_status(rest);
     }
@@ -157,11 +161,22 @@ fn kind_of_field(text: &[u8]) -> Option<Kind>
     }
 }
 
+/// Returns the kind of the head that a line begins from its first `HTTP/` on. Most lines don't have it.
+#[tactic(auto, unfolding(crate::specs::Start::is_request_line, crate::specs::Start::is_version))]
+fn kind_from_version(line: &[u8]) -> Option<Kind>
+    ensures { result ≡ kind_of (from_version line.now) }
+{
+    match from_version(line) {
+        [] => None,
+        text => kind_of(text),
+    }
+}
+
 /// Returns the kind of a response by a line of pasted fields that has a status line from its first `HTTP/` on, or such a field.
 fn kind_in(line: &[u8]) -> Option<Kind>
     ensures { result ≡ kind_in line.now }
 {
-    match kind_of(from_version(line)) {
+    match kind_from_version(line) {
         Some(kind) => Some(kind),
         None => kind_of_field(trim_start(line)),
     }
