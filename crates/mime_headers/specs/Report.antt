@@ -58,11 +58,14 @@ abbrev pub byte_text : ℕ → List ℕ
 byte_text b = (if b == 32 then codes " space" else if b == 9 then codes " tab" else if is_ascii_graphic b then 32 ∷ b ∷ [] else [])
     ++ (codes " (" ++ (digits 16 true b ++ (if b == 40 then codes "): HTTP has no comments" else codes ")")))
 
--- the rows of a rejected value of a field: its fault, and the value over a caret at the byte at fault, with this byte, if there is one
+-- the row with a caret at a position of a value, and the byte there, if there is one
+abbrev pub caret_row : List ℕ → ℕ → List ℕ
+caret_row value at = codes "    " ++ (replicate at 32 ++ row (codes "^") (unwrap_or (option_map byte_text (slice_get value at)) []))
+
+-- the rows of a rejected value of a field: its fault, and the value over a caret at the byte at fault
 abbrev pub fault_rows : List ℕ → List ℕ → FieldError → List ℕ
-fault_rows label value error = let at = fault_position value error in
-    row label (field_error_text error) ++ (row (codes "    ") (shown value) ++ (codes "    "
-    ++ (replicate at 32 ++ row (codes "^") (unwrap_or (option_map byte_text (slice_get value at)) []))))
+fault_rows label value error =
+    row label (field_error_text error) ++ (row (codes "    ") (shown value) ++ caret_row value (fault_position value error))
 
 -- ---- Content-Type
 
@@ -70,11 +73,14 @@ fault_rows label value error = let at = fault_position value error in
 abbrev pub row_if : List ℕ → Option (List ℕ) → List ℕ
 row_if label text = unwrap_or (option_map (row label) text) []
 
--- the rows of a media type: its kept text, its essence, any suffix, each parameter with what its value means, and any boundary
+-- the rows of a media type's parameters, each with what its value means
+abbrev pub param_rows : MediaType → List ℕ
+param_rows media = flat_map (λ pair. row (codes "param ") (pair.0 ++ (codes "=" ++ unescaped pair.1))) media.pairs
+
+-- the rows of a media type: its kept text, its essence, any suffix, its parameters, and any boundary
 abbrev pub media_rows : MediaType → Option (List ℕ) → List ℕ
 media_rows media boundary = codes "Content-Type " ++ (media.kept ++ (codes "\nessence " ++ (media.essence ++ (codes "\n"
-    ++ (row_if (codes "suffix ") (suffix_of media) ++ (flat_map (λ pair. row (codes "param ") (pair.0 ++ (codes "=" ++ unescaped pair.1)))
-    media.pairs ++ row_if (codes "boundary ") boundary))))))
+    ++ (row_if (codes "suffix ") (suffix_of media) ++ (param_rows media ++ row_if (codes "boundary ") boundary))))))
 
 -- a media type has this boundary, or none
 abbrev pub BoundaryIs : MediaType → Option (List ℕ) → Type 0

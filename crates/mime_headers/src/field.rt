@@ -1,11 +1,11 @@
 //! The two fields `Content-Type` and `Accept`.
 
-ghost use Rattle.std.specs.Prelude.{◌≡◌, ◌++◌, ◌==◌, ◌&&◌, false, map, nat_lt, option_map, length, IfOk, Some, vec_items};
+ghost use Rattle.std.specs.Prelude.{◌≡◌, ◌++◌, ◌==◌, ◌&&◌, false, true, map, nat_lt, option_map, length, IfOk, Some, vec_items};
 ghost use Rattle.std.specs.List.{before_first, list_all};
 ghost use Rattle.mime.specs.Bytes.{is_token_byte};
 ghost use Rattle.mime_headers.specs.Field.{continued, field_named, field_of, first_seen, is_field, label_of};
 ghost use Rattle.mime_headers.specs.Line.{mark_before};
-ghost use Rattle.mime_headers.specs.Field.{next_value, printed_name, seen, values_of, whole_value};
+ghost use Rattle.mime_headers.specs.Field.{next_value, printed_name, seen, seen_from, values_of, whole_value};
 ghost use Rattle.mime_headers.specs.Inner.{field_now};
 
 use crate::line::{Made, begins, is_folded, signed, trim_start};
@@ -173,11 +173,17 @@ pub(crate) fn values_of(alloc: Global, name: Name, lines: &[&[u8]]) -> Made<Vec<
 pub(crate) fn seen(line: &[u8]) -> Option<Name>
     ensures { result ≡ seen line.now }
 {
-    let shown = line.strip_prefix(b"-").unwrap_or(line);
+    seen_from(line.strip_prefix(b"-").unwrap_or(line))
+}
+
+/// Returns the name of the first of the two fields at the start of a line, or behind a byte other than `-`, `_` and `[`.
+fn seen_from(line: &[u8]) -> Option<Name>
+    ensures { result ≡ seen_from true line.now }
+{
     let mut may = true;
-    for (at, byte) in shown.iter().enumerate() {
+    for (at, byte) in line.iter().enumerate() {
         if may {
-            if let Some(field) = field_of(&shown[at..]) {
+            if let Some(field) = field_of(&line[at..]) {
                 return Some(field.name);
             }
         }

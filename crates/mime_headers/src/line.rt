@@ -1,6 +1,6 @@
 //! The lines of an input, and their marks.
 
-ghost use Rattle.std.specs.Prelude.{◌≡◌, ◌≤◌, ◌==◌, ◌||◌, length, option_map, IfOk};
+ghost use Rattle.std.specs.Prelude.{◌≡◌, ◌≤◌, ◌==◌, ◌||◌, false, length, option_map, IfOk};
 ghost use Rattle.std.specs.{Char.is_ascii_digit, List.prefix_len, Vec.vec_items};
 ghost use Rattle.mime_http.specs.{HttpList.trim_start, Lacks.begins};
 ghost use Rattle.mime_headers.specs.Line.{begins_sign, escape_len, is_folded, is_sign, plain_lines, signed, text_with};
@@ -66,15 +66,23 @@ fn escape_len(bytes: &[u8]) -> usize
     0
 }
 
+/// Returns `true` if one of the bytes is ESC, with which an escape begins. The loop has no early exit, so that several bytes are tested at a
+/// time.
+fn has_escape(bytes: &[u8]) -> bool
+    ensures { result ≡ false → without_escapes bytes.now ≡ bytes.now }
+{
+    let mut found = false;
+    for byte in bytes {
+        found |= *byte == b'\x1B';
+    }
+    found
+}
+
 /// Returns bytes without the escapes with which terminals print colours, such as `ESC [1;31m`.
 pub(crate) fn without_escapes(alloc: Global, bytes: Vec<u8>) -> Made<Vec<u8>>
     ensures { IfOk result (λ plain. vec_items plain ≡ without_escapes (vec_items bytes)) }
 {
-    let mut found = false;
-    for byte in &bytes {
-        found |= *byte == b'\x1B';
-    }
-    if !found {
+    if !has_escape(&bytes) {
         return Ok(bytes);
     }
     let mut plain = Vec::new(alloc);

@@ -62,14 +62,7 @@ fn main(rt: HostRuntime) -> ExitCode {
     let offers = match read_offers(rt.alloc(), arguments) {
         Ok(offers) => offers,
         Err((_, FieldError::NoMemory)) => return stopped(&rt, &RunError::NoMemory),
-        Err((word, error)) => {
-            let shown = without_controls(rt.alloc(), word.into_bytes()).map(String::from_utf8);
-            let Ok(Ok(word)) = shown else {
-                return stopped(&rt, &RunError::NoMemory);
-            };
-            let usage = "usage: mime_headers [--unproved] [OFFER..] <FILE";
-            return stopped(&rt, &format_args!("bad offer {word}: {error}\n{usage}"));
-        }
+        Err((word, error)) => return stopped_by(&rt, word, error),
     };
     let mut input = Device::of(rt.stdin());
     let mut output = Device::of(Output {
@@ -94,6 +87,17 @@ fn status(rt: &impl Eprint, outcome: Result<Verdict, HeadError>) -> ExitCode
         Ok(Verdict::NotAcceptable) => ExitCode::FAILURE,
         Err(error) => stopped(rt, &error),
     }
+}
+
+/// Prints on standard error that an argument isn't an offer, and returns the exit status 2.
+fn stopped_by(rt: &HostRuntime, word: String, error: FieldError) -> ExitCode
+    ensures { exit_status result ≡ 2 }
+{
+    let Ok(Ok(word)) = without_controls(rt.alloc(), word.into_bytes()).map(String::from_utf8) else {
+        return stopped(rt, &RunError::NoMemory);
+    };
+    let usage = "usage: mime_headers [--unproved] [OFFER..] <FILE";
+    stopped(rt, &format_args!("bad offer {word}: {error}\n{usage}"))
 }
 
 /// Prints on standard error why the program stops, and returns the exit status 2.

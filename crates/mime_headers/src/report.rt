@@ -58,6 +58,22 @@ struct Report {
     sent: Option<Mime>,
 }
 
+impl Report {
+    /// Returns what is known before any finding.
+    fn new(alloc: Global) -> Report
+        ensures { state_now result ≡ Spec.start }
+    {
+        Report {
+            text: Vec::new(alloc),
+            are_good: true,
+            choice: None,
+            waiting: 0,
+            asked: None,
+            sent: None,
+        }
+    }
+}
+
 /// Returns the text and the verdict of the report on the heads of an input and on offers. If the input has no head, returns the first line
 /// with a field in plain sight.
 pub(crate) fn report_of(alloc: Global, input: Vec<u8>, offers: &[Mime]) -> Made<Answer>
@@ -69,21 +85,29 @@ pub(crate) fn report_of(alloc: Global, input: Vec<u8>, offers: &[Mime]) -> Made<
     let plain = without_escapes(alloc, input)?;
     let lines = plain_lines(alloc, &plain, is_cut)?;
     let findings = findings_in(alloc, &lines, is_cut)?;
-    let count = head_count(&findings);
+    Ok(match report_on(alloc, &findings, offers, is_cut)? {
+        Some(found) => Ok(found),
+        None => Err(first_seen(&lines)),
+    })
+}
+
+/// Returns the text and the verdict of the report on findings and on offers, or `None` if there is no head. `is_cut` says whether the input
+/// is cut off.
+fn report_on(
+    alloc: Global,
+    findings: &[Finding],
+    offers: &[Mime],
+    is_cut: bool,
+) -> Made<Option<(Vec<u8>, Verdict)>>
+    ensures { IfOk result (λ answer. MatchOption answer (heads_of (map finding_now findings.now) ≡ [])
+        (λ found. Spec.IsReport (medias offers.now) is_cut (map finding_now findings.now) (vec_items found.0) found.1)) }
+{
+    let count = head_count(findings);
     if count == 0 {
-        return Ok(Err(first_seen(&lines)));
+        return Ok(None);
     }
-    let mut report = Report {
-        text: Vec::new(alloc),
-        are_good: true,
-        choice: None,
-        waiting: 0,
-        asked: None,
-        sent: None,
-    };
-    for finding in &findings {
-        push_finding(&mut report, offers, count > 1, finding)?;
-    }
+    let mut report = Report::new(alloc);
+    push_findings(&mut report, offers, count > 1, findings)?;
     push_missing(&mut report, offers)?;
     push_shown(
         &mut report.text,
@@ -92,7 +116,7 @@ pub(crate) fn report_of(alloc: Global, input: Vec<u8>, offers: &[Mime]) -> Made<
         b"1048576 bytes",
     )?;
     let verdict = verdict_of(&report);
-    Ok(Ok((without_controls(alloc, report.text)?, verdict)))
+    Ok(Some((without_controls(alloc, report.text)?, verdict)))
 }
 
 /// Returns the number of heads.
@@ -116,6 +140,17 @@ fn verdict_of(report: &Report) -> Verdict
         return Verdict::Acceptable;
     }
     Verdict::NotAcceptable
+}
+
+/// Adds the rows of each finding. `many` says whether there are several heads.
+fn push_findings(report: &mut Report, offers: &[Mime], many: bool, findings: &[Finding]) -> Made<()>
+    ensures { OnOk result (FoldsTo (Spec.AddsFinding (medias offers.now) many) (state_now report.old)
+        (map finding_now findings.now) (state_now report.new)) }
+{
+    for finding in findings {
+        push_finding(report, offers, many, finding)?;
+    }
+    Ok(())
 }
 
 /// Adds the rows of a finding. `many` says whether there are several heads.
@@ -503,13 +538,21 @@ fn push_media(text: &mut Vec<u8>, mime: &Mime) -> Made<()>
     push_if(text, b"essence ", Some(mime.essence_str().as_bytes()))?;
     let suffix = mime.suffix().map(|suffix| suffix.as_str().as_bytes());
     push_if(text, b"suffix ", suffix)?;
+    push_params(text, mime)?;
+    let boundary = boundary(*text.allocator(), mime)?;
+    push_if(text, b"boundary ", boundary.as_deref())?;
+    Ok(())
+}
+
+/// Adds the rows of the parameters of a media type.
+fn push_params(text: &mut Vec<u8>, mime: &Mime) -> Made<()>
+    ensures { OnOk result (vec_items text.new ≡ vec_items text.old ++ Spec.param_rows mime.now.media) }
+{
     for (name, value) in mime.params() {
         push(text, &[b"param ", name.as_str().as_bytes(), b"="])?;
         unescape(value.as_str(), text)?;
         text.push(b'\n')?;
     }
-    let boundary = boundary(*text.allocator(), mime)?;
-    push_if(text, b"boundary ", boundary.as_deref())?;
     Ok(())
 }
 
@@ -521,7 +564,13 @@ fn push_fault(text: &mut Vec<u8>, label: &[u8], value: &[u8], error: FieldError)
     let said = format!(in *text.allocator(); "{error}")?;
     push(text, &[label, said.as_bytes(), b"\n"])?;
     push_shown(text, true, b"    ", value)?;
-    let at = error.position(value);
+    push_caret(text, value, error.position(value))
+}
+
+/// Adds the row with a caret at a position of a value, and the byte there, if there is one.
+fn push_caret(text: &mut Vec<u8>, value: &[u8], at: usize) -> Made<()>
+    ensures { OnOk result (vec_items text.new ≡ vec_items text.old ++ Spec.caret_row value.now at) }
+{
     push(text, &[b"    "])?;
     for _ in 0..at {
         text.push(b' ')?;

@@ -1,6 +1,6 @@
 //! The report without control characters, as a terminal can print it.
 
-ghost use Rattle.std.specs.Prelude.{◌≡◌, IfOk};
+ghost use Rattle.std.specs.Prelude.{◌≡◌, IfOk, false};
 ghost use Rattle.std.specs.Vec.{vec_items};
 ghost use Rattle.mime_headers.specs.Shown.{control_len, without_controls};
 
@@ -19,20 +19,27 @@ fn control_len(bytes: &[u8]) -> usize
     }
 }
 
-/// Returns bytes with a dot in place of each control character.
-pub(crate) fn without_controls(alloc: Global, bytes: Vec<u8>) -> Result<Vec<u8>, AllocError>
-    ensures { IfOk result (λ text. vec_items text ≡ without_controls (vec_items bytes)) }
+/// Returns `true` if one of the bytes may begin a control character, as in few reports. The loop has no early exit, so that several bytes are
+/// tested at a time.
+fn may_have_controls(bytes: &[u8]) -> bool
+    ensures { result ≡ false → without_controls bytes.now ≡ bytes.now }
 {
-    // Most reports have no byte that may begin a control character. The loop has no early exit, so that several bytes are tested at a time.
     let mut found = false;
-    for byte in &bytes {
+    for byte in bytes {
         found |= (*byte < 32 && *byte != b'\n')
             || *byte == 127
             || *byte == 0xC2
             || *byte == 0xD8
             || *byte == 0xE2;
     }
-    if !found {
+    found
+}
+
+/// Returns bytes with a dot in place of each control character.
+pub(crate) fn without_controls(alloc: Global, bytes: Vec<u8>) -> Result<Vec<u8>, AllocError>
+    ensures { IfOk result (λ text. vec_items text ≡ without_controls (vec_items bytes)) }
+{
+    if !may_have_controls(&bytes) {
         return Ok(bytes);
     }
     let mut text = Vec::new(alloc);
