@@ -18,7 +18,6 @@ NEEDS_NOTHING = re.compile(r"tools/(docs|gate|mutation_test)\b")
 # About how many seconds it takes to find that a function is wrong, if it takes long: its contract has many clauses, or a search is long.
 SLOW = {
     "mime_headers::program::run": 26,
-    "mime_headers::report::push_fault": 30,
     "mime_headers::report::push_response": 17,
     "mime_lines::program::run": 45,
 }

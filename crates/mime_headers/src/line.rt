@@ -66,8 +66,8 @@ fn escape_len(bytes: &[u8]) -> usize
     0
 }
 
-/// Returns `true` if one of the bytes is ESC, with which an escape begins. The loop has no early exit, so that several bytes are tested at a
-/// time.
+/// Returns `true` if one of the bytes is ESC, with which an escape begins. The loop has no early exit, so that several bytes are tested at
+/// a time.
 fn has_escape(bytes: &[u8]) -> bool
     ensures { result ≡ false → without_escapes bytes.now ≡ bytes.now }
 {

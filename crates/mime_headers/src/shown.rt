@@ -19,8 +19,8 @@ fn control_len(bytes: &[u8]) -> usize
     }
 }
 
-/// Returns `true` if one of the bytes may begin a control character, as in few reports. The loop has no early exit, so that several bytes are
-/// tested at a time.
+/// Returns `true` if one of the bytes may begin a control character, as in few reports. The loop has no early exit, so that several bytes
+/// are tested at a time.
 fn may_have_controls(bytes: &[u8]) -> bool
     ensures { result ≡ false → without_controls bytes.now ≡ bytes.now }
 {

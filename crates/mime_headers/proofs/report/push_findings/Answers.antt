@@ -1,5 +1,5 @@
 -- The next finding is added, and so all are.
-use Rattle.mime_headers.proofs.Common.{FoldsTo-push, arith, finding_now, map_more, take_all}
+use Rattle.mime_headers.proofs.Common.{FoldsTo-push, finding_now, map_more}
 use Rattle.mime_headers.proofs.report.push_findings.Goals as goal
 
 pub loop-finding-preserved : goal.loop-finding-preserved

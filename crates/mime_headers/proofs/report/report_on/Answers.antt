@@ -1,5 +1,5 @@
 -- The findings are added.
-use Rattle.mime_headers.proofs.Common.{length, rules, state_now, tests, ◌<◌}
+use Rattle.mime_headers.proofs.Common.{rules, state_now, tests, ◌<◌}
 use Rattle.mime_headers.proofs.report.report_on.Goals as goal
 
 pub returns : goal.returns
