@@ -11,9 +11,9 @@ REPEATED = (
     (r"\b([0-9a-f]{16})\b", "README.md", "tools/commands.py"),
     (r"(\d+ GB) of disk and (\S+ GB) of memory", "README.md", "tools/commands.py"),
     (r"rustc (\S+) or later", "README.md", "include/README.in"),
-    (r"in about (\d+) minutes on four", "README.md", "CONTRIBUTING.md", "check"),
-    (r"in (\d+ to \d{3}) minutes", "README.md", "CONTRIBUTING.md", "check"),
-    (r"in (\d+ to \d+) minutes on four cores", "README.md", "mime_headers"),
+    (r"in (\d\d to \d+) minutes on four cores", "README.md", "CONTRIBUTING.md", "check"),
+    (r"in (\d+ to \d+) minutes[.,]", "README.md", "CONTRIBUTING.md", "check"),
+    (r"in (\d to \d+) minutes on four cores", "README.md", "mime_headers"),
     (r"(\d+ to \d+)(?: minutes)? on two", "README.md", "mime_lines"),
     (r"\b(\d+) constant names", "docs/RULES.md", "docs/LAWS.md"),
 )
