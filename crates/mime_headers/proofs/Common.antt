@@ -21,8 +21,8 @@ pub use Rattle.mime_http.specs.{Unescaped.unescaped, declared.value.FieldError.F
 pub use Rattle.mime_io.specs.{Lines.lines_of, Lines.row}
 pub use Rattle.std.proofs.Common.{Bool, Err, List, None, Ok, Option, Result, Some, String, [], ap, append-nil, append_assoc, arith, codes}
 pub use Rattle.std.proofs.Common.{drop, drop_of_length-le, false, flat_map, if◌then◌else◌, is_none, is_some, length, map, option_map, refl}
-pub use Rattle.std.proofs.Common.{replicate, rules, slice_get, string_bytes, sym, take, true, vec_items, vec_len, nat_lt, ℕ, ◌++◌, ◌+◌}
-pub use Rattle.std.proofs.Common.{◌-◌, ◌<◌, ◌==◌, ◌||◌, ◌&&◌, ◌∙◌, ◌∷◌, ◌≡◌, ◌≤◌}
+pub use Rattle.std.proofs.Common.{replicate, rules, slice_get, string_bytes, subst, sym, take, true, vec_items, vec_len, nat_lt, ℕ, ◌++◌}
+pub use Rattle.std.proofs.Common.{◌+◌, ◌-◌, ◌<◌, ◌==◌, ◌||◌, ◌&&◌, ◌∙◌, ◌∷◌, ◌≡◌, ◌≤◌}
 pub use Rattle.std.proofs.lemmas.Fn.{FoldsTo-push}
 pub use Rattle.std.proofs.lemmas.List.{length-map, map-append, map_more, take_all}
 pub use Rattle.std.proofs.lemmas.List.Folds.{flat_map-map}

@@ -1,5 +1,5 @@
 -- The two fields, as lines have them (RFC 9110, 5.5 and 5.6.3; RFC 9112, 5).
-use Rattle.std.specs.Prelude.{ℕ, ◌+◌, ◌-◌, Bool, true, List, [], ◌∷◌, ◌++◌, ◌==◌, ◌||◌, ◌&&◌, not, nat_lt, drop, length, Option, Some, None}
+use Rattle.std.specs.Prelude.{ℕ, ◌+◌, Bool, true, List, [], ◌∷◌, ◌++◌, ◌==◌, ◌||◌, ◌&&◌, not, nat_lt, drop, length, Option, Some, None}
 use Rattle.std.specs.Prelude.{option_and_then, option_map, is_some, if◌then◌else◌, codes}
 use Rattle.std.specs.List.{list_all, cons_option, slice_index, before_first}
 use Rattle.std.specs.Option.{option_or}

@@ -1,5 +1,5 @@
 -- The heads of an input, and the lines in no head (RFC 9112, 2). docs/RULES.md says the same in words.
-use Rattle.std.specs.Prelude.{ℕ, ◌+◌, ◌-◌, Bool, true, false, List, [], ◌∷◌, ◌++◌, ◌==◌, ◌||◌, ◌&&◌, not, nat_lt, map, filter, length}
+use Rattle.std.specs.Prelude.{ℕ, ◌-◌, Bool, true, false, List, [], ◌∷◌, ◌++◌, ◌==◌, ◌||◌, ◌&&◌, not, nat_lt, map, filter, length}
 use Rattle.std.specs.Prelude.{Option, Some, None, option_and_then, option_map, is_none, is_some, unwrap_or, if◌then◌else◌}
 use Rattle.std.specs.List.{list_any, filter_map, slice_get, before_first}
 use Rattle.std.specs.{Option.option_or, Str.bytes_eq}

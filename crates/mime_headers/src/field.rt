@@ -1,6 +1,7 @@
 //! The two fields `Content-Type` and `Accept`.
 
-ghost use Rattle.std.specs.Prelude.{◌≡◌, ◌++◌, ◌==◌, ◌&&◌, false, true, map, nat_lt, option_map, length, IfOk, Some, vec_items};
+ghost use Rattle.std.specs.Prelude.{◌≡◌, ◌++◌, ◌==◌, ◌&&◌, ◌∷◌, ℕ, List, false, true, map, nat_lt, option_and_then, option_map, length};
+ghost use Rattle.std.specs.Prelude.{IfOk, Some, vec_items};
 ghost use Rattle.std.specs.List.{before_first, list_all};
 ghost use Rattle.mime.specs.Bytes.{is_token_byte};
 ghost use Rattle.mime_headers.specs.Field.{continued, field_named, field_of, first_seen, is_field, label_of};
@@ -80,14 +81,25 @@ fn field_named(name: Name, line: &[u8]) -> Option<Field<'_>>
     })
 }
 
-/// Returns a line as one of the two fields, or `None` if it is neither.
+/// Returns the name of the two that may begin with this byte.
+fn name_from(byte: u8) -> Option<Name>
+    ensures { (rest : List ℕ) → field_of (byte ∷ rest) ≡ option_and_then (λ name. field_named name (byte ∷ rest)) result }
+{
+    match byte {
+        b'A' | b'a' => Some(Name::Accept),
+        b'C' | b'c' => Some(Name::ContentType),
+        _ => None,
+    }
+}
+
+/// Returns a line as one of the two fields, or `None` if it is neither. The first byte is tested first, since `seen_from` calls this
+/// function at most bytes of a line.
+#[inline(always)]
 pub(crate) fn field_of(line: &[u8]) -> Option<Field<'_>>
     ensures { option_map field_now result ≡ field_of line.now }
 {
-    match field_named(Name::ContentType, line) {
-        Some(field) => Some(field),
-        None => field_named(Name::Accept, line),
-    }
+    let (first, _rest) = line.split_first()?;
+    field_named(name_from(*first)?, line)
 }
 
 /// Returns `true` if a line is one of the two fields.

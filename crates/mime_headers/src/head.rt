@@ -110,7 +110,9 @@ fn mark_of_fields<'a>(lines: &[&'a [u8]]) -> Option<&'a [u8]>
         if is_field(line) {
             return Some(&[]);
         }
-        mark = mark.or(field_mark(line));
+        if mark.is_none() {
+            mark = field_mark(line);
+        }
     }
     mark
 }
