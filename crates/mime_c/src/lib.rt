@@ -144,10 +144,7 @@ fn read(alloc: Global, text: &[u8]) -> Result<Mime, FieldError>
 {
     let text = match text_of(text) {
         Ok(text) => text,
-        Err(error) => {
-            let pos = error.valid_up_to();
-            return Err(FieldError::NotUtf8 { pos });
-        }
+        Err(pos) => return Err(FieldError::NotUtf8 { pos }),
     };
     match Mime::from_str(alloc, text) {
         Ok(mime) => Ok(mime),
@@ -162,7 +159,7 @@ fn copy(out: &mut [u8], at: usize, bytes: &[u8]) -> usize
     ensures writes { Writes out.old at bytes.now out.new result }
 {
     let end = at + bytes.len();
-    mime_search::copy_bytes(&mut out[at..end], bytes);
+    mime_search::copy_text(&mut out[at..end], bytes);
     end
 }
 

@@ -215,10 +215,7 @@ pub fn content_type(alloc: Global, value: &[u8]) -> Result<Mime, FieldError>
 {
     let text = match text_of(value) {
         Ok(text) => text,
-        Err(error) => {
-            let pos = error.valid_up_to();
-            return Err(FieldError::NotUtf8 { pos });
-        }
+        Err(pos) => return Err(FieldError::NotUtf8 { pos }),
     };
     match Mime::from_str(alloc, trimmed(text)) {
         Ok(mime) => Ok(mime),

@@ -33,11 +33,29 @@ fn copy_few(out: &mut [u8], bytes: &[u8])
     requires few { length bytes.now < 8 }
     ensures { out.new ≡ bytes.now }
 {
-    match bytes.len() {
-        0 => {}
-        1 => out[0] = bytes[0],
-        2..=3 => copy_ends::<2>(out, bytes),
-        _ => copy_ends::<4>(out, bytes),
+    // Most names and values have at least 4 bytes.
+    if bytes.len() >= 4 {
+        copy_ends::<4>(out, bytes);
+    } else if bytes.len() >= 2 {
+        copy_ends::<2>(out, bytes);
+    } else if bytes.len() == 1 {
+        out[0] = bytes[0];
+    }
+}
+
+/// Copies `bytes`, at least 16, to `out`.
+#[inline(always)]
+fn copy_blocks(out: &mut [u8], bytes: &[u8])
+    requires same { length out.old ≡ length bytes.now }
+    requires block { 16 ≤ length bytes.now }
+    ensures { out.new ≡ bytes.now }
+{
+    if bytes.len() < 32 {
+        copy_ends::<16>(out, bytes);
+    } else if bytes.len() <= 64 {
+        copy_ends::<32>(out, bytes);
+    } else {
+        copy_long(out, bytes);
     }
 }
 
@@ -52,11 +70,21 @@ pub fn copy_bytes(out: &mut [u8], bytes: &[u8])
         copy_few(out, bytes);
     } else if bytes.len() < 16 {
         copy_ends::<8>(out, bytes);
-    } else if bytes.len() < 32 {
-        copy_ends::<16>(out, bytes);
-    } else if bytes.len() <= 64 {
-        copy_ends::<32>(out, bytes);
     } else {
-        copy_long(out, bytes);
+        copy_blocks(out, bytes);
+    }
+}
+
+/// Copies `bytes` to `out`, which must have the same length. Unlike `copy_bytes`, this function needs fewer instructions for 16 bytes or
+/// more, as most media types have, than for fewer than 8, as most parameters have.
+#[inline(always)]
+pub fn copy_text(out: &mut [u8], bytes: &[u8])
+    requires { length out.old ≡ length bytes.now }
+    ensures { out.new ≡ bytes.now }
+{
+    if bytes.len() < 16 {
+        copy_bytes(out, bytes);
+    } else {
+        copy_blocks(out, bytes);
     }
 }

@@ -14,7 +14,7 @@ mod start;
 mod text;
 
 pub use crate::class::{BLOCK, Class, Range, TEXT_STOPS, TOKEN_STOPS};
-pub use crate::copy::copy_bytes;
+pub use crate::copy::{copy_bytes, copy_text};
 pub use crate::differing::difference_from;
 pub use crate::ignoring_case::{eq_ignore_ascii_case, first_difference_ignoring_case};
 pub use crate::quoted::{content_end, copy_meant};

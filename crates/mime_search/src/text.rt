@@ -1,11 +1,10 @@
 //! Converts bytes to a string.
 
-ghost use Rattle.std.specs.Prelude.{◌≡◌, ◌+◌, ◌<◌, ◌≤◌, IsTrue, MatchResult, length};
-ghost use Rattle.std.specs.Str.{IsAscii, IsUtf8, IsValidUpTo, valid_up_to};
+ghost use Rattle.std.specs.Prelude.{◌≡◌, ◌≢◌, ◌+◌, ◌<◌, ◌≤◌, IsTrue, MatchResult, length};
+ghost use Rattle.std.specs.Str.{IsAscii, IsUtf8, IsValidUpTo};
 
 use crate::class::{BLOCK, Class, Range};
 use crate::search::stops_in_block;
-use std::str::Utf8Error;
 
 /// The maximum length of a string that `[u8]::is_ascii` tests without a loop, in bytes.
 const QUICK: usize = 64;
@@ -58,11 +57,11 @@ fn is_ascii(bytes: &[u8]) -> bool
     if len < BLOCK {
         return bytes.is_ascii();
     }
-    if len > QUICK {
-        return is_long_ascii(bytes);
-    }
     if len <= 2 * BLOCK {
         return are_blocks_ascii(bytes);
+    }
+    if len > QUICK {
+        return is_long_ascii(bytes);
     }
     // The first two blocks and the last two may overlap.
     if !are_blocks_ascii(&bytes[..2 * BLOCK]) {
@@ -71,28 +70,32 @@ fn is_ascii(bytes: &[u8]) -> bool
     are_blocks_ascii(&bytes[len - 2 * BLOCK..])
 }
 
-/// Converts bytes to a string as `str::from_utf8` does. The result is matched and made anew, so that the caller reserves no stack for it if
-/// the bytes are ASCII.
-#[inline(always)]
-fn text_of_any(bytes: &[u8]) -> Result<&str, Utf8Error>
-    ensures cases { MatchResult result (λ text. (text.now ≡ bytes.now) × IsUtf8 bytes.now)
-        (λ error. ¬ (IsUtf8 bytes.now) × IsValidUpTo bytes.now (valid_up_to error)) }
+/// Returns the length of the longest prefix that is valid UTF-8, in bytes. This function isn't inlined: most strings are ASCII.
+#[cold]
+#[inline(never)]
+fn valid_up_to(bytes: &[u8]) -> usize
+    ensures valid { result ≡ length bytes.now → IsUtf8 bytes.now }
+    ensures invalid { result ≢ length bytes.now → ¬ (IsUtf8 bytes.now) × IsValidUpTo bytes.now result }
 {
     match str::from_utf8(bytes) {
-        Ok(text) => Ok(text),
-        Err(error) => Err(error),
+        Ok(text) => text.len(),
+        Err(error) => error.valid_up_to(),
     }
 }
 
-/// Converts bytes to a string as `str::from_utf8` does, but faster for ASCII, which most texts are.
+/// Converts bytes to a string as `str::from_utf8` does, but faster for ASCII, which most texts are. An error is the length of the longest
+/// prefix that is valid UTF-8, in bytes.
 #[inline(always)]
-pub fn text_of(bytes: &[u8]) -> Result<&str, Utf8Error>
+pub fn text_of(bytes: &[u8]) -> Result<&str, usize>
     ensures cases { MatchResult result (λ text. (text.now ≡ bytes.now) × IsUtf8 bytes.now)
-        (λ error. ¬ (IsUtf8 bytes.now) × IsValidUpTo bytes.now (valid_up_to error)) }
+        (λ valid. ¬ (IsUtf8 bytes.now) × IsValidUpTo bytes.now valid) }
 {
-    if is_ascii(bytes) {
-        // SAFETY: ASCII is UTF-8.
-        return Ok(unsafe { str::from_utf8_unchecked(bytes) });
+    if !is_ascii(bytes) {
+        let valid = valid_up_to(bytes);
+        if valid != bytes.len() {
+            return Err(valid);
+        }
     }
-    text_of_any(bytes)
+    // SAFETY: the bytes are valid UTF-8.
+    Ok(unsafe { str::from_utf8_unchecked(bytes) })
 }
