@@ -5,24 +5,26 @@
 //! answers. include/mime.h describes them in plain words.
 #![tactic(auto)]
 
-ghost use Rattle.std.specs.Prelude.{◌≡◌, ◌+◌, ◌<◌, ◌≤◌, [], ◌∷◌, length, IfOk, IfErr, IsOk};
+ghost use Rattle.std.specs.Prelude.{◌≡◌, ◌+◌, ◌*◌, ◌<◌, ◌≤◌, [], ◌∷◌, length, IfOk, IfErr, IsOk};
 ghost use Rattle.std.specs.Str.{IsUtf8};
 ghost use Rattle.mime.specs.Values.{Reads};
+ghost use Rattle.mime.specs.Faults.{Explains};
 ghost use Rattle.mime.specs.CutLaws.{IsRead};
 ghost use Rattle.mime_c.specs.Strings.{string_of, strings, parts_of, texts_of, overwritten};
 ghost use Rattle.mime_c.specs.Writing.{Writes};
 ghost use Rattle.mime_c.specs.Answers.{number_of, number_of_error, found_of_error, found_of, TextExplains, ReadsTo, ListsTo, Compares};
-ghost use Rattle.mime_http.specs.HttpList.{Header, IsHeader};
+ghost use Rattle.mime_c.specs.Answers.{AreWritten};
+ghost use Rattle.mime_http.specs.{HttpFaults.HttpExplains, HttpList.trimmed, HttpList.Header, HttpList.IsHeader};
 ghost use Rattle.mime_http.specs.Ranges.{weight_of};
 ghost use Rattle.mime_http.specs.Weight.{four_digits};
-ghost use Rattle.mime_c.specs.HeaderAnswers.{HeaderReadsTo, range_texts, AcceptsTo, header_lines, HaveNoEntry};
+ghost use Rattle.mime_c.specs.HeaderAnswers.{HeaderReadsTo, OfValue, range_texts, AcceptsTo, header_lines, HaveNoEntry};
 ghost use Rattle.mime_c.specs.HeaderAnswers.{OfOffers, BestIs, OrderIs};
 
 pub mod laws;
 mod parameter;
 
 use mime::{Bad, Mime, MimeIter, ParseError};
-use mime_http::{Accept, FieldError, content_type, weight_of};
+use mime_http::{Accept, FieldError, content_type_after, trimmed_text, weight_of};
 use mime_search::text_of;
 use std::alloc::{AllocError, Global};
 
@@ -136,15 +138,27 @@ fn found_of_error(error: &FieldError) -> MimeFound
     }
 }
 
+/// Converts a text or a header's value to a string.
+#[inline(always)]
+fn string(text: &[u8]) -> Result<&str, FieldError>
+    ensures text { IfOk result (λ string. IsUtf8 text.now × (string.now ≡ text.now)) }
+    ensures explained { IfErr result (λ error. TextExplains text.now error × HttpExplains text.now error) }
+{
+    match text_of(text) {
+        Ok(string) => Ok(string),
+        Err(pos) => Err(FieldError::NotUtf8 { pos }),
+    }
+}
+
 /// Reads the whole of a text as one media type.
 #[inline(always)]
 fn read(alloc: Global, text: &[u8]) -> Result<Mime, FieldError>
     ensures read { IfOk result (λ mime. IsUtf8 text.now × Reads text.now mime.media) }
     ensures explained { IfErr result (λ error. TextExplains text.now error) }
 {
-    let text = match text_of(text) {
+    let text = match string(text) {
         Ok(text) => text,
-        Err(pos) => return Err(FieldError::NotUtf8 { pos }),
+        Err(error) => return Err(error),
     };
     match Mime::from_str(alloc, text) {
         Ok(mime) => Ok(mime),
@@ -176,6 +190,7 @@ fn put(out: &mut [u8], at: usize, text: &str) -> usize
 }
 
 /// Writes the parts of a media type at a position, and returns the position after them.
+#[inline(always)]
 fn put_parts(out: &mut [u8], at: usize, mime: &Mime) -> usize
     requires { at + length (strings (parts_of mime.now.media)) ≤ length out.old }
     ensures { Writes out.old at (strings (parts_of mime.now.media)) out.new result }
@@ -188,24 +203,54 @@ fn put_parts(out: &mut [u8], at: usize, mime: &Mime) -> usize
     end
 }
 
-/// Writes the strings of a media type to the start of `out`, and returns what is found.
+/// Writes the strings of a media type to the start of `out`, and sets what is found.
 #[inline(always)]
-fn put_texts(out: &mut [u8], mime: &Mime) -> MimeFound
+fn put_texts(out: &mut [u8], found: &mut MimeFound, mime: &Mime)
     requires read { IsRead mime.now.media }
     requires room { length (strings (texts_of mime.now.media)) ≤ length out.old }
     ensures bytes { out.new ≡ overwritten (strings (texts_of mime.now.media)) out.old }
-    ensures found { result ≡ found_of mime.now.media }
+    ensures found { found.new ≡ found_of mime.now.media }
 {
-    let (count, _) = mime.params().size_hint();
-    let slash = mime.type_().as_str().len();
     let printed = put_parts(out, 0, mime);
-    MimeFound {
-        length: put(out, printed, mime.as_str()),
-        params: count,
-        printed,
-        slash,
-        subtype_end: slash + 1 + mime.subtype().as_str().len(),
-        ..NOTHING
+    // Each field is set by itself, which takes less than setting the whole struct.
+    found.length = put(out, printed, mime.as_str());
+    found.params = mime.params().size_hint().0;
+    found.printed = printed;
+    found.slash = mime.type_().as_str().len();
+    found.subtype_end = found.slash + 1 + mime.subtype().as_str().len();
+    found.pos = 0;
+    found.byte = 0;
+}
+
+/// Sets `found` for an error in reading a text or a header's value, and returns its answer.
+fn put_error(found: &mut MimeFound, error: &FieldError) -> u32
+    ensures answer { result ≡ number_of_error error.now }
+    ensures found { found.new ≡ found_of_error error.now }
+{
+    *found = found_of_error(error);
+    number_of_error(error)
+}
+
+/// Reads a value that `mime` rejects with this fault, and writes what `mime_content_type` writes. This function isn't inlined, so that the
+/// code for values that `mime` accepts stays short.
+#[inline(never)]
+fn put_after(
+    alloc: Global,
+    value: &str,
+    fault: ParseError,
+    out: &mut [u8],
+    found: &mut MimeFound,
+) -> u32
+    requires fault { Explains (trimmed value.now) fault }
+    requires room { 3 * length value.now + 2 ≤ length out.old }
+    ensures { OfValue value.now (λ found. (out.old, found)) (AreWritten out.old) result (out.new, found.new) }
+{
+    match content_type_after(alloc, value, fault) {
+        Ok(mime) => {
+            put_texts(out, found, &mime);
+            MIME_OK
+        }
+        Err(error) => put_error(found, &error),
     }
 }
 
@@ -225,15 +270,16 @@ pub extern "C" fn mime_read(
         *found = NOTHING;
         return MIME_NO_ROOM;
     }
-    match read(alloc, text) {
+    let text = match string(text) {
+        Ok(text) => text,
+        Err(error) => return put_error(found, &error),
+    };
+    match Mime::from_str(alloc, text) {
         Ok(mime) => {
-            *found = put_texts(out, &mime);
+            put_texts(out, found, &mime);
             MIME_OK
         }
-        Err(error) => {
-            *found = found_of_error(&error);
-            number_of_error(&error)
-        }
+        Err(error) => put_error(found, &FieldError::Invalid(*error.fault())),
     }
 }
 
@@ -253,15 +299,16 @@ pub extern "C" fn mime_content_type(
         *found = NOTHING;
         return MIME_NO_ROOM;
     }
-    match content_type(alloc, value) {
+    let text = match string(value) {
+        Ok(text) => text,
+        Err(error) => return put_error(found, &error),
+    };
+    match Mime::from_str(alloc, trimmed_text(text)) {
         Ok(mime) => {
-            *found = put_texts(out, &mime);
+            put_texts(out, found, &mime);
             MIME_OK
         }
-        Err(error) => {
-            *found = found_of_error(&error);
-            number_of_error(&error)
-        }
+        Err(error) => put_after(alloc, text, *error.fault(), out, found),
     }
 }
 

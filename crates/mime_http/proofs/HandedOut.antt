@@ -7,8 +7,9 @@ pub use Rattle.mime_http.proofs.Contents.{content_of_escaped, unescaped_is}
 pub use Rattle.mime_http.proofs.Cuts.{one_cut, only_cut}
 -- A header's value that is a media type has no error, and any other has one.
 pub use Rattle.mime_http.proofs.FieldErrors.{no_field_error, one_field_error}
--- The laws of a header's value: it is one media type, of which one text is printed, which is read as it, also what is written anew.
-pub use Rattle.mime_http.proofs.HttpLaws.{one_printed_text, printed_is_read, same_anew, written_reads}
+-- The laws of a header's value: it is one media type, of which one text is printed, which is read as it, also what is written anew. What
+-- the library reads is printed as it stands.
+pub use Rattle.mime_http.proofs.HttpLaws.{one_printed_text, printed_is_read, same_anew, stands, written_reads}
 -- A text is a media type or isn't, and so each line has one header, with one first bad entry if an entry is bad.
 pub use Rattle.mime_http.proofs.Lists.{utf8_or_not, read_or_not, header_of, one_header, one_first_bad, http_is_not_blank}
 -- Offers have one order and one ranking; what weighs something is an offer.

@@ -9,7 +9,7 @@ ghost use Rattle.mime_http.specs.LineCut.{cut, pieces_of, Takes, nothing_held, w
 
 use crate::list::{piece_end, trimmed};
 use crate::offers::{best_of, merit, order_of};
-use crate::value::{FieldError, read_rejected};
+use crate::value::{FieldError, content_type_after};
 use mime::{Mime, ParseError};
 use mime_search::text_of;
 use std::alloc::{AllocError, Global};
@@ -126,7 +126,7 @@ impl Reading {
     {
         // SAFETY: the trimmed piece is UTF-8, and the white space around it is ASCII.
         let text = unsafe { str::from_utf8_unchecked(piece) };
-        match read_rejected(alloc, text, fault) {
+        match content_type_after(alloc, text, fault) {
             Ok(range) => self.take(range),
             Err(error) => match error {
                 FieldError::NoMemory => Err(AllocError),

@@ -6,6 +6,9 @@
 //! [`with_parameter`], [`with_charset`] and [`with_boundary`] write parameters. [`first_value`], [`boundary`] and [`unescape`] read them.
 //! [`laws`] states facts about all values.
 //!
+//! [`content_type`] takes two steps, which a program can also take by itself: it calls [`Mime::from_str`] on the [`trimmed_text`], and goes
+//! on with [`content_type_after`] if that is rejected.
+//!
 //! Some calls explain a choice to a person, as the program `mime_headers` does. [`rank_offers`] returns the range that decides each weight,
 //! and [`lacked`] the parameter that keeps a range from deciding. [`first_entry`] and [`trimmed`] cut a line into its entries, so that a
 //! report shows each. [`has_valid_weight`] and [`has_quoted_weight`] test whether HTTP allows an entry's `q`.
@@ -71,4 +74,4 @@ pub use crate::parameter::{with_boundary, with_charset, with_parameter};
 pub use crate::quoted::unescape;
 pub use crate::range::{covers, first_value, weight_of};
 pub use crate::ranking::{RankedOffer, first_entry, has_valid_weight, rank_offers};
-pub use crate::value::{FieldError, content_type};
+pub use crate::value::{FieldError, content_type, content_type_after, trimmed_text};

@@ -10,7 +10,7 @@ ghost use Rattle.mime_http.specs.HttpList.{trimmed, IsPrinted};
 ghost use Rattle.mime_http.specs.HttpFaults.{HttpExplains, IsHttpFault, fault_position};
 ghost use Rattle.mime_http.specs.{HttpPrinted.field_error_text, declared.value.FieldError.TheVariants.NotUtf8};
 
-use crate::list::{is_space, trim_end, trim_start};
+use crate::list::{is_space, trim_end, trim_start, trimmed};
 use crate::reader::write_anew;
 use mime::{Mime, ParseError};
 use mime_search::text_of;
@@ -88,28 +88,28 @@ impl FieldError {
     }
 }
 
-/// Returns a text without the white space around it.
+/// Returns a header's value without the white space around it (RFC 9110, 5.5), as [`trimmed`](crate::trimmed) does for bytes: `a/b` for
+/// ` a/b `.
 #[inline(always)]
-fn trimmed(text: &str) -> &str
-    ensures { result.now ≡ trimmed text.now }
+pub fn trimmed_text(value: &str) -> &str
+    ensures { result.now ≡ trimmed value.now }
 {
-    let left = crate::list::trimmed(text.as_bytes());
+    let left = trimmed(value.as_bytes());
     // SAFETY: white space is ASCII.
     unsafe { str::from_utf8_unchecked(left) }
 }
 
-/// Returns the fault of a value if it follows from `fault`, which `mime` returns for the trimmed value. A byte at fault for `mime` is at
+/// Returns the fault of a value if it follows from `fault`, which `mime` returned for the trimmed value. A byte at fault for `mime` is at
 /// fault for HTTP, too, unless the byte is white space or a semicolon. A part that is missing for `mime` is missing for HTTP, too, unless
 /// white space follows that can't continue it. This function isn't inlined, so that it uses none of the caller's registers.
 #[inline(never)]
 fn same_fault(value: &[u8], fault: ParseError) -> Option<ParseError>
-    requires { Explains (trimmed value.now) fault }
-    ensures { IfSome result (λ same. IsHttpFault value.now same) }
+    ensures { Explains (trimmed value.now) fault → IfSome result (λ same. IsHttpFault value.now same) }
 {
     let text = trim_start(value);
     match fault {
         ParseError::InvalidToken { pos, byte } if !is_space(byte) && byte != b';' => {
-            let pos = value.len() - text.len() + pos;
+            let pos = (value.len() - text.len()).checked_add(pos)?;
             Some(ParseError::InvalidToken { pos, byte })
         }
         ParseError::InvalidToken { .. } | ParseError::NoMemory => None,
@@ -124,10 +124,10 @@ fn same_fault(value: &[u8], fault: ParseError) -> Option<ParseError>
 /// them, unless they fit in `room`, and one for the media type.
 #[inline(never)]
 fn read_into(alloc: Global, value: &str, room: &mut [u8]) -> Result<Mime, FieldError>
-    requires other { ¬ (IsAccepted (trimmed value.now)) }
     requires room { 40 ≤ length room.now }
-    ensures http { IfOk result (λ mime. HttpReads value.now mime.media × IsPrinted value.now mime.media) }
-    ensures explained { IfErr result (λ error. HttpExplains value.now error) }
+    ensures http { ¬ (IsAccepted (trimmed value.now))
+        → IfOk result (λ mime. HttpReads value.now mime.media × IsPrinted value.now mime.media) }
+    ensures explained { ¬ (IsAccepted (trimmed value.now)) → IfErr result (λ error. HttpExplains value.now error) }
 {
     let len = match write_anew(value.as_bytes(), room) {
         Ok(len) => len,
@@ -147,17 +147,21 @@ fn read_into(alloc: Global, value: &str, room: &mut [u8]) -> Result<Mime, FieldE
     }
 }
 
-/// Reads a value. `fault` is the fault or `NoMemory` that `mime` returns for the value without the white space around it. The result is
-/// matched and made anew, so that the caller reserves no stack for it if `mime` accepts the value.
+/// Reads a header's value that [`Mime::from_str`] rejects, as [`content_type`] does. `fault` is the fault that `Mime::from_str` returned
+/// for the [`trimmed_text`] of the value, or `NoMemory`. With another fault, the result says nothing about the value.
+///
+/// `content_type` calls `Mime::from_str` first, and then this function. A program that does so itself uses what `Mime::from_str` returned
+/// directly, so it moves a media type once less. It also learns which values only HTTP allows: `text/html ; charset=utf-8`, for which
+/// `fault` is an `InvalidToken` at position 9, is one of them, and is read as `text/html; charset=utf-8`.
+///
+/// # Errors
+/// Returns the error that `content_type` returns for the value.
 #[inline(always)]
-pub(crate) fn read_rejected(
-    alloc: Global,
-    value: &str,
-    fault: ParseError,
-) -> Result<Mime, FieldError>
-    requires { Explains (trimmed value.now) fault }
-    ensures http { IfOk result (λ mime. HttpReads value.now mime.media × IsPrinted value.now mime.media) }
-    ensures explained { IfErr result (λ error. HttpExplains value.now error) }
+pub fn content_type_after(alloc: Global, value: &str, fault: ParseError) -> Result<Mime, FieldError>
+    // If `fault` is the fault of the value without the white space around it, the result is that of `content_type`.
+    ensures http { Explains (trimmed value.now) fault
+        → IfOk result (λ mime. HttpReads value.now mime.media × IsPrinted value.now mime.media) }
+    ensures explained { Explains (trimmed value.now) fault → IfErr result (λ error. HttpExplains value.now error) }
 {
     match fault {
         // Most values that only HTTP allows have one of these bytes where `mime` rejects them.
@@ -172,6 +176,7 @@ pub(crate) fn read_rejected(
             }
         }
     }
+    // The result is matched and made anew, so that the caller reserves no stack for it if `mime` accepts the value.
     match read_into(alloc, value, &mut [0; 128]) {
         Ok(mime) => Ok(mime),
         Err(error) => Err(error),
@@ -217,8 +222,8 @@ pub fn content_type(alloc: Global, value: &[u8]) -> Result<Mime, FieldError>
         Ok(text) => text,
         Err(pos) => return Err(FieldError::NotUtf8 { pos }),
     };
-    match Mime::from_str(alloc, trimmed(text)) {
+    match Mime::from_str(alloc, trimmed_text(text)) {
         Ok(mime) => Ok(mime),
-        Err(error) => read_rejected(alloc, text, *error.fault()),
+        Err(error) => content_type_after(alloc, text, *error.fault()),
     }
 }

@@ -3,7 +3,10 @@
 use crate::fields::string_at;
 use crate::values::{read, read_or_not};
 use mime::Mime;
-use mime_http::{Accept, boundary, first_value, lacked, rank_offers, unescape};
+use mime_http::{
+    Accept, FieldError, boundary, content_type_after, first_value, lacked, rank_offers,
+    trimmed_text, unescape,
+};
 use std::alloc::{AllocError, Global};
 use std::fmt::{Display, Write};
 
@@ -36,6 +39,14 @@ pub(crate) fn show_read<T: Display + Drop>(out: &mut String, answer: Option<T>) 
     match answer {
         Some(answer) => show(out, &answer),
         None => show(out, &"not read"),
+    }
+}
+
+/// Reads a header's value as `content_type` does, one step after the other.
+pub(crate) fn read_in_steps(alloc: Global, value: &str) -> Result<Mime, FieldError> {
+    match Mime::from_str(alloc, trimmed_text(value)) {
+        Ok(mime) => Ok(mime),
+        Err(error) => content_type_after(alloc, value, *error.fault()),
     }
 }
 

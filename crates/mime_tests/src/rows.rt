@@ -106,6 +106,7 @@ fn show_of_headers(alloc: Global, out: &mut String, word: &str, strings: &[Strin
         "best" => http::show_best(alloc, out, strings),
         "boundary" => http::show_boundary(alloc, out, one),
         "content_type" => show_result(out, content_type(alloc, one.as_bytes())),
+        "content_type_after" => show_result(out, http::read_in_steps(alloc, one)),
         "content_type in Latin-1" => show_result(out, content_type(alloc, &latin_1(alloc, one))),
         "covers" => show_read(
             out,

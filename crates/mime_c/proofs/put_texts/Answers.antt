@@ -4,8 +4,8 @@ use Rattle.std.proofs.lemmas.List.{length-map}
 use Rattle.mime_c.proofs.Writing.{fits, wrote-first, strings_of_texts}
 use Rattle.mime_c.proofs.put_texts.Goals as goal
 
-pub put-requires : goal.put-requires
-put-requires c = search (strings_of_texts, fits, wrote-first, length-append, rules)
+pub put-found-requires : goal.put-found-requires
+put-found-requires c = search (strings_of_texts, fits, wrote-first, length-append, rules)
 
 pub returns : goal.returns
 returns c = search (wrote-first, strings_of_texts, length-map, rules)

@@ -7,4 +7,7 @@ pub returns-in-Ok : goal.returns-in-Ok
 returns-in-Ok c = search (takes_range, utf8_around, rules)
 
 pub returns-in_default : goal.returns-in_default
-returns-in_default c = search (takes_bad, error_is_memory, rules)
+returns-in_default c =
+    let why = rw (← c.from_utf8_unchecked-text.ensures) at c.requires.fault in
+    let explained = c.in-Err.ensures.explained why in
+    search (takes_bad, error_is_memory, rules)
