@@ -131,7 +131,7 @@ impl Mime {
         // Each branch for a short text returns, so that the text isn't moved where the branches join.
         if kept_len(s, positions) <= SHORT {
             if positions.pair_count == 0 {
-                return Ok(Mime::of_short(s, positions, ShortText::essence(s, positions)));
+                return Ok(Mime::of_short(s, positions, ShortText::essence(s, positions, true)));
             }
             return Ok(Mime::of_short(s, positions, ShortText::with_pairs(s, positions)));
         }
@@ -156,7 +156,7 @@ impl Mime {
         }
         if kept_len(s, positions) <= SHORT {
             if positions.pair_count == 0 {
-                return Ok(Mime::of_short(s, positions, ShortText::essence(s, positions)));
+                return Ok(Mime::of_short(s, positions, ShortText::essence(s, positions, false)));
             }
             return Ok(Mime::of_short(s, positions, ShortText::with_pairs(s, positions)));
         }

@@ -9,7 +9,7 @@ ghost use Rattle.mime.specs.Inner.KeptText.{kept_text_of, with_pairs_lowered};
 
 use crate::scan::Positions;
 use crate::value::kept::{has_capital, lowercase_text};
-use mime_search::difference_from;
+use mime_search::{BLOCK, copy_text, difference_from};
 use std::marker::Model;
 
 /// The maximum length of a short text, in bytes.
@@ -35,16 +35,43 @@ impl Model for ShortText {
     ghost invariant = { λ it. (it.len ≤ 40) × IsUtf8 (take it.len it.bytes) × (drop it.len it.bytes ≡ replicate (40 - it.len) 0) };
 }
 
+/// Copies `text` to `out`, which must have the same length. If `by_length` is `true`, the code for each length is inlined.
+#[inline(always)]
+fn copy(out: &mut [u8], text: &str, by_length: bool)
+    requires { length out.old ≡ length text.now }
+    ensures { out.new ≡ text.now }
+{
+    if by_length {
+        copy_text(out, text.as_bytes());
+    } else {
+        out.copy_from_slice(text.as_bytes());
+    }
+}
+
 /// Returns the bytes of a text, followed by zeros.
 #[inline(always)]
-fn padded(text: &str) -> [u8; PADDED]
+fn padded(text: &str, by_length: bool) -> [u8; PADDED]
     requires { length text.now ≤ SHORT }
     ensures text { take (length text.now) result ≡ text.now }
     ensures zeros { drop (length text.now) result ≡ replicate (48 - length text.now) 0 }
 {
     let mut bytes = [0; PADDED];
-    bytes[..text.len()].copy_from_slice(text.as_bytes());
+    copy(&mut bytes[..text.len()], text, by_length);
     bytes
+}
+
+/// Lowercases a block of which the bytes from position `len` on are zeros. If `by_length` is `true`, at most 16 bytes are lowercased as one
+/// block, not three.
+#[inline(always)]
+fn lowercase_block(block: &mut [u8; PADDED], len: usize, by_length: bool)
+    requires { drop len block.old ≡ replicate (48 - len) 0 }
+    ensures { block.new ≡ lowered block.old }
+{
+    if by_length && len <= BLOCK {
+        block[..BLOCK].make_ascii_lowercase();
+    } else {
+        block.make_ascii_lowercase();
+    }
 }
 
 /// Lowercases the text at the start of `block`, but only its parts that ignore case. `count` pairs follow position `semicolon`.
@@ -141,26 +168,27 @@ impl ShortText {
 
     /// Returns a string in lowercase as a short text.
     #[inline(always)]
-    fn lowercased(text: &str) -> ShortText
+    fn lowercased(text: &str, by_length: bool) -> ShortText
         requires { length text.now ≤ SHORT }
         ensures { result ≡ lowered text.now }
     {
-        let mut bytes = padded(text);
-        // All bytes of the buffer are lowercased at once. Zeros stay zeros.
-        bytes.make_ascii_lowercase();
+        let mut bytes = padded(text, by_length);
+        lowercase_block(&mut bytes, text.len(), by_length);
         ShortText::of(&bytes, text.len())
     }
 
-    /// Returns the kept text, of at most `SHORT` bytes, of an accepted string without parameters. An empty parameter list is dropped.
+    /// Returns the kept text, of at most `SHORT` bytes, of an accepted string without parameters. An empty parameter list is dropped. If
+    /// `by_length` is `true`, the text is copied and lowercased by code for its length. This takes fewer instructions in `from_str`, but
+    /// more in `MimeIter`.
     #[inline(always)]
-    pub(crate) fn essence(text: &str, positions: Positions) -> ShortText
+    pub(crate) fn essence(text: &str, positions: Positions, by_length: bool) -> ShortText
         requires accepted { HasPositions text.now positions }
         requires short { length (kept_text_of positions.pair_count positions.semicolon text.now) ≤ SHORT }
         requires none { positions.pair_count ≡ 0 }
         ensures { result ≡ kept_text_of positions.pair_count positions.semicolon text.now }
     {
         let end = positions.semicolon.unwrap_or(text.len());
-        ShortText::lowercased(&text[..end])
+        ShortText::lowercased(&text[..end], by_length)
     }
 
     /// Returns the kept text of an accepted string that has at most `SHORT` bytes and a parameter. Only the parts that

@@ -10,8 +10,8 @@ use Rattle.mime.proofs.value.short.ShortText.lowercased.Goals as goal
 pub of-requires-clause-utf8 : goal.of-requires-clause-utf8
 of-requires-clause-utf8 c =
     let text = c.args.text.now in
-    let is : take (length text) c.make_ascii_lowercase.new.self ≡ lowered text
-    = ap (take (length text)) c.make_ascii_lowercase.ensures.after ∙ sym (lowered-take (length text) _)
+    let is : take (length text) c.lowercase_block.new.block ≡ lowered text
+    = ap (take (length text)) c.lowercase_block.ensures ∙ sym (lowered-take (length text) _)
     ∙ ap lowered c.padded-bytes.ensures.text in
     subst IsUtf8 (sym is) (IsUtf8-in_part text _ (lowercase text) c.utf8.text)
 
