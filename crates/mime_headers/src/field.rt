@@ -93,7 +93,7 @@ fn name_from(byte: u8) -> Option<Name>
 }
 
 /// Returns a line as one of the two fields, or `None` if it is neither. The first byte is tested first, since `seen_from` calls this
-/// function at most bytes of a line.
+/// function for nearly each byte of a line.
 #[inline(always)]
 pub(crate) fn field_of(line: &[u8]) -> Option<Field<'_>>
     ensures { option_map field_now result ≡ field_of line.now }

@@ -75,8 +75,8 @@ pub fn copy_bytes(out: &mut [u8], bytes: &[u8])
     }
 }
 
-/// Copies `bytes` to `out`, which must have the same length. Unlike `copy_bytes`, this function needs fewer instructions for 16 bytes or
-/// more, as most media types have, than for fewer than 8, as most parameters have.
+/// Copies `bytes` to `out`, which must have the same length. This function tests first for at least 16 bytes, which most media types have.
+/// `copy_bytes` tests first for fewer than 8, which most names and values of parameters have.
 #[inline(always)]
 pub fn copy_text(out: &mut [u8], bytes: &[u8])
     requires { length out.old ≡ length bytes.now }
